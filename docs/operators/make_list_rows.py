@@ -133,7 +133,7 @@ def text_of(file, groups):
         _, constructor, enum, crate, module = GROUPS[key]
         alias = alias_of(constructor)
         if crate:
-            aliases += f"use Rattle.wasm_operators_operator.specs.{crate}.declared.{module}.{enum}.TheVariants as {alias}\n"
+            aliases += f"use Rattle.wasm_operators_enums.specs.declared.{module}.{enum}.TheVariants as {alias}\n"
         rows = [row_of(row, constructor, alias if crate else "op") for row in groups[key]]
         body += f"\nabbrev pub {alias}_rows : Carried → List Listed\n{alias}_rows c =\n    " + " ∷\n    ".join(rows) + " ∷ []\n"
     unnamed = re.sub(r'"[^"]*"|\w+\.\w+', "", body)
@@ -141,9 +141,9 @@ def text_of(file, groups):
     prelude = ["List", "[]", "◌∷◌", "codes", *(it for it in ("Some", "None") if re.search(rf"\b{it}\b", unnamed))]
     text = f"-- Operators {TITLES[file]}, as the list has them (written by docs/operators/make_list_rows.py).\n"
     text += f"use Rattle.std.specs.Prelude.{{{', '.join(prelude)}}}\n"
-    text += "use Rattle.wasm_operators_operator.specs.info.declared.proposal.Proposal.TheVariants as proposal\n"
-    text += uses("Rattle.wasm_operators_operator.specs.immediates.Kinds", kinds)
-    text += aliases + "use Rattle.wasm_operators_operator.specs.Op as op\n"
+    text += "use Rattle.wasm_operators_immediates.specs.declared.proposal.Proposal.TheVariants as proposal\n"
+    text += uses("Rattle.wasm_operators_immediates.specs.Kinds", kinds)
+    text += aliases + "use Rattle.wasm_operators_enums.specs.Op as op\n"
     return text + "use Rattle.wasm_operators_tests.specs.list.Listed.{Carried, Listed, listed}\n" + body
 
 
@@ -178,7 +178,7 @@ def carried_text(groups):
             continue
         alias = alias_of(constructor)
         if crate:
-            aliases += f"use Rattle.wasm_operators_operator.specs.{crate}.declared.{module}.{enum}.TheVariants as {alias}\n"
+            aliases += f"use Rattle.wasm_operators_enums.specs.declared.{module}.{enum}.TheVariants as {alias}\n"
         lines = [carried_of(row, constructor, alias if crate else "op") for row in rows]
         body += f"\nabbrev pub {alias}_carries : Carried → List Carries\n{alias}_carries c =\n    " + " ∷\n    ".join(lines) + " ∷ []\n"
     unnamed = re.sub(r"\w+\.\w+", "", body)
@@ -186,9 +186,9 @@ def carried_text(groups):
     spaces = [it for it in found if KINDS.index(it) > KINDS.index("ZeroByte")]
     text = "-- What each operator carries behind its opcode, in the order of the bytes, as the list has it (written by\n"
     text += "-- docs/operators/make_list_rows.py).\nuse Rattle.std.specs.Prelude.{List, [], ◌∷◌}\n"
-    text += uses("Rattle.wasm_operators_operator.specs.immediates.Kinds", spaces)
-    text += uses("Rattle.wasm_operators_operator.specs.immediates.Immediates", [it for it in found if it not in spaces])
-    text += aliases + "use Rattle.wasm_operators_operator.specs.Op as op\n"
+    text += uses("Rattle.wasm_operators_immediates.specs.Kinds", spaces)
+    text += uses("Rattle.wasm_operators_immediates.specs.Immediates", [it for it in found if it not in spaces])
+    text += aliases + "use Rattle.wasm_operators_enums.specs.Op as op\n"
     return text + "use Rattle.wasm_operators_tests.specs.list.Listed.{Carried, Carries, carries, to_non_null, to_null}\n" + body
 
 

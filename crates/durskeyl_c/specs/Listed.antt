@@ -1,12 +1,12 @@
 -- What the rows tell C of a module's imports and exports.
 use Rattle.std.specs.Prelude.{◌≡◌, ◌^◌, ◌-◌, ℕ, List, length}
-use Rattle.wasm_types.specs.limits.Settings.{Settings}
-use Rattle.wasm_module_validator_rules.specs.Syntax.{ModuleTree}
-use Rattle.wasm_module_validator_rules.specs.Binary.{SpelledModule}
-use Rattle.wasm_module_entries.specs.declared.rows.ImportRow.{ImportRow}
-use Rattle.wasm_module_entries.specs.declared.rows.ExportRow.{ExportRow}
-use Rattle.wasm_module_entries.specs.Entries.{ImportWithin, ExportWithin, First}
-use Rattle.wasm_module_entries.specs.Listing.{WritesImports, WritesExports}
+use Rattle.wasm_types.specs.settings.Settings.{Settings}
+use Rattle.wasm_module_validator_import_export_places.specs.rules.Syntax.{ModuleTree}
+use Rattle.wasm_module_validator_import_export_places.specs.rules.Binary.{SpelledModule}
+use Rattle.wasm_module_validator_import_export_places.specs.declared.rows.ImportRow.{ImportRow}
+use Rattle.wasm_module_validator_import_export_places.specs.declared.rows.ExportRow.{ExportRow}
+use Rattle.wasm_module_validator_import_export_places.specs.Entries.{ImportWithin, ExportWithin, First}
+use Rattle.wasm_module_validator_import_export_places.specs.Listing.{WritesImports, WritesExports}
 
 -- how many imports the module has that the bytes spell, by whatever settings, and a row for each as far as there are rows
 abbrev pub TellsImports : ℕ → List ℕ → List ImportRow → Type 0

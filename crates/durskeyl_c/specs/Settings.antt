@@ -1,9 +1,9 @@
 -- What C hands over to judge by: features as the bits of a number, and limits by their places in an array.
 use Rattle.std.specs.Prelude.{◌<◌, ◌^◌, ◌-◌, ◌==◌, if◌then◌else◌, ℕ, List, slice_index_or}
-use Rattle.wasm_types.specs.features.Sets.{bits_of, default_features, mvp, wasm1, wasm2, wasm3, lime1}
-use Rattle.wasm_types.specs.limits.declared.Limits.{Limits}
-use Rattle.wasm_types.specs.limits.Limits.{IsWithinCeilings}
-use Rattle.wasm_types.specs.limits.Settings.{Settings}
+use Rattle.wasm_types.specs.settings.Sets.{bits_of, default_features, mvp, wasm1, wasm2, wasm3, lime1}
+use Rattle.wasm_types.specs.settings.declared.Limits.{Limits}
+use Rattle.wasm_types.specs.settings.Limits.{IsWithinCeilings}
+use Rattle.wasm_types.specs.settings.Settings.{Settings}
 use Rattle.durskeyl_c.specs.declared.settings.DurskeylSettings.{DurskeylSettings}
 
 -- the limits whose numbers stand at these places, in the order of the fields of `Limits`

@@ -1,8 +1,8 @@
 -- What the number that a call answers tells C.
 use Rattle.std.specs.Prelude.{◌≡◌, ◌≤◌, ℕ, List, slice_index_or}
-use Rattle.wasm_types.specs.error.declared.error.ErrorKind.{ErrorKind}
-use Rattle.wasm_types.specs.error.declared.error.ErrorKind.TheVariants.{EndOfData, MissingFeature, OutOfMemory, Failed, Other}
-use Rattle.wasm_module_validator_rules.specs.Accepts.{AcceptsUnder}
+use Rattle.wasm_types.specs.decoding.declared.error.ErrorKind.{ErrorKind}
+use Rattle.wasm_types.specs.decoding.declared.error.ErrorKind.TheVariants.{EndOfData, MissingFeature, OutOfMemory, Failed, Other}
+use Rattle.wasm_module_validator_import_export_places.specs.rules.Accepts.{AcceptsUnder}
 use Rattle.durskeyl_c.specs.declared.settings.DurskeylSettings.{DurskeylSettings}
 use Rattle.durskeyl_c.specs.declared.fault.DurskeylFault.{DurskeylFault}
 use Rattle.durskeyl_c.specs.Settings.{settings_in, AreSettings}

@@ -3,7 +3,9 @@
 ghost use Rattle.durskeyl_c.specs.Listed.{TellsImports, TellsExports, ImportsWithin, ExportsWithin};
 
 use std::alloc::Global;
-use wasm_module_entries::{ExportRow, ImportRow, list_exports, list_imports};
+use wasm_module_validator_import_export_places::{
+    ExportRow, ImportRow, list_exports, list_imports,
+};
 
 /// The answer where bytes spell no module.
 const NO_MODULE: u64 = u64::MAX;

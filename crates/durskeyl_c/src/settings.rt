@@ -1,8 +1,8 @@
 //! Features and limits, as C hands them over.
 
 ghost use Rattle.std.specs.Prelude.{◌≡◌, ◌<◌, ◌≤◌, ◌^◌, MatchOption};
-ghost use Rattle.wasm_types.specs.features.Sets.{bits_of, default_features};
-ghost use Rattle.wasm_types.specs.limits.Limits.{default_limits};
+ghost use Rattle.wasm_types.specs.settings.Sets.{bits_of, default_features};
+ghost use Rattle.wasm_types.specs.settings.Limits.{default_limits};
 ghost use Rattle.durskeyl_c.specs.Settings.{limits_in, named_bits, AreSettings};
 
 use bitflags::Flags;

@@ -1,9 +1,9 @@
 //! The verdict on whole bytes.
 
 ghost use Rattle.std.specs.Prelude.{◌≡◌, ◌≤◌};
-ghost use Rattle.wasm_types.specs.error.Denials.{Tells};
-ghost use Rattle.wasm_types.specs.limits.Limits.{IsWithinCeilings};
-ghost use Rattle.wasm_module_validator_rules.specs.Accepts.{AcceptsUnder};
+ghost use Rattle.wasm_types.specs.decoding.Denials.{Tells};
+ghost use Rattle.wasm_types.specs.settings.Limits.{IsWithinCeilings};
+ghost use Rattle.wasm_module_validator_import_export_places.specs.rules.Accepts.{AcceptsUnder};
 ghost use Rattle.durskeyl_c.specs.Told.{Told, IsEnded};
 
 use crate::fault::{DurskeylFault, bad_settings, no_fault, write_error};

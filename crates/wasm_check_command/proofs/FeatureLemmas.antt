@@ -6,7 +6,7 @@ use Rattle.wasm_check_command.specs.Lists.{Place}
 use Rattle.std.proofs.lemmas.Simd.{map-map}
 use Rattle.std.proofs.lemmas.List.{at_drop_more, at_drop_all}
 use Rattle.bitflags.specs.declared.traits.Flag.{Flag}
-use Rattle.wasm_types.specs.features.declared.features.WasmFeatures.{WasmFeatures}
+use Rattle.wasm_types.specs.settings.declared.features.WasmFeatures.{WasmFeatures}
 use Rattle.wasm_check_command.specs.FeatureLists.{word_of, named, feature_words, set_after, feature_step}
 
 -- the flags as rows of words

@@ -14,7 +14,7 @@ use Rattle.wasm_check_command.specs.Words.{wasm_check, IsHelp, AsksForHelp, feat
 use Rattle.wasm_check_command.specs.declared.command.Fault.{Fault}
 use Rattle.wasm_check_command.specs.declared.judging.Status.{Status}
 use Rattle.wasm_check_command.specs.declared.judging.Status.TheVariants.{AllValid, SomeInvalid}
-use Rattle.wasm_types.specs.limits.Settings.{Settings}
+use Rattle.wasm_types.specs.settings.Settings.{Settings}
 use Rattle.wasm_check_command.specs.Settings.{Asked, asked_by}
 use Rattle.wasm_check_command.specs.Files.{texts, asked_of, code_of, ReportsBy, StopsBy, IsStopped, Reports, HasNoStatus, IsUnshown}
 use Rattle.wasm_check_command.specs.declared.command.Fault.TheVariants as faults

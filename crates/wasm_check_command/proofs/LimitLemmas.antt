@@ -1,7 +1,7 @@
 -- What a word makes of limits.
 use Rattle.std.proofs.Common.{◌≡◌, ◌∙◌, ℕ, List, ap, sym}
 use Rattle.std.specs.Prelude.{Result, Ok, Err}
-use Rattle.wasm_types.specs.limits.declared.Limits.{Limits}
+use Rattle.wasm_types.specs.settings.declared.Limits.{Limits}
 use Rattle.wasm_check_command.specs.declared.limits.Wrong.{Wrong}
 use Rattle.wasm_check_command.specs.Lists.{Place}
 use Rattle.wasm_check_command.specs.LimitLists.{ListFault, limits_after, limit_step}

@@ -1,7 +1,7 @@
 -- The rows of `ListRows`, each by computing it.
 use Rattle.std.proofs.Common.{refl}
 use Rattle.wasm_check_command.specs.Lists.{through}
-use Rattle.wasm_types.specs.limits.Limits.{default_limits, ceilings}
+use Rattle.wasm_types.specs.settings.Limits.{default_limits, ceilings}
 use Rattle.wasm_check_command.specs.LimitLists.{limits_of}
 use Rattle.wasm_check_command.specs.FeatureLists.{feature_words, features_of}
 use Rattle.wasm_check_command.specs.ListRows.{FeatureRows, LimitRows}

@@ -4,12 +4,12 @@ use Rattle.std.specs.Char.{to_ascii_lowercase}
 use Rattle.std.specs.Option.{ok_or}
 use Rattle.std.specs.Int.RustNames.{bit_or}
 use Rattle.bitflags.specs.Sets.{without}
-use Rattle.wasm_types.specs.features.Features.{mask, MutableGlobal, SaturatingFloatToInt, SignExtension, ReferenceTypes, MultiValue, BulkMemory}
-use Rattle.wasm_types.specs.features.Features.{Simd, RelaxedSimd, Threads, SharedEverythingThreads, TailCall, Floats, MultiMemory, Exceptions}
-use Rattle.wasm_types.specs.features.Features.{Memory64, ExtendedConst, ComponentModel, FunctionReferences, MemoryControl, Gc, CustomPageSizes}
-use Rattle.wasm_types.specs.features.Features.{LegacyExceptions, GcTypes, StackSwitching, WideArithmetic, CallIndirectOverlong, BulkMemoryOpt}
-use Rattle.wasm_types.specs.features.Features.{CustomDescriptors}
-use Rattle.wasm_types.specs.features.Sets.{bits_of, mvp, wasm1, wasm2, wasm3, lime1, default_features}
+use Rattle.wasm_types.specs.settings.Features.{mask, MutableGlobal, SaturatingFloatToInt, SignExtension, ReferenceTypes, MultiValue, BulkMemory}
+use Rattle.wasm_types.specs.settings.Features.{Simd, RelaxedSimd, Threads, SharedEverythingThreads, TailCall, Floats, MultiMemory, Exceptions}
+use Rattle.wasm_types.specs.settings.Features.{Memory64, ExtendedConst, ComponentModel, FunctionReferences, MemoryControl, Gc, CustomPageSizes}
+use Rattle.wasm_types.specs.settings.Features.{LegacyExceptions, GcTypes, StackSwitching, WideArithmetic, CallIndirectOverlong, BulkMemoryOpt}
+use Rattle.wasm_types.specs.settings.Features.{CustomDescriptors}
+use Rattle.wasm_types.specs.settings.Sets.{bits_of, mvp, wasm1, wasm2, wasm3, lime1, default_features}
 use Rattle.wasm_check_command.specs.Lists.{Place, words_of, through}
 
 -- the sets that have a name

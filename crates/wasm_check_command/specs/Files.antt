@@ -14,7 +14,7 @@ use Rattle.wasm_check_command.specs.declared.command.Fault.TheVariants as faults
 use Rattle.wasm_check_command.specs.declared.reason.Reason.{Reason}
 use Rattle.wasm_check_command.specs.Reasons.{reason_text}
 use Rattle.wasm_check_command.specs.Shown.{shown}
-use Rattle.wasm_types.specs.limits.Settings.{Settings}
+use Rattle.wasm_types.specs.settings.Settings.{Settings}
 use Rattle.wasm_check_command.specs.Words.{files_of, IsHelp, AsksForHelp, NamesNoFiles}
 use Rattle.wasm_check_command.specs.Settings.{Asked, IsGiven, IsUnknownIn, IsWrongIn, asked_by, features_by, mode_by}
 use Rattle.wasm_check_command.specs.declared.limits.Wrong.TheVariants.{Unknown, BadValue}

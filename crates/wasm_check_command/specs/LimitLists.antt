@@ -3,8 +3,8 @@ use Rattle.std.specs.Prelude.{ℕ, ◌+◌, ◌-◌, ◌*◌, ◌==◌, ◌&&◌
 use Rattle.std.specs.Prelude.{bytes_eq, nat_le, nat_lt, if◌then◌else◌}
 use Rattle.std.specs.Char.{is_ascii_digit}
 use Rattle.std.specs.List.{before_first, after_first, position_or_len}
-use Rattle.wasm_types.specs.limits.Limits.{default_limits, ceilings}
-use Rattle.wasm_types.specs.limits.declared.Limits.{Limits}
+use Rattle.wasm_types.specs.settings.Limits.{default_limits, ceilings}
+use Rattle.wasm_types.specs.settings.declared.Limits.{Limits}
 use Rattle.wasm_check_command.specs.declared.limits.Field.{Field}
 use Rattle.wasm_check_command.specs.declared.limits.Field.TheVariants as fields
 use Rattle.wasm_check_command.specs.declared.limits.Wrong.{Wrong}

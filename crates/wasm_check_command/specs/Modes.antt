@@ -2,10 +2,10 @@
 -- before its end; and none is read past 2^30 bytes.
 use Rattle.std.specs.Prelude.{◌≡◌, ℕ, ◌≤◌, ◌<◌, ◌+◌, ◌^◌, List, length, IfSome, Option}
 use Rattle.std.specs.Io.KnownBytes.{Consumes}
-use Rattle.wasm_types.specs.error.Denials.{UnlessMemory}
-use Rattle.wasm_types.specs.limits.Limits.{IsWithinCeilings}
-use Rattle.wasm_types.specs.limits.declared.Limits.{Limits}
-use Rattle.wasm_types.specs.limits.Settings.{Settings}
+use Rattle.wasm_types.specs.decoding.Denials.{UnlessMemory}
+use Rattle.wasm_types.specs.settings.Limits.{IsWithinCeilings}
+use Rattle.wasm_types.specs.settings.declared.Limits.{Limits}
+use Rattle.wasm_types.specs.settings.Settings.{Settings}
 use Rattle.wasm_check_command.specs.declared.judging.Chosen.{Chosen}
 use Rattle.wasm_check_command.specs.declared.judging.Mode.{Mode}
 use Rattle.wasm_check_command.specs.declared.judging.Mode.TheVariants.{Whole, Pieces}

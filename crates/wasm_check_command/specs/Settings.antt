@@ -1,9 +1,9 @@
 -- By which features and limits files are judged: those that the options of the command line give.
 use Rattle.std.specs.Prelude.{◌≡◌, ◌&&◌, ◌^◌, nat_le, if◌then◌else◌, ℕ, List, Option, Some, None, Result, Ok, Err}
-use Rattle.wasm_types.specs.limits.Settings.{Settings}
-use Rattle.wasm_types.specs.limits.Limits.{default_limits}
-use Rattle.wasm_types.specs.limits.declared.Limits.{Limits}
-use Rattle.wasm_types.specs.features.Sets.{bits_of, default_features}
+use Rattle.wasm_types.specs.settings.Settings.{Settings}
+use Rattle.wasm_types.specs.settings.Limits.{default_limits}
+use Rattle.wasm_types.specs.settings.declared.Limits.{Limits}
+use Rattle.wasm_types.specs.settings.Sets.{bits_of, default_features}
 use Rattle.wasm_check_command.specs.Lists.{Place, IsWordAt, place_of}
 use Rattle.wasm_check_command.specs.FeatureLists.{features_of}
 use Rattle.wasm_check_command.specs.declared.judging.Chosen.{Chosen}

@@ -6,7 +6,7 @@ ghost use Rattle.clap.specs.Words.{app_of, found_of, kind_of, rows_of, rule_of, 
 ghost use Rattle.clap.specs.declared.error.kind.ErrorKind.TheVariants.{OutOfMemory};
 ghost use Rattle.wasm_check_command.specs.Words.{IsHelp, matches_on, refusals_of, file_rule, option_rule, with_options, wasm_check};
 ghost use Rattle.wasm_check_command.specs.Commands.{AreRead};
-ghost use Rattle.wasm_types.specs.limits.Limits.{IsWithinCeilings};
+ghost use Rattle.wasm_types.specs.settings.Limits.{IsWithinCeilings};
 ghost use Rattle.wasm_check_command.specs.Modes.{CanJudge, HasPieces};
 ghost use Rattle.wasm_check_command.specs.Settings.{IsGiven, features_by, limits_by, mode_by, pieces_of, settings_of};
 ghost use Rattle.std.specs.Fmt.{WritesOnOk};

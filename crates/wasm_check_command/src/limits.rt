@@ -1,6 +1,6 @@
 //! Lists of limits, as `--limits` has them.
 ghost use Rattle.std.specs.Prelude.{◌≡◌, ◌+◌, ◌<◌, ℕ, Some, Ok, Err, IfOk, IfErr, MatchResult, option_map, length};
-ghost use Rattle.wasm_types.specs.limits.Limits.{IsWithinCeilings};
+ghost use Rattle.wasm_types.specs.settings.Limits.{IsWithinCeilings};
 ghost use Rattle.wasm_check_command.specs.Lists.{place_of, IsWordAt};
 ghost use Rattle.wasm_check_command.specs.ListRows.{LimitRows};
 ghost use Rattle.wasm_check_command.specs.LimitLists.{type_words, entity_words, content_words, field_in, field_of, limit_of, with_limit};

@@ -1,13 +1,13 @@
 -- What a call says of the bytes of a reader, as the program asks it of a judge.
 use Rattle.std.proofs.Common.{◌≡◌, ◌∙◌, ◌<◌, ◌≤◌, ◌^◌, ℕ, List, [], ◌++◌, Bool, true, length, length-append, Option, Some, None, Result, Err, refl, sym, ap, subst, append-nil, arith}
 use Rattle.std.specs.Io.KnownBytes.{Consumes, IsAtEnd}
-use Rattle.wasm_types.specs.error.Denials.{Denies, UnlessMemory}
-use Rattle.wasm_types.specs.error.ErrorValue.{ErrorValue}
-use Rattle.wasm_types.specs.error.declared.error.ErrorKind.{ErrorKind}
-use Rattle.wasm_types.specs.error.declared.error.ErrorKind.TheVariants as kinds
-use Rattle.wasm_module_validator_pieces.specs.declared.reading.ReadError.{ReadError}
-use Rattle.wasm_module_validator_pieces.specs.declared.reading.ReadError.TheVariants as faults
-use Rattle.wasm_module_validator_pieces.specs.Pieces.{AcceptsAll, Answers, RefusesAll, ReadsSome}
+use Rattle.wasm_types.specs.decoding.Denials.{Denies, UnlessMemory}
+use Rattle.wasm_types.specs.decoding.ErrorValue.{ErrorValue}
+use Rattle.wasm_types.specs.decoding.declared.error.ErrorKind.{ErrorKind}
+use Rattle.wasm_types.specs.decoding.declared.error.ErrorKind.TheVariants as kinds
+use Rattle.wasm_module_validator_streaming.specs.declared.reading.ReadError.{ReadError}
+use Rattle.wasm_module_validator_streaming.specs.declared.reading.ReadError.TheVariants as faults
+use Rattle.wasm_module_validator_streaming.specs.Pieces.{AcceptsAll, Answers, RefusesAll, ReadsSome}
 use Rattle.wasm_check_command.specs.Modes.{AreLeft, FailsJudging, IsShort, IsTooLong, HasValid, HasInvalid}
 use Rattle.wasm_check_program.specs.Faults.{unjudged}
 

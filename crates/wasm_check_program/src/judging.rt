@@ -1,7 +1,7 @@
 //! Inputs are judged by the validator of modules.
 ghost use Rattle.std.specs.Prelude.{◌≡◌, IfOk, IfErr};
 ghost use Rattle.wasm_module_validator.specs.rules.Accepts.{AcceptsUnder};
-ghost use Rattle.wasm_types.specs.limits.Limits.{IsWithinCeilings};
+ghost use Rattle.wasm_types.specs.settings.Limits.{IsWithinCeilings};
 ghost use Rattle.wasm_check_command.specs.Modes.{HasPieces, ruling_by};
 ghost use Rattle.wasm_check_command.specs.Reports.{sources_of, IsReported, Stops};
 ghost use Rattle.wasm_check_program.specs.Faults.{unjudged};
@@ -10,7 +10,7 @@ use std::alloc::Global;
 use std::io::{Read, Write};
 use wasm_check_command::{CheckError, Input, Judge, MAX_BYTES, Mode, Status, Unjudged, check_by};
 use wasm_module_validator::{Validator, ValidatorId};
-use wasm_module_validator_pieces::{ReadError, WatchedReader, validate_reader_limited};
+use wasm_module_validator_streaming::{ReadError, WatchedReader, validate_reader_limited};
 use wasm_types::{Error, Limits, WasmFeatures};
 
 /// Judges bytes as a module, each time by a validator of its own, which has the input's place for its id.

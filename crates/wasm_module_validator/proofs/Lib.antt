@@ -1,1 +1,3 @@
 mod Turns
+pub mod Validity
+pub mod WorkedModule

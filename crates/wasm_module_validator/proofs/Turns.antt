@@ -1,12 +1,12 @@
 -- Calls in turn and out of turn.
 use Rattle.std.proofs.Common.{◌≡◌, ◌∙◌, ℕ, Bool, true, false, Option, Some, None, Result, Err, refl, sym, subst}
 use Rattle.std.specs.Prelude.{is_some}
-use Rattle.wasm_types.specs.error.ErrorValue.{ErrorValue}
-use Rattle.wasm_types.specs.error.declared.error.ErrorKind.{ErrorKind}
+use Rattle.wasm_types.specs.decoding.ErrorValue.{ErrorValue}
+use Rattle.wasm_types.specs.decoding.declared.error.ErrorKind.{ErrorKind}
 use Rattle.wasm_module_validator.specs.declared.validator.Validator.{Validator}
-use Rattle.wasm_module_validator_sharing.specs.Sharing.{has_no_code}
-use Rattle.wasm_module_validator_sharing.specs.reading.progress.Progress.{Kept, Grows}
-use Rattle.wasm_module_validator_sharing.specs.reading.progress.laws.Growing.{grows_by_nothing}
+use Rattle.wasm_module_validator_drivers.specs.Sharing.{has_no_code}
+use Rattle.wasm_module_validator_drivers.specs.payloads.Progress.{Kept, Grows}
+use Rattle.wasm_module_validator_drivers.specs.payloads.laws.Growing.{grows_by_nothing}
 use Rattle.wasm_module_validator.specs.declared.validator.State.{State}
 use Rattle.wasm_module_validator.specs.declared.validator.State.TheVariants.{Unparsed, Module, Ended, Failed}
 use Rattle.wasm_module_validator.specs.Methods.{InTurn, refusal}

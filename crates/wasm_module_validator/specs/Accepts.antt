@@ -1,12 +1,12 @@
 -- What the validator accepts if no features and no limits are chosen (WebAssembly 3.0, binary format, modules; validation, modules): the rules
 -- of `wasm_module_validator_rules`, under the features and limits by default.
 use Rattle.std.specs.Prelude.{ℕ, List, []}
-use Rattle.wasm_types.specs.limits.Limits.{default_limits}
-use Rattle.wasm_types.specs.limits.Settings.{Settings}
-use Rattle.wasm_types.specs.features.Sets.{bits_of, default_features}
-use Rattle.wasm_module_validator_sharing.specs.reading.progress.standing.steps.contexts.rules.Accepts.{AcceptsUnder, Judges}
-use Rattle.wasm_module_validator_sharing.specs.reading.progress.standing.steps.contexts.rules.Syntax.{ModuleTree}
-use Rattle.wasm_module_validator_sharing.specs.reading.progress.standing.Standing.{Stands}
+use Rattle.wasm_types.specs.settings.Limits.{default_limits}
+use Rattle.wasm_types.specs.settings.Settings.{Settings}
+use Rattle.wasm_types.specs.settings.Sets.{bits_of, default_features}
+use Rattle.wasm_module_validator_rules.specs.Accepts.{AcceptsUnder, Judges}
+use Rattle.wasm_module_validator_rules.specs.Syntax.{ModuleTree}
+use Rattle.wasm_module_validator_drivers.specs.state.invariant.Standing.{Stands}
 use Rattle.wasm_module_validator.specs.Shown.{Learned}
 
 -- the features and limits that hold if none are chosen

@@ -7,5 +7,12 @@ pub mod Payloads
 pub mod Lists
 -- Laws, with the proofs. `StateRows` there has worked rows.
 pub mod laws
--- The rules of modules, under their name: crates above cite them here.
-pub use Rattle.wasm_module_validator_sharing.specs.reading.progress.standing.steps.contexts.rules as rules
+pub use Rattle.wasm_module_validator_rules.specs as rules
+-- Rules and laws: no run of a valid module is stuck.
+pub mod soundness
+-- The rules of crates below, under their names: crates above cite them here.
+pub use Rattle.wasm_module_validator_drivers.specs.declarations as declarations
+pub use Rattle.wasm_module_validator_drivers.specs as drivers
+pub use Rattle.wasm_module_validator_drivers.specs.payloads as module_validator_payloads
+pub use Rattle.wasm_module_validator_drivers.specs.resources as resources
+pub use Rattle.wasm_module_validator_drivers.specs.state as state

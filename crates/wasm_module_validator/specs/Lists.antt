@@ -1,25 +1,25 @@
 -- What a validator answers to modules that are validated one after the other (WebAssembly 3.0, binary format and validation, modules).
 use Rattle.std.specs.Prelude.{◌≡◌, ◌↔◌, ◌⊎◌, ◌<◌, ◌≤◌, ◌+◌, ℕ, length, Bool, true, false, IsTrue, List, [], ◌∷◌, map, Contains}
 use Rattle.std.specs.Borrow.{Bor}
-use Rattle.wasm_types.specs.limits.Settings.{Settings}
-use Rattle.wasm_types.specs.features.Features.{needs_canonical_types}
+use Rattle.wasm_types.specs.settings.Settings.{Settings}
+use Rattle.wasm_types.specs.settings.Features.{needs_canonical_types}
 use Rattle.wasm_types.specs.reader.Reading.{IsNotMemory}
 use Rattle.wasm_sections_parser.specs.Parsing.{one_of}
-use Rattle.wasm_module_validator_module.specs.declared.view.validator_id.ValidatorId.{ValidatorId}
-use Rattle.wasm_module_validator_sharing.specs.reading.Reading.{HasGroupIn, IsReadAs}
-use Rattle.wasm_module_validator_sharing.specs.reading.progress.declaring.Total.{IsPastTotal}
-use Rattle.wasm_module_validator_sharing.specs.reading.progress.standing.Standing.{IsGrown}
-use Rattle.wasm_module_validator_sharing.specs.reading.progress.standing.items.Items.{no_items}
-use Rattle.wasm_module_validator_sharing.specs.reading.progress.standing.steps.Steps.{SoFar}
-use Rattle.wasm_module_validator_sharing.specs.reading.progress.standing.steps.contexts.rules.Accepts.{AcceptsUnder}
-use Rattle.wasm_module_validator_sharing.specs.reading.progress.standing.steps.contexts.rules.Spaces.{types_behind}
-use Rattle.wasm_module_validator_sharing.specs.reading.progress.standing.type_trees.Groups.{Group, count, tree_of}
+use Rattle.wasm_module_validator_index_spaces.specs.declared.view.validator_id.ValidatorId.{ValidatorId}
+use Rattle.wasm_module_validator_drivers.specs.reading.Reading.{HasGroupIn, IsReadAs}
+use Rattle.wasm_module_validator_drivers.specs.declarations.Total.{IsPastTotal}
+use Rattle.wasm_module_validator_drivers.specs.state.invariant.Standing.{IsGrown}
+use Rattle.wasm_module_validator_drivers.specs.state.Items.{no_items}
+use Rattle.wasm_module_validator_section_order.specs.rules_in_order.Steps.{SoFar}
+use Rattle.wasm_module_validator_rules.specs.Accepts.{AcceptsUnder}
+use Rattle.wasm_module_validator_rules.specs.Spaces.{types_behind}
+use Rattle.wasm_module_validator_type_storage.specs.trees.Groups.{Group, count, tree_of}
 use Rattle.wasm_module_validator.specs.declared.lists.Verdict.{Verdict}
 use Rattle.wasm_module_validator.specs.declared.lists.Verdict.TheVariants.{Accepted, Refused}
 use Rattle.wasm_module_validator.specs.declared.validator.State.{State}
 use Rattle.wasm_module_validator.specs.declared.validator.State.TheVariants.{Unparsed, Ended, Failed}
 use Rattle.wasm_module_validator.specs.declared.validator.Validator.{Validator}
-use Rattle.wasm_module_validator_runs.specs.Soundness.{RunsSoundly}
+use Rattle.wasm_module_validator.specs.soundness.Soundness.{RunsSoundly}
 use Rattle.wasm_module_validator.specs.Accepts.{IsShown}
 use Rattle.wasm_module_validator.specs.Methods.{can_reset}
 use Rattle.wasm_module_validator.specs.Shown.{Learned}

@@ -5,19 +5,19 @@
 -- failed, and each later method is refused for that.
 use Rattle.std.specs.Prelude.{◌≡◌, ◌⊎◌, ◌+◌, ◌<◌, ◌==◌, ℕ, Bool, true, false, Option, Some, None, is_some, Result, Ok, Err, if◌then◌else◌}
 use Rattle.wasm_types.specs.decoding.Decoder.{State as Bytes}
-use Rattle.wasm_types.specs.error.Denials.{Denies, Tells}
-use Rattle.wasm_types.specs.error.ErrorValue.{ErrorValue}
-use Rattle.wasm_types.specs.error.declared.error.ErrorKind.{ErrorKind}
-use Rattle.wasm_types.specs.error.declared.error.ErrorKind.TheVariants as kinds
-use Rattle.wasm_types.specs.limits.Settings.{Settings}
+use Rattle.wasm_types.specs.decoding.Denials.{Denies, Tells}
+use Rattle.wasm_types.specs.decoding.ErrorValue.{ErrorValue}
+use Rattle.wasm_types.specs.decoding.declared.error.ErrorKind.{ErrorKind}
+use Rattle.wasm_types.specs.decoding.declared.error.ErrorKind.TheVariants as kinds
+use Rattle.wasm_types.specs.settings.Settings.{Settings}
 use Rattle.wasm_sections_parser.specs.declared.frame.Encoding.{Encoding}
 use Rattle.wasm_sections_parser.specs.Parsing.{layer_of}
-use Rattle.wasm_sections_payloads.specs.declared.payload.Payload.{Payload}
-use Rattle.wasm_operator_validator_stacks.specs.state.Refusals.{refused_by}
-use Rattle.wasm_module_validator_sharing.specs.reading.progress.standing.steps.Sections.{code_place}
-use Rattle.wasm_module_validator_sharing.specs.reading.progress.standing.steps.Steps.{SoFar, JudgesBody}
-use Rattle.wasm_module_validator_sharing.specs.reading.progress.Progress.{Grows}
-use Rattle.wasm_module_validator_sharing.specs.Sharing.{renewed_behind, next_behind, has_no_code, body_count, IsReached, TellsNext, Follows, Handed, IsHandedOut, FitsNext, NoneLeft}
+use Rattle.wasm_sections.specs.declared.payload.Payload.{Payload}
+use Rattle.wasm_operator_validator_state.specs.Refusals.{refused_by}
+use Rattle.wasm_module_validator_section_order.specs.rules_in_order.Sections.{code_place}
+use Rattle.wasm_module_validator_section_order.specs.rules_in_order.Steps.{SoFar, JudgesBody}
+use Rattle.wasm_module_validator_drivers.specs.payloads.Progress.{Grows}
+use Rattle.wasm_module_validator_drivers.specs.Sharing.{renewed_behind, next_behind, has_no_code, body_count, IsReached, TellsNext, Follows, Handed, IsHandedOut, FitsNext, NoneLeft}
 use Rattle.wasm_module_validator.specs.declared.validator.State.{State}
 use Rattle.wasm_module_validator.specs.declared.validator.State.TheVariants.{Unparsed, Module, Ended, Failed}
 use Rattle.wasm_module_validator.specs.declared.validator.Validator.{Validator}

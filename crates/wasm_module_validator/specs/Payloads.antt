@@ -1,11 +1,11 @@
 -- What a validator promises of a payload: what the method for it does (WebAssembly 3.0, binary format, modules).
 use Rattle.std.specs.Prelude.{◌≡◌, Result, Ok, Err}
 use Rattle.wasm_types.specs.decoding.Decoder.{State as Bytes}
-use Rattle.wasm_types.specs.error.ErrorValue.{ErrorValue}
-use Rattle.wasm_sections_payloads.specs.declared.payload.Payload.{Payload}
-use Rattle.wasm_sections_payloads.specs.declared.payload.Payload.TheVariants as payloads
-use Rattle.wasm_operator_validator_stacks.specs.state.Refusals.{refused_by}
-use Rattle.wasm_module_validator_sharing.specs.Sharing.{Handed}
+use Rattle.wasm_types.specs.decoding.ErrorValue.{ErrorValue}
+use Rattle.wasm_sections.specs.declared.payload.Payload.{Payload}
+use Rattle.wasm_sections.specs.declared.payload.Payload.TheVariants as payloads
+use Rattle.wasm_operator_validator_state.specs.Refusals.{refused_by}
+use Rattle.wasm_module_validator_drivers.specs.Sharing.{Handed}
 use Rattle.wasm_module_validator.specs.declared.validator.Validator.{Validator}
 use Rattle.wasm_module_validator.specs.declared.payloads.ValidPayload.{ValidPayload}
 use Rattle.wasm_module_validator.specs.declared.payloads.ValidPayload.TheVariants as valid

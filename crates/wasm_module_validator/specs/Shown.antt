@@ -1,10 +1,10 @@
 -- What a validator learned of a module that was read, or of which some was read; and what is looked up in it.
 use Rattle.std.specs.Prelude.{List}
-use Rattle.wasm_module_validator_module.specs.view.Shown.{Shown}
-use Rattle.wasm_module_validator_module.specs.declared.view.validator_id.ValidatorId.{ValidatorId}
-use Rattle.wasm_module_validator_sharing.specs.reading.progress.Progress.{Kept}
-use Rattle.wasm_module_validator_sharing.specs.reading.progress.standing.items.Items.{Items}
-use Rattle.wasm_module_validator_sharing.specs.reading.progress.standing.type_trees.Groups.{Group}
+use Rattle.wasm_module_validator_index_spaces.specs.view.Shown.{Shown}
+use Rattle.wasm_module_validator_index_spaces.specs.declared.view.validator_id.ValidatorId.{ValidatorId}
+use Rattle.wasm_module_validator_drivers.specs.payloads.Progress.{Kept}
+use Rattle.wasm_module_validator_drivers.specs.state.Items.{Items}
+use Rattle.wasm_module_validator_type_storage.specs.trees.Groups.{Group}
 
 -- the id of the validator, and what was read
 pub record Learned : Type 0 where

@@ -1,19 +1,19 @@
 -- How far a validator is behind a module that it judged.
 use Rattle.std.specs.Prelude.{◌≡◌, ◌⊎◌, ℕ, List, Result, Ok, Err}
-use Rattle.wasm_types.specs.error.Denials.{Denies}
-use Rattle.wasm_types.specs.error.ErrorValue.{ErrorValue}
-use Rattle.wasm_types.specs.error.declared.error.ErrorKind.{ErrorKind}
-use Rattle.wasm_types.specs.error.declared.error.ErrorKind.TheVariants.{OutOfMemory}
-use Rattle.wasm_types.specs.limits.Settings.{Settings}
+use Rattle.wasm_types.specs.decoding.Denials.{Denies}
+use Rattle.wasm_types.specs.decoding.ErrorValue.{ErrorValue}
+use Rattle.wasm_types.specs.decoding.declared.error.ErrorKind.{ErrorKind}
+use Rattle.wasm_types.specs.decoding.declared.error.ErrorKind.TheVariants.{OutOfMemory}
+use Rattle.wasm_types.specs.settings.Settings.{Settings}
 use Rattle.wasm_types.specs.reader.Reading.{IsNotMemory}
-use Rattle.wasm_module_validator_sharing.specs.reading.progress.declaring.Total.{IsPastTotal, TellsWithinTotal}
-use Rattle.wasm_module_validator_sharing.specs.reading.progress.standing.items.Items.{no_items}
-use Rattle.wasm_module_validator_sharing.specs.reading.progress.standing.type_trees.Groups.{Group}
-use Rattle.wasm_module_validator_sharing.specs.reading.progress.standing.steps.Steps.{SoFar}
-use Rattle.wasm_module_validator_sharing.specs.reading.progress.standing.steps.contexts.rules.Accepts.{AcceptsUnder}
-use Rattle.wasm_module_validator_sharing.specs.reading.progress.standing.Standing.{IsGrown}
-use Rattle.wasm_module_validator_sharing.specs.reading.progress.Progress.{kept_groups}
-use Rattle.wasm_module_validator_sharing.specs.reading.Reading.{HasGroupIn, IsReadAs}
+use Rattle.wasm_module_validator_drivers.specs.declarations.Total.{IsPastTotal, TellsWithinTotal}
+use Rattle.wasm_module_validator_drivers.specs.state.Items.{no_items}
+use Rattle.wasm_module_validator_type_storage.specs.trees.Groups.{Group}
+use Rattle.wasm_module_validator_section_order.specs.rules_in_order.Steps.{SoFar}
+use Rattle.wasm_module_validator_rules.specs.Accepts.{AcceptsUnder}
+use Rattle.wasm_module_validator_drivers.specs.state.invariant.Standing.{IsGrown}
+use Rattle.wasm_module_validator_drivers.specs.payloads.Progress.{kept_groups}
+use Rattle.wasm_module_validator_drivers.specs.reading.Reading.{HasGroupIn, IsReadAs}
 use Rattle.wasm_module_validator.specs.declared.validator.State.{State}
 use Rattle.wasm_module_validator.specs.declared.validator.State.TheVariants.{Unparsed, Module, Ended, Failed}
 use Rattle.wasm_module_validator.specs.declared.validator.Validator.{Validator}

@@ -1,13 +1,13 @@
 //! Worked rows, on the contract of a function that does nothing.
 
-ghost use Rattle.wasm_types.specs.limits.Settings.{Settings};
+ghost use Rattle.wasm_types.specs.settings.Settings.{Settings};
 ghost use Rattle.std.specs.Prelude.{◌≡◌, ◌<◌, ℕ, List};
-ghost use Rattle.wasm_types.specs.error.ErrorValue.{ErrorValue};
-ghost use Rattle.wasm_module_validator_module.specs.declared.view.validator_id.ValidatorId.{ValidatorId};
-ghost use Rattle.wasm_module_validator_sharing.specs.reading.progress.standing.Standing.{IsGrown};
-ghost use Rattle.wasm_module_validator_sharing.specs.reading.progress.standing.steps.Steps.{nothing};
-ghost use Rattle.wasm_module_validator_sharing.specs.reading.progress.standing.type_trees.Groups.{Group, count, tree_of};
-ghost use Rattle.wasm_module_validator_sharing.specs.Sharing.{Reached, renewed_behind, IsReached};
+ghost use Rattle.wasm_types.specs.decoding.ErrorValue.{ErrorValue};
+ghost use Rattle.wasm_module_validator_index_spaces.specs.declared.view.validator_id.ValidatorId.{ValidatorId};
+ghost use Rattle.wasm_module_validator_drivers.specs.state.invariant.Standing.{IsGrown};
+ghost use Rattle.wasm_module_validator_section_order.specs.rules_in_order.Steps.{nothing};
+ghost use Rattle.wasm_module_validator_type_storage.specs.trees.Groups.{Group, count, tree_of};
+ghost use Rattle.wasm_module_validator_drivers.specs.Sharing.{Reached, renewed_behind, IsReached};
 ghost use Rattle.wasm_module_validator.specs.Shown.{Learned};
 ghost use Rattle.wasm_module_validator.specs.laws.ListRows.{ListRows};
 ghost use Rattle.wasm_module_validator.specs.laws.StateRows.{LeftRows, AcceptedRows, RenewedRows};

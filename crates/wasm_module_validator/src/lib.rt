@@ -9,12 +9,17 @@
 //!
 //! A validator has one list of types for all its modules, so that ids of two modules may be compared ([`Types`], [`TypeList`]). What is
 //! looked up in a module, and what lists of types are made of, is passed on from the crates below.
+//!
+//! Its parts beside these:
+//!
+//! - [`soundness`]: no run of a valid module is stuck.
 #![tactic(auto)]
 
 mod laws;
 mod lists;
 mod methods;
 mod payloads;
+pub mod soundness;
 mod types;
 mod validator;
 
@@ -23,18 +28,18 @@ pub use lists::Verdict;
 pub use payloads::ValidPayload;
 pub use types::Types;
 pub use validator::{State, Validator, validate};
-pub use wasm_module_validator_canonical::{InternRecGroup, TypeCanonicalizer};
-pub use wasm_module_validator_lists::snapshots::SnapshotList;
-pub use wasm_module_validator_matches::{Matches, WithRecGroup, types_match};
-pub use wasm_module_validator_module::view::{
-    CoreExports, CoreImports, EntityType, RecGroupElements, RecGroupId, TypesRef, ValidatorId,
-};
-pub use wasm_module_validator_module::{Function, Module};
-pub use wasm_module_validator_sharing::{
+pub use wasm_module_validator_canonical_types::matches::{Matches, WithRecGroup, types_match};
+pub use wasm_module_validator_canonical_types::{InternRecGroup, TypeCanonicalizer};
+pub use wasm_module_validator_drivers::{
     FuncToValidate, FuncValidator, FuncValidatorAllocations, ModuleState, ValidatorResources,
 };
+pub use wasm_module_validator_index_spaces::view::{
+    CoreExports, CoreImports, EntityType, RecGroupElements, RecGroupId, TypesRef, ValidatorId,
+};
+pub use wasm_module_validator_index_spaces::{Function, Module};
 pub use wasm_module_validator_type_alloc::{
     MaybeOwned, TypeAlloc, TypeData, TypeIdentifier, TypeInfo, at_canonicalized_packed_index,
     at_canonicalized_unpacked_index,
 };
-pub use wasm_module_validator_types::{MAX_TYPES, TypeList};
+pub use wasm_module_validator_type_list::{MAX_TYPES, TypeList};
+pub use wasm_module_validator_type_storage::snapshots::SnapshotList;

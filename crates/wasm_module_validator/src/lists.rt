@@ -1,7 +1,7 @@
 //! Modules that are validated one after the other.
 
 ghost use Rattle.std.specs.Prelude.{◌≡◌, ◌<◌, IfOk, IfErr, Some, length, slice_get, true};
-ghost use Rattle.wasm_types.specs.error.declared.error.ErrorKind.TheVariants as kinds;
+ghost use Rattle.wasm_types.specs.decoding.declared.error.ErrorKind.TheVariants as kinds;
 ghost use Rattle.wasm_types.specs.reader.Reading.{IsNotMemory};
 ghost use Rattle.wasm_sections_parser.specs.Parsing.{one_of};
 ghost use Rattle.wasm_module_validator.specs.declared.validator.State.TheVariants as states;

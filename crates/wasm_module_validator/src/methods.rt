@@ -1,10 +1,10 @@
 //! A module that is validated frame by frame, as a parser gives its payloads.
 
 ghost use Rattle.std.specs.Prelude.{◌≡◌, IfOk, is_some, option_map, true};
-ghost use Rattle.wasm_types.specs.error.declared.error.ErrorKind.TheVariants as kinds;
-ghost use Rattle.wasm_sections_payloads.specs.declared.payload.Payload.TheVariants as payloads;
-ghost use Rattle.wasm_operator_validator_stacks.specs.state.Refusals.{refused_by};
-ghost use Rattle.wasm_module_validator_sharing.specs.Sharing.{IsWhole, renewed_behind};
+ghost use Rattle.wasm_types.specs.decoding.declared.error.ErrorKind.TheVariants as kinds;
+ghost use Rattle.wasm_sections.specs.declared.payload.Payload.TheVariants as payloads;
+ghost use Rattle.wasm_operator_validator_state.specs.Refusals.{refused_by};
+ghost use Rattle.wasm_module_validator_drivers.specs.Sharing.{IsWhole, renewed_behind};
 ghost use Rattle.wasm_module_validator.specs.declared.validator.State.TheVariants as states;
 ghost use Rattle.wasm_module_validator.specs.Lists.{AreToldUnder};
 ghost use Rattle.wasm_module_validator.specs.Shown.{shown};
@@ -13,14 +13,14 @@ ghost use Rattle.wasm_module_validator.specs.Methods.{failure, refusal, can_rese
 use crate::types::{Types, look_up};
 use crate::validator::{State, Validator};
 use std::ops::Range;
-use wasm_module_validator_module::view::{TypesRef, ValidatorId};
-use wasm_module_validator_sharing::{FuncToValidate, ValidatorResources, check_header};
-use wasm_sections_parser::Encoding;
-use wasm_sections_payloads::{
+use wasm_module_validator_drivers::{FuncToValidate, ValidatorResources, check_header};
+use wasm_module_validator_index_spaces::view::{TypesRef, ValidatorId};
+use wasm_sections::{
     DataSectionReader, ElementSectionReader, ExportSectionReader, FunctionBody,
     FunctionSectionReader, GlobalSectionReader, ImportSectionReader, MemorySectionReader, Payload,
     TableSectionReader, TagSectionReader, TypeSectionReader,
 };
+use wasm_sections_parser::Encoding;
 use wasm_types::{Error, Result};
 
 // The refusal of a call behind a refusal.

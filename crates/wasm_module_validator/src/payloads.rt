@@ -6,8 +6,8 @@ ghost use Rattle.wasm_module_validator.specs.Payloads.{passed, with_body, ended,
 use crate::methods::check_not_failed;
 use crate::types::Types;
 use crate::validator::Validator;
-use wasm_module_validator_sharing::{FuncToValidate, ValidatorResources};
-use wasm_sections_payloads::{FunctionBody, Payload};
+use wasm_module_validator_drivers::{FuncToValidate, ValidatorResources};
+use wasm_sections::{FunctionBody, Payload};
 use wasm_types::Result;
 
 /// What a payload that was accepted leads to.

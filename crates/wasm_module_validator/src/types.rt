@@ -7,8 +7,8 @@ ghost use Rattle.wasm_module_validator.specs.Shown.{shown, shown_of};
 use std::marker::Model;
 use std::ops::Index;
 use std::rc::Rc;
-use wasm_module_validator_module::view::{TypesRef, ValidatorId};
-use wasm_module_validator_sharing::{ModuleState, SharedModule, TypeList};
+use wasm_module_validator_drivers::{ModuleState, SharedModule, TypeList};
+use wasm_module_validator_index_spaces::view::{TypesRef, ValidatorId};
 use wasm_types::{CoreTypeId, SubType};
 
 /// What a validator learned of a module: its index spaces, and the list of its types. `types[id]` is the type of an id.
@@ -43,8 +43,8 @@ impl Types {
 }
 
 impl Index<CoreTypeId> for Types {
-    ghost use Rattle.wasm_types.specs.groups.Entries.{declared_of};
-    ghost use Rattle.wasm_module_validator_module.specs.view.Shown.{knows, is_type_of};
+    ghost use Rattle.wasm_types.specs.Entries.{declared_of};
+    ghost use Rattle.wasm_module_validator_index_spaces.specs.view.Shown.{knows, is_type_of};
     ghost use Rattle.wasm_module_validator.specs.Shown.{shown};
 
     type Output = SubType;

@@ -1,11 +1,11 @@
 //! The validator of whole modules.
 
 ghost use Rattle.std.specs.Prelude.{◌≡◌, ◌↔◌, [], IsTrue, IfOk};
-ghost use Rattle.wasm_types.specs.error.Denials.{Tells};
-ghost use Rattle.wasm_types.specs.limits.Limits.{default_limits, IsWithinCeilings};
-ghost use Rattle.wasm_module_validator_sharing.specs.reading.progress.standing.steps.contexts.rules.Accepts.{AcceptsUnder};
-ghost use Rattle.wasm_module_validator_runs.specs.Soundness.{RunsSoundly};
-ghost use Rattle.wasm_module_validator_sharing.specs.Sharing.{nothing_reached};
+ghost use Rattle.wasm_types.specs.decoding.Denials.{Tells};
+ghost use Rattle.wasm_types.specs.settings.Limits.{default_limits, IsWithinCeilings};
+ghost use Rattle.wasm_module_validator_rules.specs.Accepts.{AcceptsUnder};
+ghost use Rattle.wasm_module_validator.specs.soundness.Soundness.{RunsSoundly};
+ghost use Rattle.wasm_module_validator_drivers.specs.Sharing.{nothing_reached};
 ghost use Rattle.wasm_module_validator.specs.declared.validator.State.TheVariants as states;
 ghost use Rattle.wasm_module_validator.specs.Accepts.{Accepts, IsShown, default_settings};
 ghost use Rattle.wasm_module_validator.specs.Lists.{AreToldUnder, TakesNoMore};
@@ -13,8 +13,8 @@ ghost use Rattle.wasm_module_validator.specs.States.{IsLeft, Keeps, Leaves, Tell
 
 use crate::types::Types;
 use std::alloc::Global;
-use wasm_module_validator_module::view::ValidatorId;
-use wasm_module_validator_sharing::{HeldSettings, SharedProgress};
+use wasm_module_validator_drivers::{HeldSettings, SharedProgress};
+use wasm_module_validator_index_spaces::view::ValidatorId;
 use wasm_types::{Error, ErrorKind, Limits, Result, WasmFeatures};
 
 /// How far a validator is.

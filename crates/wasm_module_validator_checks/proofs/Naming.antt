@@ -1,8 +1,8 @@
 -- Value types by ids, in place of those that a module writes.
 use Rattle.std.proofs.Common.{◌≡◌, ℕ, refl, Result, Ok, Err, OnOk}
-use Rattle.wasm_types.specs.error.ErrorValue.{ErrorValue}
-use Rattle.wasm_types.specs.indices.declared.index.UnpackedIndex.{UnpackedIndex}
-use Rattle.wasm_types.specs.indices.declared.index.UnpackedIndex.TheVariants as index
+use Rattle.wasm_types.specs.decoding.ErrorValue.{ErrorValue}
+use Rattle.wasm_types.specs.trees.declared.index.UnpackedIndex.{UnpackedIndex}
+use Rattle.wasm_types.specs.trees.declared.index.UnpackedIndex.TheVariants as index
 use Rattle.wasm_types.specs.trees.Gates.{ValueIsAllowed}
 use Rattle.wasm_types.specs.trees.Types.{HeapOf, abstract, concrete, exact, heap_map}
 use Rattle.wasm_types.specs.values.declared.value.ValType.{ValType}
@@ -10,11 +10,11 @@ use Rattle.wasm_types.specs.values.declared.value.ValType.TheVariants.{I32, I64,
 use Rattle.wasm_types.specs.values.Reference.{Reference}
 use Rattle.wasm_types.specs.values.Trees.{heap_of}
 use Rattle.wasm_types.specs.values.Values.{value_of}
-use Rattle.wasm_operator_validator_state.specs.rules.Operands.{ValueType}
-use Rattle.wasm_operator_validator_state.specs.rules.Context.{Module, IsType, written_type}
+use Rattle.wasm_operator_validator_rules.specs.Operands.{ValueType}
+use Rattle.wasm_operator_validator_rules.specs.Context.{Module, IsType, written_type}
 use Rattle.wasm_operator_validator_state.specs.resources.Meaning.{Meaning, type_in}
 use Rattle.wasm_operator_validator_state.specs.resources.Answers.{IsNamedReference}
-use Rattle.wasm_module_validator_checks.specs.limits.rules.Spaces.{with_types, value_in}
+use Rattle.wasm_module_validator_rules.specs.Spaces.{with_types, value_in}
 
 -- what is written means the same by the types of a module alone
 same_heap : (g : Module) (h : HeapOf UnpackedIndex) → heap_map (written_type (with_types g.types)) h ≡ heap_map (written_type g) h

@@ -1,7 +1,7 @@
 -- Of which kind a refusal is, of a fact that asks for more.
 use Rattle.std.proofs.Common.{ℕ}
-use Rattle.wasm_types.specs.error.declared.error.ErrorKind.{ErrorKind}
-use Rattle.wasm_types.specs.error.declared.error.ErrorKind.TheVariants as kinds
+use Rattle.wasm_types.specs.decoding.declared.error.ErrorKind.{ErrorKind}
+use Rattle.wasm_types.specs.decoding.declared.error.ErrorKind.TheVariants as kinds
 use Rattle.wasm_module_validator_checks.specs.externs.Refusals.{IsRefusal, IsNeeded}
 
 pub refusal_from : (bits : ℕ) (P Q : ℕ → Type 0) (k : ErrorKind) → ((b : ℕ) → Q b → P b) → IsRefusal bits P k → IsRefusal bits Q k

@@ -18,5 +18,5 @@ pub use sizes::{check_limits, require};
 pub use table::check_table_type;
 pub use tag::check_tag_type;
 pub use values::{check_global_type, check_value_type};
-pub use wasm_operator_validator_blocks::function_of;
 pub use wasm_operator_validator_state::WasmModuleResources;
+pub use wasm_operator_validator_state::blocks::function_of;

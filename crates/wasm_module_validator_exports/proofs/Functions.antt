@@ -4,13 +4,13 @@ use Rattle.wasm_types.specs.trees.Types.{EntryOf, inner_map, value_map}
 use Rattle.wasm_types.specs.trees.Trees.{TypeTree, opened}
 use Rattle.wasm_types.specs.trees.Below.{expanded}
 use Rattle.wasm_types.specs.values.Values.{value_of}
-use Rattle.wasm_types.specs.groups.Kinds.{func_in}
-use Rattle.wasm_types.specs.groups.Entries.{inner_of}
-use Rattle.wasm_types.specs.groups.declared.composite.CompositeInnerType.{CompositeInnerType}
-use Rattle.wasm_types.specs.groups.declared.composite.CompositeInnerType.TheVariants.{Func, Array, Struct, Cont}
-use Rattle.wasm_types.specs.groups.declared.sub_type.SubType.{SubType}
-use Rattle.wasm_module_validator_checks.specs.externs.state.resources.Meaning.{Meaning, named_type, entry_in}
-use Rattle.wasm_module_validator_checks.specs.limits.rules.Valid.{IsFunctionIndex}
+use Rattle.wasm_types.specs.Kinds.{func_in}
+use Rattle.wasm_types.specs.Entries.{inner_of}
+use Rattle.wasm_types.specs.declared.composite.CompositeInnerType.{CompositeInnerType}
+use Rattle.wasm_types.specs.declared.composite.CompositeInnerType.TheVariants.{Func, Array, Struct, Cont}
+use Rattle.wasm_types.specs.declared.sub_type.SubType.{SubType}
+use Rattle.wasm_module_validator_checks.specs.operator_resources.Meaning.{Meaning, named_type, entry_in}
+use Rattle.wasm_module_validator_checks.specs.rules.Valid.{IsFunctionIndex}
 
 some_type : (a : EntryOf TypeTree) (o : Option TypeTree) → Some a ≡ option_map opened o → (t : TypeTree) × (o ≡ Some t) × (a ≡ opened t)
 some_type a None e = cc

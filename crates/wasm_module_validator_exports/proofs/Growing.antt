@@ -2,7 +2,7 @@
 use Rattle.std.proofs.Common.{◌≡◌, ◌↔◌, ◌+◌, ◌<◌, ℕ, List, [], ◌∷◌, ◌++◌, map, sum, sym, arith}
 use Rattle.std.proofs.lemmas.List.Sums.{sum_by-cons}
 use Rattle.wasm_sections_items.specs.imports.Spells.{ExportTree}
-use Rattle.wasm_module_validator_checks.specs.limits.rules.Valid.{Each, HaveOwnNames, SumsBelow}
+use Rattle.wasm_module_validator_checks.specs.rules.Valid.{Each, HaveOwnNames, SumsBelow}
 use Rattle.wasm_module_validator_exports.specs.names.Exports.{IsNew}
 
 each_after : {A : Type 0} (P : A → Type 0) (xs : List A) (x : A) → Each P (xs ++ x ∷ []) ↔ (Each P xs × P x)

@@ -2,10 +2,10 @@
 use Rattle.std.specs.Prelude.{◌≡◌}
 use Rattle.wasm_sections_items.specs.declared.imports.type_ref.TypeRef.{TypeRef}
 use Rattle.wasm_sections_items.specs.declared.imports.type_ref.TypeRef.TheVariants as import
-use Rattle.wasm_module_validator_checks.specs.externs.state.resources.Meaning.{Meaning, table_in, global_in}
-use Rattle.wasm_module_validator_checks.specs.limits.rules.Spaces.{table_in as table_written, global_in as global_written}
+use Rattle.wasm_module_validator_checks.specs.operator_resources.Meaning.{Meaning, table_in, global_in}
+use Rattle.wasm_module_validator_checks.specs.rules.Spaces.{table_in as table_written, global_in as global_written}
 -- for attributes that unfold it
-unfoldable pub use Rattle.wasm_types.specs.features.Features.{has}
+unfoldable pub use Rattle.wasm_types.specs.settings.Features.{has}
 
 -- what is by ids stands for what is written; only tables and globals name types by ids
 abbrev pub IsNamedImport : Meaning → TypeRef → TypeRef → Type 0

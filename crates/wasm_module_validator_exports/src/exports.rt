@@ -1,9 +1,9 @@
 //! Exports.
 
 ghost use Rattle.std.specs.Prelude.{◌≡◌, IsTrue, IfErr, false};
-ghost use Rattle.wasm_types.specs.error.Denials.{Tells};
-ghost use Rattle.wasm_types.specs.error.declared.error.ErrorKind.TheVariants.{Other};
-ghost use Rattle.wasm_module_validator_checks.specs.limits.rules.Valid.{IsValidExport};
+ghost use Rattle.wasm_types.specs.decoding.Denials.{Tells};
+ghost use Rattle.wasm_types.specs.decoding.declared.error.ErrorKind.TheVariants.{Other};
+ghost use Rattle.wasm_module_validator_checks.specs.rules.Valid.{IsValidExport};
 ghost use Rattle.wasm_sections_items.specs.declared.imports.kind.ExternalKind.TheVariants.{Global};
 ghost use Rattle.wasm_module_validator_checks.specs.externs.Refusals.{IsNeeded, allowing};
 

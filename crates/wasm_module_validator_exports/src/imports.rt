@@ -1,12 +1,12 @@
 //! Imports.
 
 ghost use Rattle.std.specs.Prelude.{◌≡◌, IsTrue, IfErr, OnOk, OnErr};
-ghost use Rattle.wasm_types.specs.error.Denials.{Tells};
-ghost use Rattle.wasm_types.specs.error.declared.error.ErrorKind.TheVariants.{Other};
-ghost use Rattle.wasm_module_validator_checks.specs.limits.rules.Valid.{IsValidImport, IsFunctionIndex, IsValidGlobalType, IsValidTagType, MayCross};
-ghost use Rattle.wasm_module_validator_checks.specs.limits.rules.Spaces.{global_in as global_written};
-ghost use Rattle.wasm_module_validator_checks.specs.externs.state.resources.Meaning.{global_in};
-ghost use Rattle.wasm_types.specs.features.Features.{CustomDescriptors};
+ghost use Rattle.wasm_types.specs.decoding.Denials.{Tells};
+ghost use Rattle.wasm_types.specs.decoding.declared.error.ErrorKind.TheVariants.{Other};
+ghost use Rattle.wasm_module_validator_checks.specs.rules.Valid.{IsValidImport, IsFunctionIndex, IsValidGlobalType, IsValidTagType, MayCross};
+ghost use Rattle.wasm_module_validator_checks.specs.rules.Spaces.{global_in as global_written};
+ghost use Rattle.wasm_module_validator_checks.specs.operator_resources.Meaning.{global_in};
+ghost use Rattle.wasm_types.specs.settings.Features.{CustomDescriptors};
 ghost use Rattle.wasm_types.specs.trees.Gates.{Has};
 ghost use Rattle.wasm_module_validator_checks.specs.externs.Refusals.{IsRefusal, IsNeeded, allowing};
 ghost use Rattle.wasm_module_validator_exports.specs.Imports.{IsNamedImport};

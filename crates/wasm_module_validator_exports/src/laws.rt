@@ -2,7 +2,7 @@
 
 ghost use Rattle.std.specs.Prelude.{◌↔◌, ◌∷◌, ◌++◌, ◌+◌, ◌<◌, [], ℕ, List, map, sum};
 ghost use Rattle.wasm_sections_items.specs.imports.Spells.{ExportTree};
-ghost use Rattle.wasm_module_validator_checks.specs.limits.rules.Valid.{HaveOwnNames, SumsBelow};
+ghost use Rattle.wasm_module_validator_checks.specs.rules.Valid.{HaveOwnNames, SumsBelow};
 ghost use Rattle.wasm_module_validator_exports.specs.names.Exports.{IsNew};
 
 /// An export more: no two have one name exactly if that was so before and its name is new; and each sum of sizes is below the

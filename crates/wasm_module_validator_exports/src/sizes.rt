@@ -3,9 +3,9 @@
 //! A size is added to a sum without an error; where the sum is not below the limit, one function makes it.
 
 ghost use Rattle.std.specs.Prelude.{◌≡◌, ◌+◌, ◌<◌, IfErr, IfOk, length, slice_get};
-ghost use Rattle.wasm_types.specs.error.Denials.{Tells};
-ghost use Rattle.wasm_types.specs.error.declared.error.ErrorKind.TheVariants.{Other};
-ghost use Rattle.wasm_module_validator_checks.specs.limits.rules.Valid.{size_at, import_size, export_size};
+ghost use Rattle.wasm_types.specs.decoding.Denials.{Tells};
+ghost use Rattle.wasm_types.specs.decoding.declared.error.ErrorKind.TheVariants.{Other};
+ghost use Rattle.wasm_module_validator_checks.specs.rules.Valid.{size_at, import_size, export_size};
 ghost use Rattle.wasm_module_validator_exports.specs.Sizes.{IsSumBelow};
 
 use wasm_module_validator_checks::externs::{Settings, WasmModuleResources, function_of};

@@ -2,9 +2,9 @@
 use Rattle.std.proofs.Common.{◌≡◌, ◌∙◌, ◌↔◌, ℕ, ◌-◌, ◌<◌, Bool, true, false, IsTrue, List, refl, ap, sym, subst, Some, None}
 use Rattle.std.specs.Prelude.{◌==◌}
 use Rattle.std.proofs.lemmas.Bool.Decides.{Decides-eqb}
-use Rattle.wasm_types.specs.features.Features.{needs_canonical_types}
-use Rattle.wasm_types.specs.indices.declared.index.CoreTypeId.{CoreTypeId}
-use Rattle.wasm_types.specs.indices.declared.index.UnpackedIndex.{UnpackedIndex}
+use Rattle.wasm_types.specs.settings.Features.{needs_canonical_types}
+use Rattle.wasm_types.specs.trees.declared.index.CoreTypeId.{CoreTypeId}
+use Rattle.wasm_types.specs.trees.declared.index.UnpackedIndex.{UnpackedIndex}
 use Rattle.wasm_types.specs.trees.Types.{HeapOf, i32, i64, f32, f64, v128, number, ref, abstract, Abstract, func, InnerOf, function, array_of, struct_of, continuation, EntryOf, entry_map, inner_map}
 use Rattle.wasm_types.specs.trees.Trees.{TypeTree, opened}
 use Rattle.wasm_types.specs.trees.Below.{expanded, is_shared, abstract_above, DeclaredBelow, itself, IsBelowAbstract, IsAboveAbstract, Below}
@@ -14,11 +14,11 @@ use Rattle.wasm_types.specs.values.declared.value.ValType.TheVariants.{I32, I64,
 use Rattle.wasm_types.specs.values.Reference.{Reference}
 use Rattle.wasm_types.specs.values.ValueKinds.{reference_in}
 use Rattle.wasm_operator_validator_resources.specs.Meaning.{Meaning, named_type, heap_in, type_in}
-use Rattle.wasm_module_validator_type_trees.specs.Groups.{Group, count, tree_of}
-use Rattle.wasm_module_validator_type_trees.specs.Formed.{IsFormed}
-use Rattle.wasm_module_validator_type_trees.specs.ByIds.{IdBelow}
-use Rattle.wasm_module_validator_type_trees.specs.laws.Apart.{apart}
-use Rattle.wasm_module_validator_type_trees.specs.laws.Ids.{below_by_ids}
+use Rattle.wasm_module_validator_type_storage.specs.trees.Groups.{Group, count, tree_of}
+use Rattle.wasm_module_validator_type_storage.specs.trees.Formed.{IsFormed}
+use Rattle.wasm_module_validator_type_storage.specs.trees.ByIds.{IdBelow}
+use Rattle.wasm_module_validator_type_storage.specs.trees.laws.Apart.{apart}
+use Rattle.wasm_module_validator_type_storage.specs.trees.laws.Ids.{below_by_ids}
 use Rattle.wasm_module_validator_resources.specs.Named.{nowhere, tree_meant, IsInList, IsNamedSo, IsSettled, AreStoredAlike, HasSpan, IsUnderKind, IsOverKind}
 use Rattle.wasm_module_validator_resources.specs.declared.named.Named.{Named}
 use Rattle.wasm_module_validator_resources.specs.declared.named.Named.TheVariants.{Known}

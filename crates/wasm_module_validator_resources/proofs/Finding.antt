@@ -4,7 +4,7 @@ use Rattle.std.specs.Prelude.{slice_get, All, IfSome}
 use Rattle.std.specs.Option.{option_map}
 use Rattle.std.proofs.lemmas.List.{length-map}
 use Rattle.std.proofs.lemmas.Option.{slice_get-map, slice_get_within, get_or_from_slice_get}
-use Rattle.wasm_types.specs.indices.declared.index.CoreTypeId.{CoreTypeId}
+use Rattle.wasm_types.specs.trees.declared.index.CoreTypeId.{CoreTypeId}
 use Rattle.wasm_types.specs.trees.Types.{InnerOf, function, array_of, struct_of, continuation, EntryOf, entry_map, inner_map}
 use Rattle.wasm_types.specs.trees.Trees.{TypeTree, opened}
 use Rattle.wasm_types.specs.trees.Below.{expanded}
@@ -12,19 +12,19 @@ use Rattle.wasm_types.specs.trees.ValidGroup.{type_at}
 use Rattle.wasm_types.specs.fields.declared.field.ArrayType.{ArrayType}
 use Rattle.wasm_types.specs.fields.declared.field.StructType.{StructType}
 use Rattle.wasm_types.specs.fields.declared.cont.ContType.{ContType}
-use Rattle.wasm_types.specs.groups.declared.composite.CompositeInnerType.{CompositeInnerType}
-use Rattle.wasm_types.specs.groups.declared.composite.CompositeInnerType.TheVariants.{Array, Struct, Cont}
-use Rattle.wasm_types.specs.groups.Entries.{Declared, inner_of}
+use Rattle.wasm_types.specs.declared.composite.CompositeInnerType.{CompositeInnerType}
+use Rattle.wasm_types.specs.declared.composite.CompositeInnerType.TheVariants.{Array, Struct, Cont}
+use Rattle.wasm_types.specs.Entries.{Declared, inner_of}
 use Rattle.wasm_types.specs.externs.declared.global.GlobalType.{GlobalType}
-use Rattle.wasm_operator_validator_resources.specs.rules.Row.{IsOneOf}
+use Rattle.wasm_operator_validator_rules.specs.Row.{IsOneOf}
 use Rattle.wasm_operator_validator_resources.specs.Meaning.{named_type, type_in, type_of_id, global_in}
-use Rattle.wasm_module_validator_type_trees.specs.Groups.{Group, count, tree_of, declared_by_id}
-use Rattle.wasm_module_validator_type_trees.specs.Formed.{IsFormed}
-use Rattle.wasm_module_validator_type_trees.specs.BelowIds.{undeclared}
-use Rattle.wasm_module_validator_type_trees.specs.laws.Ids.{length_stored}
-use Rattle.wasm_module_validator_groups.specs.adding.Interned.{space_of, AreIdsKnown}
-use Rattle.wasm_module_validator_module.specs.declared.module.Function.{Function}
-use Rattle.wasm_module_validator_module.specs.Spaces.{Spaces}
+use Rattle.wasm_module_validator_type_storage.specs.trees.Groups.{Group, count, tree_of, declared_by_id}
+use Rattle.wasm_module_validator_type_storage.specs.trees.Formed.{IsFormed}
+use Rattle.wasm_module_validator_type_storage.specs.trees.BelowIds.{undeclared}
+use Rattle.wasm_module_validator_type_storage.specs.trees.laws.Ids.{length_stored}
+use Rattle.wasm_module_validator_type_groups.specs.adding.Interned.{space_of, AreIdsKnown}
+use Rattle.wasm_module_validator_index_spaces.specs.declared.module.Function.{Function}
+use Rattle.wasm_module_validator_index_spaces.specs.Spaces.{Spaces}
 use Rattle.wasm_module_validator_resources.specs.Reading.{types_by_id, names_in, places, meaning_of}
 use Rattle.wasm_module_validator_resources.specs.Named.{nowhere, IsSettled, kind_number}
 use Rattle.wasm_module_validator_resources.specs.laws.Trees.{index_known, type_by_id, types_counted}

@@ -1,16 +1,16 @@
 -- A heap type that the module writes, named by an id.
 use Rattle.std.proofs.Common.{◌≡◌, ◌∙◌, List, ap, sym, arith}
-use Rattle.wasm_types.specs.indices.declared.index.CoreTypeId.{CoreTypeId}
-use Rattle.wasm_types.specs.indices.declared.index.UnpackedIndex.{UnpackedIndex}
-use Rattle.wasm_types.specs.indices.declared.index.UnpackedIndex.TheVariants.{Id}
+use Rattle.wasm_types.specs.trees.declared.index.CoreTypeId.{CoreTypeId}
+use Rattle.wasm_types.specs.trees.declared.index.UnpackedIndex.{UnpackedIndex}
+use Rattle.wasm_types.specs.trees.declared.index.UnpackedIndex.TheVariants.{Id}
 use Rattle.wasm_types.specs.trees.Types.{concrete, exact, heap_map}
 use Rattle.wasm_types.specs.values.declared.heap.HeapType.{HeapType}
 use Rattle.wasm_types.specs.values.declared.heap.HeapType.TheVariants.{Concrete, Exact}
 use Rattle.wasm_types.specs.values.Trees.{heap_of}
-use Rattle.wasm_operator_validator_resources.specs.rules.Context.{written_type}
+use Rattle.wasm_operator_validator_rules.specs.Context.{written_type}
 use Rattle.wasm_operator_validator_resources.specs.Answers.{IsNamed}
-use Rattle.wasm_module_validator_type_trees.specs.Groups.{Group}
-use Rattle.wasm_module_validator_module.specs.Spaces.{Spaces}
+use Rattle.wasm_module_validator_type_storage.specs.trees.Groups.{Group}
+use Rattle.wasm_module_validator_index_spaces.specs.Spaces.{Spaces}
 use Rattle.wasm_module_validator_resources.specs.Reading.{context_of, meaning_of}
 use Rattle.wasm_module_validator_resources.specs.Named.{IsIdOf}
 use Rattle.wasm_module_validator_resources.specs.laws.Trees.{types_counted}

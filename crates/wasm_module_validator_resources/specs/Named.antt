@@ -1,21 +1,21 @@
 -- What is asked of a module and the list that its types stand in, and what names of types stand for.
 use Rattle.std.specs.Prelude.{◌≡◌, ℕ, ◌+◌, ◌<◌, ◌≤◌, ◌^◌, Bool, true, false, ◌&&◌, IsTrue, List, [], ◌∷◌, All, get_or, slice_get, Some}
-use Rattle.wasm_types.specs.indices.declared.index.CoreTypeId.{CoreTypeId}
-use Rattle.wasm_types.specs.indices.declared.index.UnpackedIndex.{UnpackedIndex}
-use Rattle.wasm_types.specs.indices.declared.index.UnpackedIndex.TheVariants.{Id}
-use Rattle.wasm_types.specs.features.Features.{needs_canonical_types}
+use Rattle.wasm_types.specs.trees.declared.index.CoreTypeId.{CoreTypeId}
+use Rattle.wasm_types.specs.trees.declared.index.UnpackedIndex.{UnpackedIndex}
+use Rattle.wasm_types.specs.trees.declared.index.UnpackedIndex.TheVariants.{Id}
+use Rattle.wasm_types.specs.settings.Features.{needs_canonical_types}
 use Rattle.wasm_types.specs.trees.Types.{Abstract, func, struct, array, cont, nofunc, none, nocont, InnerOf, function, array_of, struct_of, continuation}
 use Rattle.wasm_types.specs.trees.Trees.{TypeTree, group_tree, opened}
 use Rattle.wasm_types.specs.trees.Below.{expanded, is_shared, abstract_above, DeclaredBelow}
 use Rattle.wasm_types.specs.trees.AbstractOrder.{AbstractBelow}
 use Rattle.wasm_types.specs.trees.ValidGroup.{IsFunction}
-use Rattle.wasm_operator_validator_resources.specs.rules.Context.{written_type}
+use Rattle.wasm_operator_validator_rules.specs.Context.{written_type}
 use Rattle.wasm_operator_validator_resources.specs.Meaning.{Meaning, named_type}
-use Rattle.wasm_module_validator_type_trees.specs.Groups.{Group, count, tree_of, declared_by_id, group_numbers}
-use Rattle.wasm_module_validator_type_trees.specs.BelowIds.{undeclared}
-use Rattle.wasm_module_validator_types.specs.Lookups.{HasIds}
-use Rattle.wasm_module_validator_groups.specs.adding.Interned.{AreIdsKnown, IsChecked}
-use Rattle.wasm_module_validator_module.specs.Spaces.{Spaces}
+use Rattle.wasm_module_validator_type_storage.specs.trees.Groups.{Group, count, tree_of, declared_by_id, group_numbers}
+use Rattle.wasm_module_validator_type_storage.specs.trees.BelowIds.{undeclared}
+use Rattle.wasm_module_validator_type_list.specs.Lookups.{HasIds}
+use Rattle.wasm_module_validator_type_groups.specs.adding.Interned.{AreIdsKnown, IsChecked}
+use Rattle.wasm_module_validator_index_spaces.specs.Spaces.{Spaces}
 use Rattle.wasm_module_validator_resources.specs.Bare.{is_bare}
 use Rattle.wasm_module_validator_resources.specs.Reading.{names_in, context_of}
 use Rattle.wasm_module_validator_resources.specs.declared.named.Named.{Named}

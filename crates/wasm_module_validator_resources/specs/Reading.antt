@@ -2,15 +2,15 @@
 -- (WebAssembly 3.0, validation, conventions, contexts).
 use Rattle.std.proofs.Common.{suc}
 use Rattle.std.specs.Prelude.{ℕ, Bool, List, [], ◌∷◌, ◌++◌, length, map, None, if◌then◌else◌}
-use Rattle.wasm_types.specs.indices.declared.index.CoreTypeId.{CoreTypeId}
+use Rattle.wasm_types.specs.trees.declared.index.CoreTypeId.{CoreTypeId}
 use Rattle.wasm_types.specs.trees.Trees.{TypeTree}
 use Rattle.wasm_types.specs.trees.ValidGroup.{type_at, types_from}
-use Rattle.wasm_operator_validator_resources.specs.rules.Context.{Module}
+use Rattle.wasm_operator_validator_rules.specs.Context.{Module}
 use Rattle.wasm_operator_validator_resources.specs.Meaning.{Meaning, table_in, global_in, reference_in}
-use Rattle.wasm_module_validator_type_trees.specs.Groups.{Group, tree_behind}
-use Rattle.wasm_module_validator_groups.specs.adding.Interned.{space_of}
-use Rattle.wasm_module_validator_module.specs.declared.module.Function.{Function}
-use Rattle.wasm_module_validator_module.specs.Spaces.{Spaces}
+use Rattle.wasm_module_validator_type_storage.specs.trees.Groups.{Group, tree_behind}
+use Rattle.wasm_module_validator_type_groups.specs.adding.Interned.{space_of}
+use Rattle.wasm_module_validator_index_spaces.specs.declared.module.Function.{Function}
+use Rattle.wasm_module_validator_index_spaces.specs.Spaces.{Spaces}
 
 -- the types of a list, in the order of their ids
 unfoldable pub types_by_id : List Group → List TypeTree

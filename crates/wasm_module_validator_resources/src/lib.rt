@@ -2,13 +2,18 @@
 //!
 //! `specs/Reading.antt` says what a module means: the context of the rules, over the types that its ids stand for. Each answer is
 //! what `WasmModuleResources` promises of that meaning.
+//!
+//! Its parts beside these:
+//!
+//! - [`referring`]: constants and the functions that they refer to.
 #![tactic(auto)]
 
 mod named;
+pub mod referring;
 mod resources;
 mod subtypes;
 mod types;
 
 pub use resources::OperatorValidatorResources;
-pub use wasm_module_validator_module::{Function, Module};
+pub use wasm_module_validator_index_spaces::{Function, Module};
 pub use wasm_operator_validator_resources::WasmModuleResources;

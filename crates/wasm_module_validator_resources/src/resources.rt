@@ -5,8 +5,8 @@ ghost use Rattle.wasm_operator_validator_resources.specs.Meaning.{table_in};
 ghost use Rattle.wasm_module_validator_resources.specs.Named.{IsReadOver, IsSettledIn};
 ghost use Rattle.wasm_module_validator_resources.specs.Reading.{meaning_of};
 
-use wasm_module_validator_module::Module;
-use wasm_module_validator_types::TypeList;
+use wasm_module_validator_index_spaces::Module;
+use wasm_module_validator_type_list::TypeList;
 use wasm_operator_validator_resources::WasmModuleResources;
 use wasm_types::{
     CompositeInnerType, CoreTypeId, FuncType, GlobalType, HeapType, MemoryType, RefType, Result,

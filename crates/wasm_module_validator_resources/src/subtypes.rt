@@ -4,23 +4,23 @@
 //! compared.
 
 ghost use Rattle.std.specs.Prelude.{◌≡◌, ◌↔◌, ◌+◌, ◌-◌, ◌<◌, ◌≤◌, IsTrue, false, get_or};
-ghost use Rattle.wasm_types.specs.features.Features.{needs_canonical_types};
+ghost use Rattle.wasm_types.specs.settings.Features.{needs_canonical_types};
 ghost use Rattle.wasm_types.specs.trees.Types.{abstract, ref};
 ghost use Rattle.wasm_types.specs.trees.AbstractOrder.{top_of};
 ghost use Rattle.wasm_types.specs.trees.Below.{DeclaredBelow, HeapBelow, NullBelow, Below, heap_is_shared};
 ghost use Rattle.wasm_types.specs.values.Trees.{abstract_of as abstract_in};
 ghost use Rattle.wasm_operator_validator_resources.specs.Meaning.{heap_in, type_in, top_heap};
-ghost use Rattle.wasm_module_validator_type_trees.specs.Groups.{count, tree_of, declared_by_id};
-ghost use Rattle.wasm_module_validator_type_trees.specs.BelowIds.{undeclared};
+ghost use Rattle.wasm_module_validator_type_storage.specs.trees.Groups.{count, tree_of, declared_by_id};
+ghost use Rattle.wasm_module_validator_type_storage.specs.trees.BelowIds.{undeclared};
 ghost use Rattle.wasm_module_validator_resources.specs.Reading.{names_in};
 ghost use Rattle.wasm_module_validator_resources.specs.Named.{tree_meant, IsInList, AreStoredAlike, HasSpan, IsUnderKind, IsOverKind, bottom_under};
 
 use crate::named::{Named, Span};
 use crate::resources::OperatorValidatorResources;
 use crate::types::stored_type;
-use wasm_module_validator_types::TypeList;
+use wasm_module_validator_type_list::TypeList;
+use wasm_types::laws::equality_is_of_declarations;
 use wasm_types::{AbstractHeapType, CoreTypeId, HeapType, RefType, ValType, equality_is_identity};
-use wasm_types_groups::laws::equality_is_of_declarations;
 
 // The bottom type below an abstract type that is a constructor's.
 fn bottom_of(kind: AbstractHeapType) -> AbstractHeapType

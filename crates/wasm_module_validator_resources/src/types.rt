@@ -1,23 +1,23 @@
 //! The types of a module by their indices and ids.
 
 ghost use Rattle.std.specs.Prelude.{◌≡◌, ◌↔◌, ◌+◌, ◌-◌, ◌<◌, ◌≤◌, ◌^◌, IsTrue, IfOk, IfErr, get_or};
-ghost use Rattle.wasm_types.specs.error.Denials.{Tells};
-ghost use Rattle.wasm_types.specs.error.declared.error.ErrorKind.TheVariants.{Other};
+ghost use Rattle.wasm_types.specs.decoding.Denials.{Tells};
+ghost use Rattle.wasm_types.specs.decoding.declared.error.ErrorKind.TheVariants.{Other};
 ghost use Rattle.wasm_types.specs.trees.Types.{entry_map};
 ghost use Rattle.wasm_types.specs.trees.Trees.{opened};
 ghost use Rattle.wasm_types.specs.trees.Below.{is_shared, expanded, abstract_above, DeclaredBelow};
 ghost use Rattle.wasm_types.specs.values.Trees.{abstract_of as abstract_in};
-ghost use Rattle.wasm_types.specs.groups.Entries.{inner_of, declared_of};
-ghost use Rattle.wasm_operator_validator_resources.specs.rules.Context.{IsTypeIndex, written_type};
+ghost use Rattle.wasm_types.specs.Entries.{inner_of, declared_of};
+ghost use Rattle.wasm_operator_validator_rules.specs.Context.{IsTypeIndex, written_type};
 ghost use Rattle.wasm_operator_validator_resources.specs.Meaning.{named_type, entry_in};
-ghost use Rattle.wasm_module_validator_type_trees.specs.Groups.{count, tree_of, declared_by_id};
-ghost use Rattle.wasm_module_validator_type_trees.specs.BelowIds.{undeclared};
+ghost use Rattle.wasm_module_validator_type_storage.specs.trees.Groups.{count, tree_of, declared_by_id};
+ghost use Rattle.wasm_module_validator_type_storage.specs.trees.BelowIds.{undeclared};
 ghost use Rattle.wasm_module_validator_resources.specs.Reading.{names_in, context_of};
 ghost use Rattle.wasm_module_validator_resources.specs.Named.{tree_meant, IsInList, IsNamedSo, AreStoredAlike, IsIdOf};
 
 use crate::named::{Named, Shape};
 use crate::resources::OperatorValidatorResources;
-use wasm_module_validator_types::TypeList;
+use wasm_module_validator_type_list::TypeList;
 use wasm_types::{
     AbstractHeapType, CompositeInnerType, CoreTypeId, Error, Result, SubType, UnpackedIndex,
 };

@@ -1,9 +1,9 @@
 -- The bounds of tables and memories, and sizes.
 use Rattle.std.proofs.Common.{refl, rules, inl}
-use Rattle.wasm_types.specs.features.Features.{has}
+use Rattle.wasm_types.specs.settings.Features.{has}
 use Rattle.wasm_types.specs.trees.Trees.{opened}
 use Rattle.wasm_types.specs.trees.ValidGroup.{types_from, done, next}
-use Rattle.wasm_types.specs.limits.Limits.{default_limits}
+use Rattle.wasm_types.specs.settings.Limits.{default_limits}
 use Rattle.wasm_module_validator_rules.specs.worked.Bounds.{BoundsWorked, SizesWorked}
 use Rattle.wasm_module_validator_rules.proofs.WorkedParts.{tables_hold, memories_hold, imports_hold, items_hold, exporting_holds, number_global, null_functions}
 

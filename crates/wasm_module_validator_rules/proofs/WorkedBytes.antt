@@ -6,19 +6,19 @@ use Rattle.wasm_types.specs.decoding.Lists.{IsListedWithin}
 use Rattle.wasm_types.specs.decoding.LebLaws.{decides-u32}
 use Rattle.wasm_types.specs.decoding.Decoder.{Grammar, Many}
 use Rattle.wasm_types.specs.decoding.Text.{IsSized}
-use Rattle.wasm_types.specs.limits.Limits.{default_limits}
-use Rattle.wasm_types.specs.indices.declared.index.UnpackedIndex.{UnpackedIndex}
+use Rattle.wasm_types.specs.settings.Limits.{default_limits}
+use Rattle.wasm_types.specs.trees.declared.index.UnpackedIndex.{UnpackedIndex}
 use Rattle.wasm_types.specs.trees.Types.{ValueOf, i32, number, function}
-use Rattle.wasm_types.specs.limits.Settings.{Settings}
-use Rattle.wasm_types.specs.features.Features.{Exceptions, has}
+use Rattle.wasm_types.specs.settings.Settings.{Settings}
+use Rattle.wasm_types.specs.settings.Features.{Exceptions, has}
 use Rattle.wasm_types.specs.trees.Gates.{Has}
 use Rattle.wasm_types.specs.trees.worked.Gates.{all_but}
 use Rattle.wasm_types.specs.trees.ValidGroup.{Written}
 use Rattle.wasm_types.specs.values.Spells.{SpellsValue}
-use Rattle.wasm_types.specs.groups.Entries.{Declared}
-use Rattle.wasm_types.specs.groups.Spells.{SpellsGroup}
-use Rattle.wasm_sections_frames.specs.Outer.{Part, code, section, IsBytes, Outer, SpelledOuter, SpelledPart, SpelledHeader, Counts, Declares, DeclaresOrAbsent, IsCoreModule}
-use Rattle.wasm_sections_frames.specs.OuterLaws.{one_outer}
+use Rattle.wasm_types.specs.Entries.{Declared}
+use Rattle.wasm_types.specs.Spells.{SpellsGroup}
+use Rattle.wasm_sections_items.specs.frames.Outer.{Part, code, section, IsBytes, Outer, SpelledOuter, SpelledPart, SpelledHeader, Counts, Declares, DeclaresOrAbsent, IsCoreModule}
+use Rattle.wasm_sections_items.specs.frames.OuterLaws.{one_outer}
 use Rattle.wasm_sections_items.specs.segments.Spells.{SpelledData}
 use Rattle.wasm_module_validator_rules.specs.Syntax.{ModuleTree}
 use Rattle.wasm_module_validator_rules.specs.Binary.{SpelledGroup, SpelledConstant, SpelledFunction, SpelledSections, SpelledModule}

@@ -1,16 +1,16 @@
 -- Code in functions of a module.
 use Rattle.std.specs.Prelude.{ℤ}
 use Rattle.std.proofs.Common.{false, List, [], ◌∷◌, length, refl, rules}
-use Rattle.wasm_types.specs.features.Features.{has}
+use Rattle.wasm_types.specs.settings.Features.{has}
 use Rattle.wasm_types.specs.trees.Trees.{opened}
 use Rattle.wasm_types.specs.trees.AbstractOrder.{same}
 use Rattle.wasm_types.specs.trees.ValidGroup.{types_from, done, next}
-use Rattle.wasm_types.specs.limits.Limits.{default_limits}
+use Rattle.wasm_types.specs.settings.Limits.{default_limits}
 use Rattle.wasm_types.specs.trees.Types.{i32, i64, number, ref, abstract, func}
 use Rattle.wasm_types.specs.trees.ValidGroup.{type_at}
 use Rattle.wasm_types.specs.values.declared.value.ValType.TheVariants as value
-use Rattle.wasm_operators_bodies.specs.reader.expression.immediates.declared.frames.FrameKind.TheVariants as frames
-use Rattle.wasm_operators_bodies.specs.reader.expression.Code.{Code}
+use Rattle.wasm_operators_immediates.specs.declared.frames.FrameKind.TheVariants as frames
+use Rattle.wasm_operators_encoding.specs.expressions.Code.{Code}
 use Rattle.wasm_operators_bodies.specs.Locals.{LocalGroup}
 use Rattle.wasm_operator_validator_rules.specs.Operands.{ValueType, Operand, known}
 use Rattle.wasm_operator_validator_rules.specs.Typed.{IsBody}

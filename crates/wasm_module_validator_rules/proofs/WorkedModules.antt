@@ -1,12 +1,12 @@
 -- The worked modules.
 use Rattle.std.specs.Prelude.{ℤ}
 use Rattle.std.proofs.Common.{true, false, [], refl, rules, inl, inr}
-use Rattle.wasm_types.specs.features.Features.{has}
+use Rattle.wasm_types.specs.settings.Features.{has}
 use Rattle.wasm_types.specs.trees.Trees.{opened}
 use Rattle.wasm_types.specs.trees.AbstractOrder.{same}
 use Rattle.wasm_types.specs.trees.Below.{itself}
 use Rattle.wasm_types.specs.trees.ValidGroup.{types_from, done, next}
-use Rattle.wasm_types.specs.limits.Limits.{default_limits}
+use Rattle.wasm_types.specs.settings.Limits.{default_limits}
 use Rattle.wasm_module_validator_rules.specs.worked.Modules.{FunctionsWorked, SpacesWorked, GlobalsWorked, SegmentsWorked, LimitsWorked, ContextWorked}
 use Rattle.wasm_module_validator_rules.specs.Spaces.{with_types}
 use Rattle.wasm_module_validator_rules.proofs.WorkedParts.{types_hold, tables_hold, memories_hold, tags_hold, imports_hold, globals_hold, items_hold, data_holds}

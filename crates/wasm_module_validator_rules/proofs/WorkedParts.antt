@@ -2,8 +2,8 @@
 use Rattle.std.specs.Prelude.{ℤ}
 use Rattle.std.specs.Int.RustNames.{bit_and}
 use Rattle.std.proofs.Common.{◌≡◌, ℕ, ◌+◌, ◌-◌, ◌^◌, ◌≤◌, Bool, true, List, [], ◌∷◌, length, Option, Some, false, refl, rules, slice_get, inl, inr}
-use Rattle.wasm_types.specs.limits.Settings.{Settings}
-use Rattle.wasm_types.specs.features.Features.{BulkMemory, Gc, has}
+use Rattle.wasm_types.specs.settings.Settings.{Settings}
+use Rattle.wasm_types.specs.settings.Features.{BulkMemory, Gc, has}
 use Rattle.wasm_types.specs.trees.Gates.{Has}
 use Rattle.wasm_types.specs.trees.Types.{i32, i64, number, ref, abstract, concrete, func}
 use Rattle.wasm_types.specs.trees.Trees.{TypeTree, opened}
@@ -15,11 +15,11 @@ use Rattle.wasm_types.specs.values.declared.heap.HeapType.TheVariants.{Abstract}
 use Rattle.wasm_types.specs.values.declared.value.ValType.TheVariants as value
 use Rattle.wasm_types.specs.externs.declared.memory.MemoryType.{MemoryType}
 use Rattle.wasm_types.specs.externs.declared.tag.TagType.{TagType}
-use Rattle.wasm_operators_bodies.specs.reader.expression.immediates.declared.frames.FrameKind.TheVariants.{Block}
-use Rattle.wasm_operators_bodies.specs.reader.expression.operator.Op.{Op}
-use Rattle.wasm_operators_bodies.specs.reader.expression.Code.{Code, plain}
-use Rattle.wasm_operators_bodies.specs.reader.expression.operator.Roles.{role_of, effect}
-use Rattle.wasm_operators_bodies.specs.reader.expression.operator.declared.role.Effect.TheVariants.{Stays}
+use Rattle.wasm_operators_immediates.specs.declared.frames.FrameKind.TheVariants.{Block}
+use Rattle.wasm_operators_enums.specs.Op.{Op}
+use Rattle.wasm_operators_encoding.specs.expressions.Code.{Code, plain}
+use Rattle.wasm_operators_enums.specs.Roles.{role_of, effect}
+use Rattle.wasm_operators_enums.specs.declared.role.Effect.TheVariants.{Stays}
 use Rattle.wasm_operators_bodies.specs.Locals.{LocalGroup, total}
 use Rattle.wasm_sections_items.specs.imports.Spells.{ImportTree, ExportTree}
 use Rattle.wasm_sections_items.specs.segments.Spells.{GlobalTree, DataTree}

@@ -1,11 +1,11 @@
 -- What the first release allows by itself.
 use Rattle.std.specs.Prelude.{ℤ}
 use Rattle.std.proofs.Common.{[], ◌∷◌, refl, rules, arith}
-use Rattle.wasm_types.specs.features.Features.{has}
+use Rattle.wasm_types.specs.settings.Features.{has}
 use Rattle.wasm_types.specs.trees.Trees.{opened}
 use Rattle.wasm_types.specs.trees.AbstractOrder.{same}
 use Rattle.wasm_types.specs.trees.ValidGroup.{types_from, done, next}
-use Rattle.wasm_types.specs.limits.Limits.{default_limits}
+use Rattle.wasm_types.specs.settings.Limits.{default_limits}
 use Rattle.wasm_types.specs.trees.Types.{f32, number}
 use Rattle.wasm_operator_validator_rules.specs.Operands.{Operand, known}
 use Rattle.wasm_module_validator_rules.specs.Spaces.{with_types}

@@ -1,7 +1,7 @@
 -- What a validator of modules accepts: bytes that spell a valid module, all of them (WebAssembly 3.0, binary format and validation).
 -- Bytes are a list of numbers below 256: a slice has no others.
 use Rattle.std.specs.Prelude.{ℕ, List}
-use Rattle.wasm_types.specs.limits.Settings.{Settings}
+use Rattle.wasm_types.specs.settings.Settings.{Settings}
 use Rattle.wasm_module_validator_rules.specs.Syntax.{ModuleTree}
 use Rattle.wasm_module_validator_rules.specs.Binary.{SpelledModule}
 use Rattle.wasm_module_validator_rules.specs.Valid.{IsValid}

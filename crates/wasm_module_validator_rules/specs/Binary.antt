@@ -7,20 +7,20 @@ use Rattle.std.specs.Prelude.{◌≡◌, ℕ, ◌≤◌, ◌==◌, List, [], ◌
 use Rattle.std.specs.List.{AllZip}
 use Rattle.wasm_types.specs.decoding.Decoder.{Grammar}
 use Rattle.wasm_types.specs.decoding.Leb.{IsUnsigned, IsListed}
-use Rattle.wasm_types.specs.limits.Settings.{Settings}
-use Rattle.wasm_types.specs.features.Features.{Exceptions}
-use Rattle.wasm_types.specs.indices.declared.index.UnpackedIndex.TheVariants as index
+use Rattle.wasm_types.specs.settings.Settings.{Settings}
+use Rattle.wasm_types.specs.settings.Features.{Exceptions}
+use Rattle.wasm_types.specs.trees.declared.index.UnpackedIndex.TheVariants as index
 use Rattle.wasm_types.specs.trees.Types.{SubtypeOf, entry_of_subtype, subtype_map}
 use Rattle.wasm_types.specs.trees.Gates.{Has}
 use Rattle.wasm_types.specs.trees.ValidGroup.{Written}
-use Rattle.wasm_types.specs.groups.Entries.{Declared}
-use Rattle.wasm_types.specs.groups.Spells.{SpellsGroup}
+use Rattle.wasm_types.specs.Entries.{Declared}
+use Rattle.wasm_types.specs.Spells.{SpellsGroup}
 use Rattle.wasm_types.specs.externs.Spells.{SpelledMemory, SpelledTag}
-use Rattle.wasm_operators_bodies.specs.reader.expression.Code.{Code, walk}
-use Rattle.wasm_operators_bodies.specs.reader.expression.Spelling.{SpelledExpression}
+use Rattle.wasm_operators_encoding.specs.expressions.Code.{Code, walk}
+use Rattle.wasm_operators_encoding.specs.expressions.Spelling.{SpelledExpression}
 use Rattle.wasm_operators_bodies.specs.Locals.{SpelledLocals}
 use Rattle.wasm_operators_bodies.specs.Constants.{EndsOnce}
-use Rattle.wasm_sections_frames.specs.Outer.{Part, custom, code, section, Outer, SpelledOuter, IsCoreModule}
+use Rattle.wasm_sections_items.specs.frames.Outer.{Part, custom, code, section, Outer, SpelledOuter, IsCoreModule}
 use Rattle.wasm_sections_items.specs.imports.Spells.{SpelledImport, SpelledExport}
 use Rattle.wasm_sections_items.specs.segments.Spells.{SpelledGlobalItem, SpelledData}
 use Rattle.wasm_sections_items.specs.segments.Tables.{SpelledTableItem}

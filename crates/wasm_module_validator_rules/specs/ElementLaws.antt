@@ -2,9 +2,9 @@
 use Rattle.std.proofs.Common.{◌≡◌, ℕ, zero, suc, ◌+◌, List, [], ◌∷◌, length, Some, None, refl, sym, ap, ◌∙◌, subst}
 use Rattle.wasm_types.specs.decoding.Decoder.{Many}
 use Rattle.wasm_types.specs.decoding.Leb.{IsUnsigned, IsListed}
-use Rattle.wasm_types.specs.limits.Settings.{Settings}
-use Rattle.wasm_operators_bodies.specs.reader.expression.Code.{Code}
-use Rattle.wasm_operators_bodies.specs.reader.expression.SpellingLaws.{one_expression}
+use Rattle.wasm_types.specs.settings.Settings.{Settings}
+use Rattle.wasm_operators_encoding.specs.expressions.Code.{Code}
+use Rattle.wasm_operators_encoding.specs.expressions.SpellingLaws.{one_expression}
 use Rattle.wasm_operators_bodies.specs.ConstantDecoder.{constant}
 use Rattle.wasm_operators_bodies.specs.ConstantDecoderLaws.{decides-constant}
 use Rattle.wasm_sections_items.specs.elements.Spells.{ElementTree, ElementMode, ElementItems, passive, active, declared, functions, expressions, use_bits, kind_bits}

@@ -8,7 +8,5 @@ pub mod Accepts
 pub mod UniqueLaws
 pub mod ElementLaws
 pub mod ModuleLaws
--- The rules of constant expressions, under their name: `Valid` cites them.
-pub use Rattle.wasm_operator_validator_rules.specs as operator_rules
 -- Worked modules: those that are valid and those that are not, a pair for each rule.
 pub mod worked

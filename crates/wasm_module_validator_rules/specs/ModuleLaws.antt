@@ -4,29 +4,29 @@ use Rattle.std.specs.List.{AllZip}
 use Rattle.wasm_types.specs.decoding.Decoder.{Grammar}
 use Rattle.wasm_types.specs.decoding.Leb.{u32, IsUnsigned, IsListed}
 use Rattle.wasm_types.specs.decoding.LebLaws.{decides-u32}
-use Rattle.wasm_types.specs.limits.Settings.{Settings}
-use Rattle.wasm_types.specs.indices.declared.index.UnpackedIndex.TheVariants as index
+use Rattle.wasm_types.specs.settings.Settings.{Settings}
+use Rattle.wasm_types.specs.trees.declared.index.UnpackedIndex.TheVariants as index
 use Rattle.wasm_types.specs.trees.Types.{ValueOf, number, ref, abstract, concrete, exact, StorageOf, i8, i16, value, FieldOf, InnerOf, function, array_of, struct_of, continuation}
 use Rattle.wasm_types.specs.trees.Types.{SubtypeOf, EntryOf}
 use Rattle.wasm_types.specs.trees.Each.{EachOption, EachValue, EachValues, EachStorage, EachFields, EachInner, EachEntry}
 use Rattle.wasm_types.specs.trees.laws.Types.{entries_same}
 use Rattle.wasm_types.specs.trees.ValidGroup.{Written}
-use Rattle.wasm_types.specs.groups.Entries.{Declared}
-use Rattle.wasm_types.specs.groups.Spells.{SpellsGroup}
-use Rattle.wasm_types.specs.groups.SpellsTypes.{GroupValue, declared_by as declares, SpelledGroup as GroupText}
-use Rattle.wasm_types.specs.groups.DecodeTypes.{rec_group}
-use Rattle.wasm_types.specs.groups.TypeLaws.{decides-rec_group}
-use Rattle.wasm_types.specs.groups.SpellsLaws.{group_from}
-use Rattle.wasm_types.specs.groups.TreeLaws.{group_read}
+use Rattle.wasm_types.specs.Entries.{Declared}
+use Rattle.wasm_types.specs.Spells.{SpellsGroup}
+use Rattle.wasm_types.specs.SpellsTypes.{GroupValue, declared_by as declares, SpelledGroup as GroupText}
+use Rattle.wasm_types.specs.DecodeTypes.{rec_group}
+use Rattle.wasm_types.specs.TypeLaws.{decides-rec_group}
+use Rattle.wasm_types.specs.SpellsLaws.{group_from}
+use Rattle.wasm_types.specs.TreeLaws.{group_read}
 use Rattle.wasm_types.specs.externs.Decode.{memory_type, tag_type}
 use Rattle.wasm_types.specs.externs.Spells.{SpelledMemory, SpelledTag}
 use Rattle.wasm_types.specs.externs.DecodeLaws.{decides-memory_type, decides-tag_type}
-use Rattle.wasm_operators_bodies.specs.reader.expression.Spelling.{SpelledExpression}
-use Rattle.wasm_operators_bodies.specs.reader.expression.SpellingLaws.{one_expression}
+use Rattle.wasm_operators_encoding.specs.expressions.Spelling.{SpelledExpression}
+use Rattle.wasm_operators_encoding.specs.expressions.SpellingLaws.{one_expression}
 use Rattle.wasm_operators_bodies.specs.Locals.{locals, SpelledLocals}
 use Rattle.wasm_operators_bodies.specs.LocalsLaws.{decides-locals}
-use Rattle.wasm_sections_frames.specs.Outer.{Outer}
-use Rattle.wasm_sections_frames.specs.OuterLaws.{one_outer}
+use Rattle.wasm_sections_items.specs.frames.Outer.{Outer}
+use Rattle.wasm_sections_items.specs.frames.OuterLaws.{one_outer}
 use Rattle.wasm_sections_items.specs.imports.Spells.{SpelledImport, SpelledExport}
 use Rattle.wasm_sections_items.specs.imports.Decode.{import, export}
 use Rattle.wasm_sections_items.specs.imports.DecodeLaws.{decides-import, decides-export}

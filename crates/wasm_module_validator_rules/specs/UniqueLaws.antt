@@ -4,14 +4,14 @@ use Rattle.std.proofs.lemmas.List.{append-nil, append_assoc}
 use Rattle.wasm_types.specs.decoding.Decoder.{Decoder, Grammar, Decides, Many}
 use Rattle.wasm_types.specs.decoding.Leb.{u32, IsUnsigned, IsListed}
 use Rattle.wasm_types.specs.decoding.LebLaws.{decides-u32}
-use Rattle.wasm_types.specs.limits.Settings.{Settings}
+use Rattle.wasm_types.specs.settings.Settings.{Settings}
 use Rattle.wasm_types.specs.externs.declared.table.TableType.{TableType}
-use Rattle.wasm_operators_bodies.specs.reader.expression.Code.{Code}
-use Rattle.wasm_operators_bodies.specs.reader.expression.Spelling.{SpelledExpression}
-use Rattle.wasm_operators_bodies.specs.reader.expression.SpellingLaws.{one_expression}
+use Rattle.wasm_operators_encoding.specs.expressions.Code.{Code}
+use Rattle.wasm_operators_encoding.specs.expressions.Spelling.{SpelledExpression}
+use Rattle.wasm_operators_encoding.specs.expressions.SpellingLaws.{one_expression}
 use Rattle.wasm_operators_bodies.specs.ConstantDecoder.{constant, ConstantText}
 use Rattle.wasm_operators_bodies.specs.ConstantDecoderLaws.{decides-constant}
-use Rattle.wasm_sections_frames.specs.OuterLaws.{one}
+use Rattle.wasm_sections_items.specs.frames.OuterLaws.{one}
 use Rattle.wasm_sections_items.specs.segments.Spells.{GlobalTree, SpelledGlobalItem, DataTree, DataMode, SpelledData}
 use Rattle.wasm_sections_items.specs.segments.Spells as mode
 use Rattle.wasm_sections_items.specs.segments.Decode.{global, data_segment}

@@ -6,9 +6,9 @@
 use Rattle.std.specs.Prelude.{◌≡◌, ◌⊎◌, ℕ, suc, ◌+◌, ◌≤◌, ◌<◌, ◌^◌, ◌/◌, ◌-◌, min, Bool, true, false, IsTrue, List}
 use Rattle.std.specs.Prelude.{[], ◌∷◌, ◌++◌, length, map, flat_map, replicate, Option, Some, None, slice_get, if◌then◌else◌}
 use Rattle.std.specs.List.{AllZip}
-use Rattle.wasm_types.specs.limits.Settings.{Settings}
-use Rattle.wasm_types.specs.features.Features.{MutableGlobal, ReferenceTypes, BulkMemory, Threads, SharedEverythingThreads, MultiMemory, Exceptions, Memory64}
-use Rattle.wasm_types.specs.features.Features.{FunctionReferences, CustomPageSizes, StackSwitching, CustomDescriptors, has}
+use Rattle.wasm_types.specs.settings.Settings.{Settings}
+use Rattle.wasm_types.specs.settings.Features.{MutableGlobal, ReferenceTypes, BulkMemory, Threads, SharedEverythingThreads, MultiMemory, Exceptions, Memory64}
+use Rattle.wasm_types.specs.settings.Features.{FunctionReferences, CustomPageSizes, StackSwitching, CustomDescriptors, has}
 use Rattle.wasm_types.specs.trees.Types.{InnerOf, function}
 use Rattle.wasm_types.specs.trees.Trees.{TypeTree}
 use Rattle.wasm_types.specs.trees.Below.{Below, expanded, is_shared, value_is_shared}
@@ -21,7 +21,7 @@ use Rattle.wasm_types.specs.externs.declared.table.TableType.{TableType}
 use Rattle.wasm_types.specs.externs.declared.memory.MemoryType.{MemoryType}
 use Rattle.wasm_types.specs.externs.declared.global.GlobalType.{GlobalType}
 use Rattle.wasm_types.specs.externs.declared.tag.TagType.{TagType}
-use Rattle.wasm_operators_bodies.specs.reader.expression.Code.{Code}
+use Rattle.wasm_operators_encoding.specs.expressions.Code.{Code}
 use Rattle.wasm_operators_bodies.specs.Locals.{LocalGroup, total}
 use Rattle.wasm_sections_items.specs.declared.imports.kind.ExternalKind.{ExternalKind}
 use Rattle.wasm_sections_items.specs.declared.imports.kind.ExternalKind.TheVariants as kind

@@ -1,7 +1,7 @@
 //! Laws of the rules, each on the contract of a function that does nothing.
 
 ghost use Rattle.std.specs.Prelude.{◌≡◌, ℕ, List};
-ghost use Rattle.wasm_types.specs.limits.Settings.{Settings};
+ghost use Rattle.wasm_types.specs.settings.Settings.{Settings};
 ghost use Rattle.wasm_module_validator_rules.specs.Syntax.{ModuleTree};
 ghost use Rattle.wasm_module_validator_rules.specs.Binary.{SpelledModule};
 

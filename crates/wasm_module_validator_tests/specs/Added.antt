@@ -1,24 +1,24 @@
 -- What the spaces of a module and the context of the rules are with an item more (WebAssembly 3.0, structure, modules, indices; validation,
 -- conventions, contexts): each item stands behind those of its space.
 use Rattle.std.specs.Prelude.{◌≡◌, ℕ, Bool, true, false, List, [], ◌∷◌, Some}
-use Rattle.wasm_types.specs.limits.Settings.{Settings}
+use Rattle.wasm_types.specs.settings.Settings.{Settings}
 use Rattle.wasm_types.specs.trees.Types.{number, ref, abstract, i32, func, extern}
 use Rattle.wasm_types.specs.trees.Trees.{TypeTree}
 use Rattle.wasm_types.specs.trees.worked.Types.{base, derived, routine}
 use Rattle.wasm_types.specs.values.declared.value.ValType.TheVariants as value
-use Rattle.wasm_types.specs.indices.declared.index.CoreTypeId.{CoreTypeId}
+use Rattle.wasm_types.specs.trees.declared.index.CoreTypeId.{CoreTypeId}
 use Rattle.wasm_sections_items.specs.declared.imports.kind.ExternalKind.TheVariants as kind
 use Rattle.wasm_sections_items.specs.declared.imports.type_ref.TypeRef.TheVariants as import
-use Rattle.wasm_module_validator_module.specs.declared.module.Function.{Function}
-use Rattle.wasm_module_validator_module.specs.Spaces.{Spaces, nothing_read, own_function, imported_function}
-use Rattle.wasm_module_validator_standing.specs.steps.contexts.rules.operator_rules.Context.{Module}
-use Rattle.wasm_module_validator_standing.specs.steps.contexts.rules.worked.Trees.{funcref, externref, table_with, memory_with, constant_of, variable_of, tag_with}
-use Rattle.wasm_module_validator_standing.specs.type_trees.Worked.{id_of, both}
-use Rattle.wasm_module_validator_standing.specs.type_trees.Groups.{tree_of}
-use Rattle.wasm_module_validator_standing.specs.items.Adding.{adding_function, importing_function, adding_table, adding_memory, adding_global, adding_tag, adding_element, counting_data, referring, importing, exporting}
-use Rattle.wasm_module_validator_standing.specs.items.Contexts as context
-use Rattle.wasm_module_validator_standing.specs.items.Contexts.{AlsoRefers, IsWithExport}
-use Rattle.wasm_module_validator_standing.specs.resources.Reading.{types_by_id, with_types, places, context_of, meaning_of}
+use Rattle.wasm_module_validator_initialisers.specs.index_spaces.declared.module.Function.{Function}
+use Rattle.wasm_module_validator_initialisers.specs.index_spaces.Spaces.{Spaces, nothing_read, own_function, imported_function}
+use Rattle.wasm_operator_validator_rules.specs.Context.{Module}
+use Rattle.wasm_module_validator_section_order.specs.rules.worked.Trees.{funcref, externref, table_with, memory_with, constant_of, variable_of, tag_with}
+use Rattle.wasm_module_validator_type_storage.specs.trees.Worked.{id_of, both}
+use Rattle.wasm_module_validator_type_storage.specs.trees.Groups.{tree_of}
+use Rattle.wasm_module_validator_initialisers.specs.state.Adding.{adding_function, importing_function, adding_table, adding_memory, adding_global, adding_tag, adding_element, counting_data, referring, importing, exporting}
+use Rattle.wasm_module_validator_initialisers.specs.state.Contexts as context
+use Rattle.wasm_module_validator_initialisers.specs.state.Contexts.{AlsoRefers, IsWithExport}
+use Rattle.wasm_module_validator_initialisers.specs.resources.Reading.{types_by_id, with_types, places, context_of, meaning_of}
 
 -- two functions of its own, of which nothing is referred to, and one that is imported
 abbrev pub own : ℕ → Function

@@ -1,12 +1,12 @@
 -- The rows of `Added`.
 use Rattle.std.proofs.Common.{◌≡◌, ◌⊎◌, ◌<◌, inl, inr, ℕ, List, [], ◌∷◌, Option, Some, None, refl, ap, arith, lit<}
-use Rattle.wasm_types.specs.limits.Settings.{Settings}
+use Rattle.wasm_types.specs.settings.Settings.{Settings}
 use Rattle.wasm_types.specs.trees.Unfold.{type_count, type_tree}
 use Rattle.wasm_types.specs.trees.ValidGroup.{types_from}
-use Rattle.wasm_module_validator_standing.specs.steps.contexts.rules.operator_rules.Context.{Module}
-use Rattle.wasm_module_validator_standing.specs.items.Contexts.{AlsoRefers}
-use Rattle.wasm_module_validator_standing.specs.resources.Reading.{types_by_id}
-use Rattle.wasm_module_validator_referring.specs.Referring.{type_in}
+use Rattle.wasm_operator_validator_rules.specs.Context.{Module}
+use Rattle.wasm_module_validator_initialisers.specs.state.Contexts.{AlsoRefers}
+use Rattle.wasm_module_validator_initialisers.specs.resources.Reading.{types_by_id}
+use Rattle.wasm_module_validator_initialisers.specs.resources.referring.Referring.{type_in}
 use Rattle.wasm_module_validator_tests.specs.Added.{SpacesAdded, SpacesMarked, ContextsAdded, ContextsRefer, ModulesMean, one_function}
 
 pub spaces_added : (z : Settings) → SpacesAdded z

@@ -3,22 +3,22 @@
 -- bytes spell a function that is valid.
 use Rattle.std.specs.Prelude.{◌≡◌, ◌+◌, ◌<◌, ℕ, true, false, List, [], ◌∷◌, length, Some, None, slice_get, Result, Ok, Err}
 use Rattle.wasm_types.specs.decoding.Decoder.{State as Bytes}
-use Rattle.wasm_types.specs.error.ErrorValue.{ErrorValue}
-use Rattle.wasm_types.specs.error.declared.error.ErrorKind.{ErrorKind}
-use Rattle.wasm_types.specs.error.declared.error.ErrorKind.TheVariants.{Failed, Other}
-use Rattle.wasm_types.specs.limits.Limits.{default_limits}
-use Rattle.wasm_types.specs.limits.declared.Limits.{Limits}
-use Rattle.wasm_types.specs.limits.Settings.{Settings, no_features}
+use Rattle.wasm_types.specs.decoding.ErrorValue.{ErrorValue}
+use Rattle.wasm_types.specs.decoding.declared.error.ErrorKind.{ErrorKind}
+use Rattle.wasm_types.specs.decoding.declared.error.ErrorKind.TheVariants.{Failed, Other}
+use Rattle.wasm_types.specs.settings.Limits.{default_limits}
+use Rattle.wasm_types.specs.settings.declared.Limits.{Limits}
+use Rattle.wasm_types.specs.settings.Settings.{Settings, no_features}
 use Rattle.wasm_types.specs.trees.Trees.{TypeTree}
 use Rattle.wasm_types.specs.values.declared.value.ValType.TheVariants.{I32}
-use Rattle.wasm_operator_validator_stacks.specs.expression.operator.Op.{Op}
-use Rattle.wasm_operator_validator_stacks.specs.rules.Context.{Module, Signature, IsFunctionType}
-use Rattle.wasm_operator_validator_stacks.specs.resources.Meaning.{Meaning}
-use Rattle.wasm_operator_validator_stacks.specs.state.State.{State}
-use Rattle.wasm_operator_validator_expression.specs.Validating.{Validates}
-use Rattle.wasm_module_validator_functions.specs.Locals.{judged_by, ReadsLocals, DefinesMore}
-use Rattle.wasm_module_validator_functions.specs.Functions.{SpellsValidFunction, ValidatesFunction}
-use Rattle.wasm_module_validator_functions.specs.Trying.{settled, Tries}
+use Rattle.wasm_operators_enums.specs.Op.{Op}
+use Rattle.wasm_operator_validator_rules.specs.Context.{Module, Signature, IsFunctionType}
+use Rattle.wasm_operator_validator_state.specs.resources.Meaning.{Meaning}
+use Rattle.wasm_operator_validator_state.specs.State.{State}
+use Rattle.wasm_module_validator_initialisers.specs.operator_expression.Validating.{Validates}
+use Rattle.wasm_module_validator_function_bodies.specs.Locals.{judged_by, ReadsLocals, DefinesMore}
+use Rattle.wasm_module_validator_function_bodies.specs.Functions.{SpellsValidFunction, ValidatesFunction}
+use Rattle.wasm_module_validator_function_bodies.specs.Trying.{settled, Tries}
 
 -- ---- where something was refused before
 

@@ -1,20 +1,20 @@
 -- The rows of `Bodies`.
 use Rattle.std.proofs.Common.{◌≡◌, ◌⊎◌, ◌∙◌, ◌+◌, ◌<◌, ◌≤◌, inl, inr, ℕ, Bool, true, false, List, [], ◌∷◌, length, Option, Some, None, Ok, Err, slice_get, refl, sym, ap, arith, lit≤}
 use Rattle.wasm_types.specs.decoding.Decoder.{State as Bytes}
-use Rattle.wasm_types.specs.error.declared.error.ErrorKind.{ErrorKind}
-use Rattle.wasm_types.specs.error.declared.error.ErrorKind.TheVariants.{Failed, Other}
-use Rattle.wasm_types.specs.limits.Limits.{default_limits}
-use Rattle.wasm_types.specs.limits.declared.Limits.{Limits}
-use Rattle.wasm_types.specs.limits.Settings.{no_features}
+use Rattle.wasm_types.specs.decoding.declared.error.ErrorKind.{ErrorKind}
+use Rattle.wasm_types.specs.decoding.declared.error.ErrorKind.TheVariants.{Failed, Other}
+use Rattle.wasm_types.specs.settings.Limits.{default_limits}
+use Rattle.wasm_types.specs.settings.declared.Limits.{Limits}
+use Rattle.wasm_types.specs.settings.Settings.{no_features}
 use Rattle.wasm_types.specs.values.declared.value.ValType.TheVariants.{I32}
-use Rattle.wasm_operator_validator_stacks.specs.expression.operator.Op.{Op}
-use Rattle.wasm_operator_validator_stacks.specs.rules.Context.{Module}
-use Rattle.wasm_operator_validator_stacks.specs.resources.Meaning.{Meaning}
-use Rattle.wasm_operator_validator_stacks.specs.state.State.{Given, State}
-use Rattle.wasm_operator_validator_stacks.specs.state.laws.Accepting.{accepts_not_failed}
-use Rattle.wasm_module_validator_functions.specs.Locals.{RefusesMore}
-use Rattle.wasm_module_validator_functions.specs.laws.Functions.{functions_are}
-use Rattle.wasm_module_validator_functions.specs.code.Worked.{body_rows}
+use Rattle.wasm_operators_enums.specs.Op.{Op}
+use Rattle.wasm_operator_validator_rules.specs.Context.{Module}
+use Rattle.wasm_operator_validator_state.specs.resources.Meaning.{Meaning}
+use Rattle.wasm_operator_validator_state.specs.State.{Given, State}
+use Rattle.wasm_operator_validator_state.specs.laws.Accepting.{accepts_not_failed}
+use Rattle.wasm_module_validator_function_bodies.specs.Locals.{RefusesMore}
+use Rattle.wasm_module_validator_function_bodies.specs.laws.Functions.{functions_are}
+use Rattle.wasm_module_validator_function_bodies.specs.code.Worked.{body_rows}
 use Rattle.wasm_module_validator_tests.specs.Bodies.{fault_at, LocalsRead, ExpressionsValidated, FunctionsValidated, OperatorsTried, FramesClosed, empty_body, FunctionsSpelled}
 
 untrue : (b : Bool) → b ≡ true → b ≡ false → ⊥

@@ -2,26 +2,26 @@
 -- validation, modules, functions and locals). What expressions refer to (validation, modules, where the context has them as C.refs).
 use Rattle.std.specs.Prelude.{◌≡◌, ℕ, true, List, [], ◌∷◌, Some, None, slice_get, Ok}
 use Rattle.wasm_types.specs.decoding.Decoder.{State as Bytes}
-use Rattle.wasm_types.specs.limits.Limits.{default_limits}
-use Rattle.wasm_types.specs.limits.Settings.{no_features}
+use Rattle.wasm_types.specs.settings.Limits.{default_limits}
+use Rattle.wasm_types.specs.settings.Settings.{no_features}
 use Rattle.wasm_types.specs.trees.Trees.{TypeTree}
 use Rattle.wasm_types.specs.trees.Below.{is_shared}
 use Rattle.wasm_types.specs.values.declared.value.ValType.TheVariants.{I32}
-use Rattle.wasm_operator_validator_stacks.specs.expression.immediates.declared.block.BlockType.TheVariants as block
-use Rattle.wasm_operator_validator_stacks.specs.expression.groups.declared.control.ControlOperator.TheVariants as control
-use Rattle.wasm_operator_validator_stacks.specs.expression.operator.Op as op
-use Rattle.wasm_operator_validator_stacks.specs.expression.operator.Op.{Op}
-use Rattle.wasm_operator_validator_stacks.specs.rules.Context.{Signature, IsFunctionType}
-use Rattle.wasm_operator_validator_stacks.specs.resources.Meaning.{Meaning}
-use Rattle.wasm_operator_validator_stacks.specs.state.State.{State}
-use Rattle.wasm_operator_validator_stacks.specs.state.Bodies.{fresh}
-use Rattle.wasm_operator_validator_stacks.specs.state.worked.Bodies.{body_of}
+use Rattle.wasm_operators_immediates.specs.declared.block.BlockType.TheVariants as block
+use Rattle.wasm_operators_enums.specs.declared.control.ControlOperator.TheVariants as control
+use Rattle.wasm_operators_enums.specs.Op as op
+use Rattle.wasm_operators_enums.specs.Op.{Op}
+use Rattle.wasm_operator_validator_rules.specs.Context.{Signature, IsFunctionType}
+use Rattle.wasm_operator_validator_state.specs.resources.Meaning.{Meaning}
+use Rattle.wasm_operator_validator_state.specs.State.{State}
+use Rattle.wasm_operator_validator_state.specs.Bodies.{fresh}
+use Rattle.wasm_operator_validator_state.specs.worked.Bodies.{body_of}
 use Rattle.wasm_operator_validator_stacks.specs.Layout.{none_saved}
 use Rattle.wasm_operator_validator_stacks.specs.Defining.{with_locals}
-use Rattle.wasm_module_validator_functions.specs.Locals.{ReadsLocals, DefinesMore}
-use Rattle.wasm_module_validator_functions.specs.Functions.{ValidatesFunction}
-use Rattle.wasm_module_validator_functions.specs.Trying.{Tries}
-use Rattle.wasm_module_validator_referring.specs.Naming.{NamesMore}
+use Rattle.wasm_module_validator_function_bodies.specs.Locals.{ReadsLocals, DefinesMore}
+use Rattle.wasm_module_validator_function_bodies.specs.Functions.{ValidatesFunction}
+use Rattle.wasm_module_validator_function_bodies.specs.Trying.{Tries}
+use Rattle.wasm_module_validator_initialisers.specs.resources.referring.Naming.{NamesMore}
 
 -- these bytes behind so many, without features
 abbrev pub bytes_at : ℕ → List ℕ → Bytes

@@ -3,38 +3,38 @@ use Rattle.std.proofs.Common.{◌≡◌, ◌∙◌, ◌+◌, ℕ, true, false, L
 use Rattle.wasm_types.specs.decoding.Decoder.{State as Bytes, Done}
 use Rattle.wasm_types.specs.decoding.Leb.{unsigned, last}
 use Rattle.wasm_types.specs.decoding.ExactLaws.{state_is, value_is}
-use Rattle.wasm_types.specs.limits.Limits.{default_limits}
-use Rattle.wasm_types.specs.limits.Settings.{no_features}
+use Rattle.wasm_types.specs.settings.Limits.{default_limits}
+use Rattle.wasm_types.specs.settings.Settings.{no_features}
 use Rattle.wasm_types.specs.trees.Trees.{TypeTree}
 use Rattle.wasm_types.specs.values.declared.value.ValType.TheVariants.{I32}
-use Rattle.wasm_operators_reader.specs.immediates.declared.frames.FrameKind.TheVariants.{Block}
-use Rattle.wasm_operators_reader.specs.operator.groups.declared.bulk.BulkOperator.TheVariants as bulk
-use Rattle.wasm_operators_reader.specs.decode_encoding.Opcodes.{opcode}
-use Rattle.wasm_operators_reader.specs.decode_encoding.Groups.{numeric_kinds, simd_numeric_kinds}
-use Rattle.wasm_operators_reader.specs.decode_encoding.Coded.{operator}
-use Rattle.wasm_operators_reader.specs.decode_encoding.decode_immediates.Immediates.{immediate}
+use Rattle.wasm_operators_immediates.specs.declared.frames.FrameKind.TheVariants.{Block}
+use Rattle.wasm_operators_enums.specs.declared.bulk.BulkOperator.TheVariants as bulk
+use Rattle.wasm_operators_encoding.specs.Opcodes.{opcode}
+use Rattle.wasm_operators_encoding.specs.Groups.{numeric_kinds, simd_numeric_kinds}
+use Rattle.wasm_operators_encoding.specs.Coded.{operator}
+use Rattle.wasm_operators_encoding.specs.immediates.Immediates.{immediate}
 use Rattle.wasm_operators_reader.specs.Standing.{Standing, at_start, Runs, IsFinished}
 use Rattle.wasm_operators_reader.specs.RunLaws.{run_expression}
-use Rattle.wasm_operator_validator_stacks.specs.expression.info.declared.proposal.Proposal.TheVariants.{Mvp}
-use Rattle.wasm_operator_validator_stacks.specs.expression.operator.Op as op
-use Rattle.wasm_operator_validator_stacks.specs.expression.operator.Op.{Op}
-use Rattle.wasm_operator_validator_stacks.specs.rules.Context.{IsFunctionType}
-use Rattle.wasm_operator_validator_stacks.specs.resources.Meaning.{Meaning, type_in}
+use Rattle.wasm_operators_immediates.specs.declared.proposal.Proposal.TheVariants.{Mvp}
+use Rattle.wasm_operators_enums.specs.Op as op
+use Rattle.wasm_operators_enums.specs.Op.{Op}
+use Rattle.wasm_operator_validator_rules.specs.Context.{IsFunctionType}
+use Rattle.wasm_operator_validator_state.specs.resources.Meaning.{Meaning, type_in}
 use Rattle.wasm_operator_validator_stacks.specs.Defining.{with_locals}
-use Rattle.wasm_operator_validator_stacks.specs.state.State.{State, Open, Accepts, Decides, Checks}
-use Rattle.wasm_operator_validator_stacks.specs.state.Entering.{MayBegin}
-use Rattle.wasm_operator_validator_stacks.specs.state.laws.Accepting.{accepts_nothing, ends}
-use Rattle.wasm_operator_validator_stacks.specs.state.laws.Entering.{nothing_asked}
-use Rattle.wasm_operator_validator_determined.specs.Operators.{IsPlain}
-use Rattle.wasm_operator_validator_determined.specs.laws.Determined.{by_types, unchanged}
-use Rattle.wasm_operator_validator_determined.specs.laws.Same.{stays_refl}
-use Rattle.wasm_operator_validator_functions.specs.Functions.{Begins}
-use Rattle.wasm_module_validator_functions.specs.Locals.{SpellsLocals, DefinesAll, TakesLocals}
-use Rattle.wasm_module_validator_functions.specs.Functions.{SpellsValidFunction}
-use Rattle.wasm_module_validator_functions.specs.laws.Functions.{functions_are, valid_accepted}
-use Rattle.wasm_module_validator_functions.specs.code.Worked.{body_rows}
-use Rattle.wasm_module_validator_referring.specs.Naming.{NamesMore}
-use Rattle.wasm_module_validator_referring.specs.NamingLaws.{names_more}
+use Rattle.wasm_operator_validator_state.specs.State.{State, Open, Accepts, Decides, Checks}
+use Rattle.wasm_operator_validator_state.specs.Entering.{MayBegin}
+use Rattle.wasm_operator_validator_state.specs.laws.Accepting.{accepts_nothing, ends}
+use Rattle.wasm_operator_validator_state.specs.laws.Entering.{nothing_asked}
+use Rattle.wasm_operator_validator_stacks.specs.determined.Operators.{IsPlain}
+use Rattle.wasm_operator_validator_stacks.specs.determined.laws.Determined.{by_types, unchanged}
+use Rattle.wasm_operator_validator_stacks.specs.determined.laws.Same.{stays_refl}
+use Rattle.wasm_operator_validator_stacks.specs.Functions.{Begins}
+use Rattle.wasm_module_validator_function_bodies.specs.Locals.{SpellsLocals, DefinesAll, TakesLocals}
+use Rattle.wasm_module_validator_function_bodies.specs.Functions.{SpellsValidFunction}
+use Rattle.wasm_module_validator_function_bodies.specs.laws.Functions.{functions_are, valid_accepted}
+use Rattle.wasm_module_validator_function_bodies.specs.code.Worked.{body_rows}
+use Rattle.wasm_module_validator_initialisers.specs.resources.referring.Naming.{NamesMore}
+use Rattle.wasm_module_validator_initialisers.specs.resources.referring.NamingLaws.{names_more}
 use Rattle.wasm_operators_bodies.specs.Locals.{LocalGroup, groups_within, locals}
 use Rattle.wasm_module_validator_tests.specs.Done.{bytes_at, beginning, no_locals, LocalsDone, nop, end, TriesDone, of_type, nothing, BodiesDone, reference, nothing_named, FunctionsNamed}
 

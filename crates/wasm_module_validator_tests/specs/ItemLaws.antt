@@ -1,30 +1,30 @@
 -- The rows of `Items`.
 use Rattle.std.proofs.Common.{◌≡◌, ◌⊎◌, inl, inr, ◌+◌, ◌<◌, ℕ, Bool, true, false, List, [], ◌∷◌, Option, Some, None, All, zero, suc, refl, ap, arith, lit<, rules}
-use Rattle.wasm_types.specs.features.Features.{has}
-use Rattle.wasm_types.specs.features.declared.WasmFeatures.{WasmFeatures}
-use Rattle.wasm_types.specs.limits.Limits.{default_limits}
-use Rattle.wasm_types.specs.limits.Settings.{Settings}
-use Rattle.wasm_types.specs.limits.declared.Limits.{Limits}
+use Rattle.wasm_types.specs.settings.Features.{has}
+use Rattle.wasm_types.specs.settings.declared.WasmFeatures.{WasmFeatures}
+use Rattle.wasm_types.specs.settings.Limits.{default_limits}
+use Rattle.wasm_types.specs.settings.Settings.{Settings}
+use Rattle.wasm_types.specs.settings.declared.Limits.{Limits}
 use Rattle.wasm_types.specs.trees.Trees.{opened}
 use Rattle.wasm_types.specs.trees.Unfold.{type_count, type_tree}
-use Rattle.wasm_types.specs.error.declared.error.ErrorKind.TheVariants.{Other}
+use Rattle.wasm_types.specs.decoding.declared.error.ErrorKind.TheVariants.{Other}
 use Rattle.wasm_types.specs.values.declared.value.ValType.TheVariants as value
 use Rattle.wasm_types.specs.values.declared.heap.HeapType.TheVariants as heap
 use Rattle.wasm_types.specs.values.Reference.{Reference}
 use Rattle.wasm_types.specs.values.Values.{value_of}
 use Rattle.wasm_types.specs.externs.declared.table.TableType.{TableType}
 use Rattle.wasm_types.specs.externs.declared.global.GlobalType.{GlobalType}
-use Rattle.wasm_module_validator_module.specs.declared.module.Function.{Function}
-use Rattle.wasm_module_validator_standing.specs.type_trees.Groups.{Group, count}
-use Rattle.wasm_module_validator_standing.specs.type_trees.Worked.{id, id_of, both}
-use Rattle.wasm_module_validator_standing.specs.steps.contexts.rules.worked.Trees.{funcref, table_with, constant_of}
-use Rattle.wasm_module_validator_standing.specs.items.Contexts.{AreNamesKnown, IsKnownValue}
-use Rattle.wasm_module_validator_standing.specs.resources.Named.{IsFunctionId}
-use Rattle.wasm_module_validator_module.specs.Spaces.{nothing_read, own_function}
+use Rattle.wasm_module_validator_initialisers.specs.index_spaces.declared.module.Function.{Function}
+use Rattle.wasm_module_validator_type_storage.specs.trees.Groups.{Group, count}
+use Rattle.wasm_module_validator_type_storage.specs.trees.Worked.{id, id_of, both}
+use Rattle.wasm_module_validator_section_order.specs.rules.worked.Trees.{funcref, table_with, constant_of}
+use Rattle.wasm_module_validator_initialisers.specs.state.Contexts.{AreNamesKnown, IsKnownValue}
+use Rattle.wasm_module_validator_initialisers.specs.resources.Named.{IsFunctionId}
+use Rattle.wasm_module_validator_initialisers.specs.index_spaces.Spaces.{nothing_read, own_function}
 use Rattle.wasm_module_validator_exports.specs.declared.names.exports.NamedExport.{NamedExport}
 use Rattle.wasm_module_validator_exports.specs.declared.names.groups.NamedImports.{NamedImports}
-use Rattle.wasm_module_validator_referring.specs.Referring.{type_in}
-use Rattle.wasm_module_validator_standing.specs.items.Items.{IsRefusedBy}
+use Rattle.wasm_module_validator_initialisers.specs.resources.referring.Referring.{type_in}
+use Rattle.wasm_module_validator_initialisers.specs.state.Items.{IsRefusedBy}
 use Rattle.wasm_module_validator_tests.specs.Items.{referring, ImportsNamed, NamesKept, RoomFor, Importable, Exportable, one_memory, second, imported_at, Imported, NextPlaces, exported_as, Exported, with_code, NextCode, RefusedBy, NamesKnown, ReadOver}
 
 pub imports_named : ImportsNamed

@@ -1,17 +1,17 @@
 -- Items that are added one by one: when one may be added, what is added with it, and what is left where it is refused (WebAssembly 3.0,
 -- validation, modules; appendix, implementation limitations).
 use Rattle.std.specs.Prelude.{◌≡◌, ◌+◌, ◌<◌, ℕ, Bool, true, false, List, [], ◌∷◌, Option, Some, None}
-use Rattle.wasm_types.specs.features.Features.{MutableGlobal}
-use Rattle.wasm_types.specs.features.declared.WasmFeatures.{WasmFeatures}
-use Rattle.wasm_types.specs.limits.Limits.{default_limits}
-use Rattle.wasm_types.specs.limits.Settings.{Settings}
-use Rattle.wasm_types.specs.limits.declared.Limits.{Limits}
-use Rattle.wasm_types.specs.error.declared.error.ErrorKind.TheVariants.{EndOfData, MissingFeature, OutOfMemory, Failed, Other}
+use Rattle.wasm_types.specs.settings.Features.{MutableGlobal}
+use Rattle.wasm_types.specs.settings.declared.WasmFeatures.{WasmFeatures}
+use Rattle.wasm_types.specs.settings.Limits.{default_limits}
+use Rattle.wasm_types.specs.settings.Settings.{Settings}
+use Rattle.wasm_types.specs.settings.declared.Limits.{Limits}
+use Rattle.wasm_types.specs.decoding.declared.error.ErrorKind.TheVariants.{EndOfData, MissingFeature, OutOfMemory, Failed, Other}
 use Rattle.wasm_types.specs.trees.worked.Types.{base, routine}
 use Rattle.wasm_types.specs.values.declared.value.ValType.TheVariants as value
 use Rattle.wasm_types.specs.values.declared.heap.HeapType.{HeapType}
 use Rattle.wasm_types.specs.values.declared.heap.HeapType.TheVariants as heap
-use Rattle.wasm_types.specs.indices.declared.index.UnpackedIndex.TheVariants.{Module}
+use Rattle.wasm_types.specs.trees.declared.index.UnpackedIndex.TheVariants.{Module}
 use Rattle.wasm_types.specs.values.Reference.{Reference}
 use Rattle.wasm_sections_items.specs.declared.imports.kind.ExternalKind.TheVariants as kind
 use Rattle.wasm_sections_items.specs.declared.imports.type_ref.TypeRef.{TypeRef}
@@ -23,16 +23,16 @@ use Rattle.wasm_module_validator_exports.specs.names.Imports.{named_of}
 use Rattle.wasm_module_validator_exports.specs.declared.names.exports.NamedExport.{NamedExport}
 use Rattle.wasm_module_validator_exports.specs.declared.names.groups.NamedImports.{NamedImports}
 use Rattle.wasm_module_validator_exports.specs.declared.names.imports.Place.{Place}
-use Rattle.wasm_module_validator_module.specs.Spaces.{Spaces, nothing_read, own_function}
-use Rattle.wasm_operator_validator_resources.specs.Meaning.{Meaning}
-use Rattle.wasm_module_validator_standing.specs.steps.contexts.rules.worked.Trees.{everything, funcref, externref, table_with, memory_with, constant_of, variable_of, tag_with}
-use Rattle.wasm_module_validator_standing.specs.type_trees.Groups.{Group}
-use Rattle.wasm_module_validator_standing.specs.type_trees.Worked.{id, id_of, both}
-use Rattle.wasm_module_validator_standing.specs.items.Contexts.{AreNamesKnown}
-use Rattle.wasm_module_validator_standing.specs.items.Adding.{adding_memory, adding_function}
-use Rattle.wasm_module_validator_standing.specs.items.Items.{Items, no_items, HasRoomFor, IsImportable, next_place, IsImported, IsLeft, IsExportable, IsExported, next_function, IsNextCode, IsRefusedBy}
-use Rattle.wasm_module_validator_standing.specs.resources.Named.{IsReadOver, IsFunctionId}
-use Rattle.wasm_module_validator_standing.specs.resources.Reading.{with_types}
+use Rattle.wasm_module_validator_initialisers.specs.index_spaces.Spaces.{Spaces, nothing_read, own_function}
+use Rattle.wasm_operator_validator_state.specs.resources.Meaning.{Meaning}
+use Rattle.wasm_module_validator_section_order.specs.rules.worked.Trees.{everything, funcref, externref, table_with, memory_with, constant_of, variable_of, tag_with}
+use Rattle.wasm_module_validator_type_storage.specs.trees.Groups.{Group}
+use Rattle.wasm_module_validator_type_storage.specs.trees.Worked.{id, id_of, both}
+use Rattle.wasm_module_validator_initialisers.specs.state.Contexts.{AreNamesKnown}
+use Rattle.wasm_module_validator_initialisers.specs.state.Adding.{adding_memory, adding_function}
+use Rattle.wasm_module_validator_initialisers.specs.state.Items.{Items, no_items, HasRoomFor, IsImportable, next_place, IsImported, IsLeft, IsExportable, IsExported, next_function, IsNextCode, IsRefusedBy}
+use Rattle.wasm_module_validator_initialisers.specs.resources.Named.{IsReadOver, IsFunctionId}
+use Rattle.wasm_module_validator_initialisers.specs.resources.Reading.{with_types}
 
 -- ---- names of types in imports
 

@@ -1,19 +1,19 @@
 -- The rows of `Methods`.
 use Rattle.std.proofs.Common.{◌≡◌, ◌⊎◌, inl, inr, ℕ, List, [], ◌∷◌, true, false, Option, Some, None, Result, Ok, Err, refl, sym, ap, arith}
 use Rattle.wasm_types.specs.decoding.Decoder.{State as Bytes}
-use Rattle.wasm_types.specs.error.ErrorValue.{ErrorValue}
-use Rattle.wasm_types.specs.error.declared.error.ErrorKind.{ErrorKind}
-use Rattle.wasm_types.specs.error.declared.error.ErrorKind.TheVariants as kinds
-use Rattle.wasm_sections_payloads.specs.declared.payload.Payload.TheVariants as payloads
-use Rattle.wasm_module_validator_sharing.specs.Sharing.{Reached, Handed}
+use Rattle.wasm_types.specs.decoding.ErrorValue.{ErrorValue}
+use Rattle.wasm_types.specs.decoding.declared.error.ErrorKind.{ErrorKind}
+use Rattle.wasm_types.specs.decoding.declared.error.ErrorKind.TheVariants as kinds
+use Rattle.wasm_module_validator_section_order.specs.sections_below.declared.payload.Payload.TheVariants as payloads
+use Rattle.wasm_module_validator.specs.drivers.Sharing.{Reached, Handed}
 use Rattle.wasm_module_validator.specs.declared.validator.Validator.{Validator}
 use Rattle.wasm_module_validator.specs.declared.validator.State.{State}
 use Rattle.wasm_module_validator.specs.declared.validator.State.TheVariants.{Unparsed, Module, Ended, Failed}
 use Rattle.wasm_module_validator.specs.declared.payloads.ValidPayload.TheVariants as valid
 use Rattle.wasm_module_validator.specs.Shown.{Learned}
 use Rattle.wasm_module_validator.specs.Payloads.{passed, ended}
-use Rattle.wasm_operator_validator_stacks.specs.state.Refusals.{refused_by}
-use Rattle.wasm_types.specs.error.Denials.{Tells}
+use Rattle.wasm_operator_validator_state.specs.Refusals.{refused_by}
+use Rattle.wasm_types.specs.decoding.Denials.{Tells}
 use Rattle.wasm_module_validator_tests.specs.Methods.{Turns, at, for_content, for_memory, failed_before, begun, HeadersRead, before_code, within_code, SectionsTaken, EndsRows, Known, Answers, PayloadsTaken}
 
 pub turns : Turns

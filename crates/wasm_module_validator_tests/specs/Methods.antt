@@ -2,12 +2,12 @@
 -- (WebAssembly 3.0, binary format and validation, modules).
 use Rattle.std.specs.Prelude.{◌≡◌, ℕ, true, false, Some, None, List, [], ◌∷◌, Result, Ok, Err}
 use Rattle.wasm_types.specs.decoding.Decoder.{State as Bytes}
-use Rattle.wasm_types.specs.error.ErrorValue.{ErrorValue}
-use Rattle.wasm_types.specs.error.declared.error.ErrorKind.TheVariants as kinds
-use Rattle.wasm_types.specs.limits.Settings.{Settings}
+use Rattle.wasm_types.specs.decoding.ErrorValue.{ErrorValue}
+use Rattle.wasm_types.specs.decoding.declared.error.ErrorKind.TheVariants as kinds
+use Rattle.wasm_types.specs.settings.Settings.{Settings}
 use Rattle.wasm_sections_parser.specs.declared.frame.Encoding.TheVariants.{Module as AsModule, Component as AsComponent}
-use Rattle.wasm_sections_payloads.specs.declared.payload.Payload.TheVariants as payloads
-use Rattle.wasm_module_validator_sharing.specs.Sharing.{renewed_behind, next_behind, Handed}
+use Rattle.wasm_module_validator_section_order.specs.sections_below.declared.payload.Payload.TheVariants as payloads
+use Rattle.wasm_module_validator.specs.drivers.Sharing.{renewed_behind, next_behind, Handed}
 use Rattle.wasm_module_validator.specs.declared.validator.Validator.{Validator}
 use Rattle.wasm_module_validator.specs.declared.validator.State.{State}
 use Rattle.wasm_module_validator.specs.declared.validator.State.TheVariants.{Unparsed, Module, Ended, Failed}

@@ -2,27 +2,27 @@
 -- format and validation, modules): where nothing was read, and with one part turned.
 use Rattle.std.specs.Prelude.{◌≡◌, ◌+◌, ◌<◌, ℕ, Bool, true, false, List, [], ◌∷◌, length, Option, Some, None, Result, Ok, Err}
 use Rattle.wasm_types.specs.decoding.Decoder.{State}
-use Rattle.wasm_types.specs.error.ErrorValue.{ErrorValue}
-use Rattle.wasm_types.specs.error.declared.error.ErrorKind.TheVariants.{OutOfMemory, Other}
-use Rattle.wasm_types.specs.indices.declared.index.CoreTypeId.{CoreTypeId}
-use Rattle.wasm_types.specs.limits.Limits.{default_limits}
-use Rattle.wasm_types.specs.limits.Settings.{Settings}
+use Rattle.wasm_types.specs.decoding.ErrorValue.{ErrorValue}
+use Rattle.wasm_types.specs.decoding.declared.error.ErrorKind.TheVariants.{OutOfMemory, Other}
+use Rattle.wasm_types.specs.trees.declared.index.CoreTypeId.{CoreTypeId}
+use Rattle.wasm_types.specs.settings.Limits.{default_limits}
+use Rattle.wasm_types.specs.settings.Settings.{Settings}
 use Rattle.wasm_sections_parser.specs.declared.frame.Encoding.TheVariants as encodings
-use Rattle.wasm_sections_payloads.specs.declared.payload.Payload.{Payload}
-use Rattle.wasm_sections_payloads.specs.declared.payload.Payload.TheVariants as payloads
-use Rattle.wasm_module_validator_module.specs.Spaces.{own_function}
-use Rattle.wasm_module_validator_sharing.specs.reading.judging.Bodies.{AreBodies}
-use Rattle.wasm_module_validator_sharing.specs.reading.progress.adding.declared.bodies.Body.{Body}
-use Rattle.wasm_module_validator_sharing.specs.reading.progress.standing.type_trees.Groups.{Group}
-use Rattle.wasm_module_validator_sharing.specs.reading.progress.standing.items.Items.{no_items}
-use Rattle.wasm_module_validator_sharing.specs.reading.progress.standing.items.Adding.{adding_function}
-use Rattle.wasm_module_validator_sharing.specs.reading.progress.standing.steps.Sections.{code_place}
-use Rattle.wasm_module_validator_sharing.specs.reading.progress.standing.steps.Sections as section
-use Rattle.wasm_module_validator_sharing.specs.reading.progress.standing.steps.contexts.InOrder as tree
-use Rattle.wasm_module_validator_sharing.specs.reading.progress.standing.steps.Steps.{SoFar, nothing}
-use Rattle.wasm_module_validator_sharing.specs.reading.progress.standing.steps.Worked.{in_code}
-use Rattle.wasm_module_validator_sharing.specs.reading.progress.Progress.{Kept, Progress, nothing_over, nothing_kept, kept_groups, renewed, next_over, Grows, Reads, IsAt}
-use Rattle.wasm_module_validator_sharing.specs.Sharing.{Reached, nothing_reached, reached, IsNext, renewed_behind, next_behind, has_no_code, body_count, IsReached, TellsNext, Follows, Handed, TellsBody, IsHandedOut, FitsNext, NoneLeft, BodyFollows}
+use Rattle.wasm_module_validator_section_order.specs.sections_below.declared.payload.Payload.{Payload}
+use Rattle.wasm_module_validator_section_order.specs.sections_below.declared.payload.Payload.TheVariants as payloads
+use Rattle.wasm_module_validator_initialisers.specs.index_spaces.Spaces.{own_function}
+use Rattle.wasm_module_validator.specs.drivers.judging.Bodies.{AreBodies}
+use Rattle.wasm_module_validator_section_order.specs.declared.items.bodies.Body.{Body}
+use Rattle.wasm_module_validator_type_storage.specs.trees.Groups.{Group}
+use Rattle.wasm_module_validator_initialisers.specs.state.Items.{no_items}
+use Rattle.wasm_module_validator_initialisers.specs.state.Adding.{adding_function}
+use Rattle.wasm_module_validator_section_order.specs.rules_in_order.Sections.{code_place}
+use Rattle.wasm_module_validator_section_order.specs.rules_in_order.Sections as section
+use Rattle.wasm_module_validator_section_order.specs.rules_in_order.contexts.InOrder as tree
+use Rattle.wasm_module_validator_section_order.specs.rules_in_order.Steps.{SoFar, nothing}
+use Rattle.wasm_module_validator_section_order.specs.rules_in_order.Worked.{in_code}
+use Rattle.wasm_module_validator.specs.module_validator_payloads.Progress.{Kept, Progress, nothing_over, nothing_kept, kept_groups, renewed, next_over, Grows, Reads, IsAt}
+use Rattle.wasm_module_validator.specs.drivers.Sharing.{Reached, nothing_reached, reached, IsNext, renewed_behind, next_behind, has_no_code, body_count, IsReached, TellsNext, Follows, Handed, TellsBody, IsHandedOut, FitsNext, NoneLeft, BodyFollows}
 
 -- ---- what is kept
 

@@ -1,27 +1,27 @@
 -- The rows of `Progress`.
 use Rattle.std.proofs.Common.{◌≡◌, ◌∙◌, ◌+◌, ◌++◌, ◌<◌, ◌≤◌, ℕ, Bool, true, false, List, [], ◌∷◌, length, map, take, Option, Some, None, option_map, slice_get, refl, sym, ap, subst, arith, lit<, lit≤, rules, Err, inl, inr}
 use Rattle.wasm_types.specs.decoding.Decoder.{State}
-use Rattle.wasm_types.specs.limits.declared.Limits.{Limits}
-use Rattle.wasm_types.specs.limits.Limits.{default_limits}
-use Rattle.wasm_types.specs.limits.Settings.{Settings}
+use Rattle.wasm_types.specs.settings.declared.Limits.{Limits}
+use Rattle.wasm_types.specs.settings.Limits.{default_limits}
+use Rattle.wasm_types.specs.settings.Settings.{Settings}
 use Rattle.wasm_sections_parser.specs.declared.frame.Encoding.TheVariants as encodings
 use Rattle.wasm_sections_parser.specs.declared.frame.Frame.TheVariants as frames
 use Rattle.wasm_sections_parser.specs.declared.frame.Frame.{Frame}
 use Rattle.wasm_sections_parser.specs.Parsing.{shape_of}
-use Rattle.wasm_sections_payloads.specs.declared.payload.Payload.TheVariants as payloads
-use Rattle.wasm_sections_payloads.specs.Payloads.{IsPayloadOf}
-use Rattle.wasm_module_validator_module.specs.Spaces.{own_function}
-use Rattle.wasm_module_validator_module.specs.declared.module.Function.{Function}
-use Rattle.wasm_module_validator_sharing.specs.reading.laws.Walking.{nothing_is_at}
-use Rattle.wasm_module_validator_sharing.specs.reading.progress.adding.declared.bodies.Body.{Body}
-use Rattle.wasm_module_validator_sharing.specs.reading.progress.standing.type_trees.Groups.{Group}
-use Rattle.wasm_module_validator_sharing.specs.reading.progress.standing.type_trees.laws.Unrolled.{count_push}
-use Rattle.wasm_module_validator_sharing.specs.reading.progress.standing.laws.Worked.{worked_nothing}
-use Rattle.wasm_module_validator_sharing.specs.reading.progress.standing.steps.contexts.rules.Syntax.{ModuleTree}
-use Rattle.wasm_module_validator_sharing.specs.reading.progress.standing.steps.Steps.{SoFar, nothing, JudgesBody, JudgesShape}
-use Rattle.wasm_module_validator_sharing.specs.reading.progress.standing.steps.Worked.{in_code}
-use Rattle.wasm_module_validator_sharing.specs.reading.progress.Progress.{Kept, Progress, IsAt, text_of, type_of, next_over}
-use Rattle.wasm_module_validator_sharing.specs.Sharing.{Reached, body_count, IsReached, TellsNext, Handed, FitsNext}
+use Rattle.wasm_module_validator_section_order.specs.sections_below.declared.payload.Payload.TheVariants as payloads
+use Rattle.wasm_module_validator_section_order.specs.sections_below.Payloads.{IsPayloadOf}
+use Rattle.wasm_module_validator_initialisers.specs.index_spaces.Spaces.{own_function}
+use Rattle.wasm_module_validator_initialisers.specs.index_spaces.declared.module.Function.{Function}
+use Rattle.wasm_module_validator.specs.drivers.reading.laws.Walking.{nothing_is_at}
+use Rattle.wasm_module_validator_section_order.specs.declared.items.bodies.Body.{Body}
+use Rattle.wasm_module_validator_type_storage.specs.trees.Groups.{Group}
+use Rattle.wasm_module_validator_type_storage.specs.trees.laws.Unrolled.{count_push}
+use Rattle.wasm_module_validator_initialisers.specs.state.invariant.laws.Worked.{worked_nothing}
+use Rattle.wasm_module_validator_section_order.specs.rules.Syntax.{ModuleTree}
+use Rattle.wasm_module_validator_section_order.specs.rules_in_order.Steps.{SoFar, nothing, JudgesBody, JudgesShape}
+use Rattle.wasm_module_validator_section_order.specs.rules_in_order.Worked.{in_code}
+use Rattle.wasm_module_validator.specs.module_validator_payloads.Progress.{Kept, Progress, IsAt, text_of, type_of, next_over}
+use Rattle.wasm_module_validator.specs.drivers.Sharing.{Reached, body_count, IsReached, TellsNext, Handed, FitsNext}
 use Rattle.wasm_module_validator_tests.specs.Progress.{under, KeptRows, StandsFor, BodiesStand, BodiesJudged, ReachedRows, begun, fresh, at_seven, ReachedStands, NextTold, text, code_of, BodiesTold}
 
 -- ---- what is kept

@@ -2,24 +2,24 @@
 -- modules): a yes and a no for each.
 use Rattle.std.specs.Prelude.{◌≡◌, ℕ, List, [], ◌∷◌, true, false, Option, Some, None, Result, Ok, Err}
 use Rattle.wasm_types.specs.decoding.Decoder.{State}
-use Rattle.wasm_types.specs.error.ErrorValue.{ErrorValue}
-use Rattle.wasm_types.specs.error.declared.error.ErrorKind.{ErrorKind}
-use Rattle.wasm_types.specs.error.declared.error.ErrorKind.TheVariants.{OutOfMemory, Failed, Other}
-use Rattle.wasm_types.specs.features.Features.{Exceptions}
-use Rattle.wasm_types.specs.limits.Settings.{Settings, no_features}
+use Rattle.wasm_types.specs.decoding.ErrorValue.{ErrorValue}
+use Rattle.wasm_types.specs.decoding.declared.error.ErrorKind.{ErrorKind}
+use Rattle.wasm_types.specs.decoding.declared.error.ErrorKind.TheVariants.{OutOfMemory, Failed, Other}
+use Rattle.wasm_types.specs.settings.Features.{Exceptions}
+use Rattle.wasm_types.specs.settings.Settings.{Settings, no_features}
 use Rattle.wasm_types.specs.values.declared.value.ValType.{ValType}
 use Rattle.wasm_types.specs.values.declared.value.ValType.TheVariants as value
 use Rattle.wasm_sections_items.specs.declared.segments.segment.DataKindOf.TheVariants.{Passive, Active}
 use Rattle.wasm_sections_items.specs.declared.segments.table.TableInitOf.TheVariants.{RefNull, Expr}
 use Rattle.wasm_sections_items.specs.segments.Spells as mode
-use Rattle.wasm_module_validator_canonical.specs.Refused.{FailsAt}
-use Rattle.wasm_operator_validator_resources.specs.Meaning.{Meaning}
-use Rattle.wasm_module_validator_standing.specs.steps.contexts.rules.worked.Trees.{everything, without, funcref, table_with, memory_with, constant_of}
-use Rattle.wasm_module_validator_standing.specs.steps.Sections as section
-use Rattle.wasm_module_validator_standing.specs.resources.Reading.{with_types}
-use Rattle.wasm_module_validator_elements.specs.segments.Trees.{global_read, table_read}
-use Rattle.wasm_module_validator_elements.specs.segments.Refusals.{RefusesData}
-use Rattle.wasm_module_validator_texts.specs.Sections.{MayBegin}
+use Rattle.wasm_module_validator_canonical_types.specs.Refused.{FailsAt}
+use Rattle.wasm_operator_validator_state.specs.resources.Meaning.{Meaning}
+use Rattle.wasm_module_validator_section_order.specs.rules.worked.Trees.{everything, without, funcref, table_with, memory_with, constant_of}
+use Rattle.wasm_module_validator_section_order.specs.rules_in_order.Sections as section
+use Rattle.wasm_module_validator_initialisers.specs.resources.Reading.{with_types}
+use Rattle.wasm_module_validator_initialisers.specs.segments.Trees.{global_read, table_read}
+use Rattle.wasm_module_validator_initialisers.specs.segments.Refusals.{RefusesData}
+use Rattle.wasm_module_validator_section_order.specs.sections.Sections.{MayBegin}
 
 -- ---- items as they are read
 

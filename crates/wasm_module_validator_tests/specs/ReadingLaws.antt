@@ -1,11 +1,11 @@
 -- The rows of `Reading`.
 use Rattle.std.proofs.Common.{◌≡◌, ◌⊎◌, inl, inr, ℕ, List, [], ◌∷◌, Option, Some, None, refl, arith, rules}
 use Rattle.wasm_types.specs.decoding.Decoder.{State}
-use Rattle.wasm_types.specs.error.ErrorValue.{ErrorValue}
-use Rattle.wasm_types.specs.features.Features.{has}
-use Rattle.wasm_types.specs.limits.Settings.{Settings}
+use Rattle.wasm_types.specs.decoding.ErrorValue.{ErrorValue}
+use Rattle.wasm_types.specs.settings.Features.{has}
+use Rattle.wasm_types.specs.settings.Settings.{Settings}
 use Rattle.wasm_sections_items.specs.declared.segments.segment.DataKindOf.TheVariants.{Active}
-use Rattle.wasm_module_validator_elements.specs.segments.Refusals.{RefusesData, IsFault}
+use Rattle.wasm_module_validator_initialisers.specs.segments.Refusals.{RefusesData, IsFault}
 use Rattle.wasm_module_validator_tests.specs.Reading.{ItemsRead, Begins, no_memory, fault, Refused}
 
 pub items_read : ItemsRead

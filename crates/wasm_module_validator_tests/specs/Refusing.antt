@@ -2,25 +2,25 @@
 -- table that is not there (WebAssembly 3.0, validation, modules). Each is refused at its own offset, and at no other.
 use Rattle.std.specs.Prelude.{ℕ, true, [], None}
 use Rattle.wasm_types.specs.decoding.Decoder.{State}
-use Rattle.wasm_types.specs.error.ErrorValue.{ErrorValue}
-use Rattle.wasm_types.specs.error.declared.error.ErrorKind.TheVariants.{Other}
-use Rattle.wasm_types.specs.indices.declared.index.UnpackedIndex.TheVariants.{Module}
-use Rattle.wasm_types.specs.limits.Settings.{Settings}
+use Rattle.wasm_types.specs.decoding.ErrorValue.{ErrorValue}
+use Rattle.wasm_types.specs.decoding.declared.error.ErrorKind.TheVariants.{Other}
+use Rattle.wasm_types.specs.trees.declared.index.UnpackedIndex.TheVariants.{Module}
+use Rattle.wasm_types.specs.settings.Settings.{Settings}
 use Rattle.wasm_types.specs.values.Reference.{Reference}
 use Rattle.wasm_types.specs.values.declared.heap.HeapType.TheVariants.{Concrete}
 use Rattle.wasm_types.specs.values.declared.value.ValType.TheVariants.{Ref}
-use Rattle.wasm_sections_limited.specs.declared.section.SectionLimited.{SectionLimited}
-use Rattle.wasm_module_validator_standing.specs.steps.contexts.items.declared.segments.global.GlobalOf.{GlobalOf}
-use Rattle.wasm_module_validator_standing.specs.steps.contexts.items.declared.segments.table.TableOf.{TableOf}
-use Rattle.wasm_module_validator_standing.specs.steps.contexts.items.declared.segments.table.TableInitOf.TheVariants.{RefNull}
-use Rattle.wasm_module_validator_standing.specs.steps.contexts.items.declared.elements.element.ElementOf.{ElementOf}
-use Rattle.wasm_module_validator_standing.specs.steps.contexts.items.declared.elements.element.ElementKindOf.TheVariants.{Active}
-use Rattle.wasm_module_validator_standing.specs.steps.contexts.items.declared.elements.element.ElementItemsOf.TheVariants.{Functions}
-use Rattle.wasm_module_validator_standing.specs.steps.contexts.rules.worked.Trees.{table_with, constant_of}
-use Rattle.wasm_module_validator_standing.specs.items.Items.{no_items}
-use Rattle.wasm_module_validator_standing.specs.Standing.{constants_of}
-use Rattle.wasm_module_validator_elements.specs.Refusals.{RefusesElement}
-use Rattle.wasm_module_validator_initialising.specs.Refusals.{RefusesNewGlobal, RefusesNewTable, RefusesNewElement}
+use Rattle.wasm_sections_items.specs.declared.limited.section.SectionLimited.{SectionLimited}
+use Rattle.wasm_sections_items.specs.declared.segments.global.GlobalOf.{GlobalOf}
+use Rattle.wasm_sections_items.specs.declared.segments.table.TableOf.{TableOf}
+use Rattle.wasm_sections_items.specs.declared.segments.table.TableInitOf.TheVariants.{RefNull}
+use Rattle.wasm_sections_items.specs.declared.elements.element.ElementOf.{ElementOf}
+use Rattle.wasm_sections_items.specs.declared.elements.element.ElementKindOf.TheVariants.{Active}
+use Rattle.wasm_sections_items.specs.declared.elements.element.ElementItemsOf.TheVariants.{Functions}
+use Rattle.wasm_module_validator_section_order.specs.rules.worked.Trees.{table_with, constant_of}
+use Rattle.wasm_module_validator_initialisers.specs.state.Items.{no_items}
+use Rattle.wasm_module_validator_initialisers.specs.state.invariant.Standing.{constants_of}
+use Rattle.wasm_module_validator_initialisers.specs.elements.Refusals.{RefusesElement}
+use Rattle.wasm_module_validator_initialisers.specs.adding.Refusals.{RefusesNewGlobal, RefusesNewTable, RefusesNewElement}
 
 -- an error at this offset
 abbrev pub refused_at : ℕ → ErrorValue

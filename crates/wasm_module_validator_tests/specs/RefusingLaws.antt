@@ -1,15 +1,15 @@
 -- The rows of `Refusing`.
 use Rattle.std.proofs.Common.{◌≡◌, inl, inr, ℕ, [], refl, ap, arith}
 use Rattle.wasm_types.specs.decoding.Decoder.{State}
-use Rattle.wasm_types.specs.limits.Settings.{Settings}
+use Rattle.wasm_types.specs.settings.Settings.{Settings}
 use Rattle.wasm_types.specs.values.Reference.{Reference}
-use Rattle.wasm_sections_limited.specs.declared.section.SectionLimited.{SectionLimited}
-use Rattle.wasm_module_validator_standing.specs.steps.contexts.items.declared.elements.element.ElementOf.{ElementOf}
-use Rattle.wasm_module_validator_standing.specs.items.Items.{no_items}
-use Rattle.wasm_module_validator_standing.specs.Standing.{constants_of}
-use Rattle.wasm_module_validator_elements.specs.segments.rules.Valid.{IsValidValueType, IsValidElementType, IsValidTableType}
-use Rattle.wasm_module_validator_elements.specs.Refusals.{RefusesElement}
-use Rattle.wasm_module_validator_initialising.specs.Refusals.{RefusesNewGlobal, RefusesNewTable, RefusesNewElement}
+use Rattle.wasm_sections_items.specs.declared.limited.section.SectionLimited.{SectionLimited}
+use Rattle.wasm_sections_items.specs.declared.elements.element.ElementOf.{ElementOf}
+use Rattle.wasm_module_validator_initialisers.specs.state.Items.{no_items}
+use Rattle.wasm_module_validator_initialisers.specs.state.invariant.Standing.{constants_of}
+use Rattle.wasm_module_validator_section_order.specs.rules.Valid.{IsValidValueType, IsValidElementType, IsValidTableType}
+use Rattle.wasm_module_validator_initialisers.specs.elements.Refusals.{RefusesElement}
+use Rattle.wasm_module_validator_initialisers.specs.adding.Refusals.{RefusesNewGlobal, RefusesNewTable, RefusesNewElement}
 use Rattle.wasm_types.specs.values.declared.value.ValType.TheVariants.{Ref}
 use Rattle.wasm_module_validator_tests.specs.Refusing.{refused_at, to_nothing, global, table, element, ItemsRefused}
 

@@ -2,17 +2,17 @@
 -- modules): a yes and a no for each.
 use Rattle.std.specs.Prelude.{◌≡◌, ◌+◌, ℕ, List, [], ◌∷◌, false}
 use Rattle.wasm_types.specs.decoding.Decoder.{State, byte}
-use Rattle.wasm_types.specs.limits.declared.Limits.{Limits}
-use Rattle.wasm_types.specs.limits.Settings.{no_features}
+use Rattle.wasm_types.specs.settings.declared.Limits.{Limits}
+use Rattle.wasm_types.specs.settings.Settings.{no_features}
 use Rattle.wasm_types.specs.trees.Types.{SubtypeOf}
 use Rattle.wasm_types.specs.trees.ValidGroup.{Written}
 use Rattle.wasm_operators_bodies.specs.declared.short.ShortConstant.TheVariants as short
 use Rattle.wasm_operators_bodies.specs.Short.{SpellsShort}
-use Rattle.wasm_module_validator_standing.specs.steps.Between.{IsBetween}
-use Rattle.wasm_module_validator_standing.specs.steps.Sections as section
-use Rattle.wasm_module_validator_elements.specs.segments.Short.{IsShortData}
-use Rattle.wasm_module_validator_sharing.specs.reading.progress.adding.Adding.{AddsShort, IsItemOf}
-use Rattle.wasm_module_validator_sharing.specs.reading.progress.Progress.{HasItem}
+use Rattle.wasm_module_validator_section_order.specs.rules_in_order.Between.{IsBetween}
+use Rattle.wasm_module_validator_section_order.specs.rules_in_order.Sections as section
+use Rattle.wasm_module_validator_initialisers.specs.segments.Short.{IsShortData}
+use Rattle.wasm_module_validator_section_order.specs.items.Adding.{AddsShort, IsItemOf}
+use Rattle.wasm_module_validator.specs.module_validator_payloads.Progress.{HasItem}
 
 abbrev pub three : List ℕ
 three = 1 ∷ 2 ∷ 3 ∷ []

@@ -4,17 +4,17 @@ use Rattle.std.proofs.lemmas.List.{length-append}
 use Rattle.wasm_types.specs.decoding.Decoder.{State, Done, byte}
 use Rattle.wasm_types.specs.decoding.ExactLaws.{value_is}
 use Rattle.wasm_types.specs.decoding.Leb.{IsUnsigned, last, more}
-use Rattle.wasm_types.specs.limits.declared.Limits.{Limits}
-use Rattle.wasm_types.specs.limits.Settings.{no_features}
+use Rattle.wasm_types.specs.settings.declared.Limits.{Limits}
+use Rattle.wasm_types.specs.settings.Settings.{no_features}
 use Rattle.wasm_types.specs.trees.Types.{SubtypeOf}
 use Rattle.wasm_types.specs.trees.ValidGroup.{Written, types_from}
 use Rattle.wasm_operators_bodies.specs.declared.short.ShortConstant.TheVariants as short
 use Rattle.wasm_operators_bodies.specs.Short.{SpellsShort}
 use Rattle.wasm_operators_bodies.specs.ShortLaws.{short_is_constant}
-use Rattle.wasm_module_validator_standing.specs.steps.Between.{IsBetween}
-use Rattle.wasm_module_validator_standing.specs.steps.contexts.rules.Spaces.{types_behind}
-use Rattle.wasm_module_validator_elements.specs.segments.Short.{IsShortData}
-use Rattle.wasm_module_validator_sharing.specs.reading.progress.adding.Adding.{IsRead}
+use Rattle.wasm_module_validator_section_order.specs.rules_in_order.Between.{IsBetween}
+use Rattle.wasm_module_validator_section_order.specs.rules.Spaces.{types_behind}
+use Rattle.wasm_module_validator_initialisers.specs.segments.Short.{IsShortData}
+use Rattle.wasm_module_validator_section_order.specs.items.Adding.{IsRead}
 use Rattle.wasm_module_validator_tests.specs.Short.{BetweenRows, AddsByte, AddsRows, ShortDataRows, RoomRows, IsByteOf, IsTwo, alone, three}
 
 -- ---- bytes between two offsets

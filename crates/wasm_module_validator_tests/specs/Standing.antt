@@ -1,22 +1,22 @@
 -- When the state of a module that is being read stands for a tree, what a call that adds an item tells of each such tree and leaves, and
 -- what is told where a section begins (WebAssembly 3.0, validation, modules). The item is a memory, which names no type.
 use Rattle.std.specs.Prelude.{◌≡◌, ◌+◌, ℕ, List, [], ◌∷◌, Some, None, Ok, Err}
-use Rattle.wasm_types.specs.error.ErrorValue.{ErrorValue}
-use Rattle.wasm_types.specs.error.declared.error.ErrorKind.TheVariants.{Other}
-use Rattle.wasm_types.specs.limits.Limits.{default_limits}
-use Rattle.wasm_types.specs.limits.Settings.{Settings}
+use Rattle.wasm_types.specs.decoding.ErrorValue.{ErrorValue}
+use Rattle.wasm_types.specs.decoding.declared.error.ErrorKind.TheVariants.{Other}
+use Rattle.wasm_types.specs.settings.Limits.{default_limits}
+use Rattle.wasm_types.specs.settings.Settings.{Settings}
 use Rattle.wasm_types.specs.externs.declared.memory.MemoryType.{MemoryType}
 use Rattle.wasm_sections_items.specs.declared.imports.kind.ExternalKind.TheVariants as kind
 use Rattle.wasm_sections_items.specs.imports.Spells.{ImportTree}
-use Rattle.wasm_module_validator_standing.specs.type_trees.Groups.{Group}
-use Rattle.wasm_module_validator_standing.specs.steps.contexts.rules.Syntax.{ModuleTree}
-use Rattle.wasm_module_validator_standing.specs.steps.contexts.rules.worked.Trees.{everything, memory_with}
-use Rattle.wasm_module_validator_standing.specs.steps.contexts.InOrder as tree
-use Rattle.wasm_module_validator_standing.specs.steps.Sections as section
-use Rattle.wasm_module_validator_standing.specs.steps.Texts.{AddsRead}
-use Rattle.wasm_module_validator_standing.specs.items.Adding.{adding_memory}
-use Rattle.wasm_module_validator_standing.specs.items.Items.{Items, no_items}
-use Rattle.wasm_module_validator_standing.specs.Standing.{IsGrown, Stands, IsReading, IsBefore, TellsItem, AddsItem, TellsFit}
+use Rattle.wasm_module_validator_type_storage.specs.trees.Groups.{Group}
+use Rattle.wasm_module_validator_section_order.specs.rules.Syntax.{ModuleTree}
+use Rattle.wasm_module_validator_section_order.specs.rules.worked.Trees.{everything, memory_with}
+use Rattle.wasm_module_validator_section_order.specs.rules_in_order.contexts.InOrder as tree
+use Rattle.wasm_module_validator_section_order.specs.rules_in_order.Sections as section
+use Rattle.wasm_module_validator_section_order.specs.rules_in_order.Texts.{AddsRead}
+use Rattle.wasm_module_validator_initialisers.specs.state.Adding.{adding_memory}
+use Rattle.wasm_module_validator_initialisers.specs.state.Items.{Items, no_items}
+use Rattle.wasm_module_validator_initialisers.specs.state.invariant.Standing.{IsGrown, Stands, IsReading, IsBefore, TellsItem, AddsItem, TellsFit}
 
 -- ---- lists that grow
 

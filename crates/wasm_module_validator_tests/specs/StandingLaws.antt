@@ -1,25 +1,25 @@
 -- The rows of `Standing`.
 use Rattle.std.proofs.Common.{◌≡◌, ◌∙◌, ◌+◌, ◌++◌, ℕ, List, [], ◌∷◌, Option, Some, None, length, refl, sym, ap, subst, arith, rules}
-use Rattle.wasm_types.specs.features.Features.{has}
-use Rattle.wasm_types.specs.limits.Limits.{default_limits}
-use Rattle.wasm_types.specs.limits.Settings.{Settings}
+use Rattle.wasm_types.specs.settings.Features.{has}
+use Rattle.wasm_types.specs.settings.Limits.{default_limits}
+use Rattle.wasm_types.specs.settings.Settings.{Settings}
 use Rattle.wasm_types.specs.externs.declared.memory.MemoryType.{MemoryType}
 use Rattle.wasm_sections_items.specs.imports.Spells.{ImportTree}
-use Rattle.wasm_module_validator_module.specs.Spaces.{nothing_read}
-use Rattle.wasm_module_validator_standing.specs.type_trees.Groups.{Group}
-use Rattle.wasm_module_validator_standing.specs.steps.contexts.rules.Syntax.{ModuleTree}
-use Rattle.wasm_module_validator_standing.specs.steps.contexts.rules.Spaces.{memory_space}
-use Rattle.wasm_module_validator_standing.specs.steps.contexts.rules.Valid.{IsValidMemoryType, most_memories}
-use Rattle.wasm_module_validator_standing.specs.steps.contexts.rules.worked.Trees.{everything}
-use Rattle.wasm_module_validator_standing.specs.steps.contexts.InOrder as tree
-use Rattle.wasm_module_validator_standing.specs.steps.Sections as section
-use Rattle.wasm_module_validator_standing.specs.steps.Adding.{Adds}
-use Rattle.wasm_module_validator_standing.specs.steps.Texts.{AddsRead}
-use Rattle.wasm_module_validator_standing.specs.items.Items.{no_items}
-use Rattle.wasm_module_validator_standing.specs.Standing.{Stands, IsReading, IsBefore, AddsItem, IsGrown}
-use Rattle.wasm_module_validator_standing.specs.laws.Behind.{still_last, memories_stand}
-use Rattle.wasm_module_validator_standing.specs.laws.Worked.{worked_nothing}
-use Rattle.wasm_module_validator_standing.specs.so_far.laws.Adding.{nothing_is, memory_is_added}
+use Rattle.wasm_module_validator_initialisers.specs.index_spaces.Spaces.{nothing_read}
+use Rattle.wasm_module_validator_type_storage.specs.trees.Groups.{Group}
+use Rattle.wasm_module_validator_section_order.specs.rules.Syntax.{ModuleTree}
+use Rattle.wasm_module_validator_section_order.specs.rules.Spaces.{memory_space}
+use Rattle.wasm_module_validator_section_order.specs.rules.Valid.{IsValidMemoryType, most_memories}
+use Rattle.wasm_module_validator_section_order.specs.rules.worked.Trees.{everything}
+use Rattle.wasm_module_validator_section_order.specs.rules_in_order.contexts.InOrder as tree
+use Rattle.wasm_module_validator_section_order.specs.rules_in_order.Sections as section
+use Rattle.wasm_module_validator_section_order.specs.rules_in_order.Adding.{Adds}
+use Rattle.wasm_module_validator_section_order.specs.rules_in_order.Texts.{AddsRead}
+use Rattle.wasm_module_validator_initialisers.specs.state.Items.{no_items}
+use Rattle.wasm_module_validator_initialisers.specs.state.invariant.Standing.{Stands, IsReading, IsBefore, AddsItem, IsGrown}
+use Rattle.wasm_module_validator_initialisers.specs.state.invariant.laws.Behind.{still_last, memories_stand}
+use Rattle.wasm_module_validator_initialisers.specs.state.invariant.laws.Worked.{worked_nothing}
+use Rattle.wasm_module_validator_initialisers.specs.state.invariant.so_far.laws.Adding.{nothing_is, memory_is_added}
 use Rattle.wasm_module_validator_tests.specs.Standing.{Grown, one_page, backwards, with_memory, memory_read, StandsRows, ItemsTold, two_exports, FitsTold}
 
 -- ---- lists

@@ -1,14 +1,14 @@
 -- The rows of `Types`.
 use Rattle.std.proofs.Common.{◌≡◌, inr, ℕ, Bool, true, false, List, [], ◌∷◌, length, Option, Some, None, if◌then◌else◌, nat_eq, refl, ap, subst, rules, arith, lit<}
-use Rattle.wasm_types.specs.features.Features.{has}
+use Rattle.wasm_types.specs.settings.Features.{has}
 use Rattle.wasm_types.specs.trees.Unfold.{type_count}
-use Rattle.wasm_module_validator_standing.specs.type_trees.Groups.{Group, group_ranges, declared_by_id}
-use Rattle.wasm_module_validator_standing.specs.type_trees.ByIds.{IdBelow, itself, declared}
-use Rattle.wasm_module_validator_standing.specs.type_trees.Worked.{id_of, pair, lower, both}
-use Rattle.wasm_module_validator_matches.specs.MatchesById.{EntryMatchesById}
-use Rattle.wasm_module_validator_groups.specs.composites.Composites.{IsCompositeValid}
-use Rattle.wasm_module_validator_types.specs.List.{InternsAlone}
-use Rattle.wasm_module_validator_types.specs.Lookups.{HasIds}
+use Rattle.wasm_module_validator_type_storage.specs.trees.Groups.{Group, group_ranges, declared_by_id}
+use Rattle.wasm_module_validator_type_storage.specs.trees.ByIds.{IdBelow, itself, declared}
+use Rattle.wasm_module_validator_type_storage.specs.trees.Worked.{id_of, pair, lower, both}
+use Rattle.wasm_module_validator_canonical_types.specs.matches.MatchesById.{EntryMatchesById}
+use Rattle.wasm_module_validator_type_groups.specs.composites.Composites.{IsCompositeValid}
+use Rattle.wasm_module_validator_canonical_types.specs.type_list.List.{InternsAlone}
+use Rattle.wasm_module_validator_canonical_types.specs.type_list.Lookups.{HasIds}
 use Rattle.wasm_module_validator_tests.specs.Types.{lower_type, TypesInterned, above, below, TypesMatched, all_features, TypesValid}
 
 untrue : false ≡ true → ⊥

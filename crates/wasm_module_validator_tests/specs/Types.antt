@@ -1,19 +1,19 @@
 -- Types by their ids: which are interned, which match, and which are valid (WebAssembly 3.0, validation, types and matching): of a list with
 -- two structs that refer to each other, with the ids 0 and 1, and one below the second, with the id 2.
 use Rattle.std.specs.Prelude.{ℕ, true, List, [], ◌∷◌}
-use Rattle.wasm_types.specs.indices.declared.index.UnpackedIndex.{UnpackedIndex}
+use Rattle.wasm_types.specs.trees.declared.index.UnpackedIndex.{UnpackedIndex}
 use Rattle.wasm_types.specs.trees.Types.{i32, i64, i8, i16, value, number, function, ValueOf, EntryOf}
-use Rattle.wasm_types.specs.groups.Entries.{Declared}
-use Rattle.wasm_module_validator_standing.specs.type_trees.Groups.{Group}
-use Rattle.wasm_module_validator_standing.specs.type_trees.Worked.{id, id_of, open_type, struct_to, canonical, pair, lower, both, nullable}
-use Rattle.wasm_module_validator_standing.specs.type_trees.BelowIds.{entry_by_id}
+use Rattle.wasm_types.specs.Entries.{Declared}
+use Rattle.wasm_module_validator_type_storage.specs.trees.Groups.{Group}
+use Rattle.wasm_module_validator_type_storage.specs.trees.Worked.{id, id_of, open_type, struct_to, canonical, pair, lower, both, nullable}
+use Rattle.wasm_module_validator_type_storage.specs.trees.BelowIds.{entry_by_id}
 use Rattle.wasm_types.specs.trees.Types.{concrete}
-use Rattle.wasm_types.specs.indices.declared.index.UnpackedIndex.TheVariants.{RecGroup}
-use Rattle.wasm_module_validator_types.specs.Lookups.{HasIds}
-use Rattle.wasm_module_validator_types.specs.List.{InternsAlone}
-use Rattle.wasm_module_validator_matches.specs.MatchesById.{StorageMatchesById, EntryMatchesById, MatchesById}
-use Rattle.wasm_module_validator_groups.specs.composites.Composites.{IsCompositeValid}
-use Rattle.wasm_module_validator_groups.specs.ValidTypes.{IsTypeValid}
+use Rattle.wasm_types.specs.trees.declared.index.UnpackedIndex.TheVariants.{RecGroup}
+use Rattle.wasm_module_validator_canonical_types.specs.type_list.Lookups.{HasIds}
+use Rattle.wasm_module_validator_canonical_types.specs.type_list.List.{InternsAlone}
+use Rattle.wasm_module_validator_canonical_types.specs.matches.MatchesById.{StorageMatchesById, EntryMatchesById, MatchesById}
+use Rattle.wasm_module_validator_type_groups.specs.composites.Composites.{IsCompositeValid}
+use Rattle.wasm_module_validator_type_groups.specs.ValidTypes.{IsTypeValid}
 
 -- ---- interning
 

@@ -2,7 +2,7 @@
 use Rattle.std.proofs.Common.{◌≡◌, ◌∙◌, ℕ, refl, arith, ap, sym, Some, None, rules}
 use Rattle.std.specs.Prelude.{Option}
 use Rattle.wasm_types.specs.trees.Unfold.{type_count}
-use Rattle.wasm_module_validator_type_trees.specs.Groups.{group_ranges}
+use Rattle.wasm_module_validator_type_storage.specs.trees.Groups.{group_ranges}
 use Rattle.wasm_module_validator_type_alloc.specs.Worked.{IndicesWorked}
 
 pair_of : Option (ℕ × ℕ) → ℕ × ℕ

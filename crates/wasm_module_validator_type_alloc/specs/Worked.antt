@@ -1,8 +1,8 @@
 -- Worked sizes, and indices of groups.
 use Rattle.std.specs.Prelude.{◌≡◌, ℕ, false, [], ◌∷◌}
 use Rattle.wasm_types.specs.trees.Types.{number, i32, f64, i8, function, array_of, struct_of, continuation, FieldOf}
-use Rattle.wasm_types.specs.indices.declared.index.UnpackedIndex.TheVariants.{RecGroup}
-use Rattle.wasm_module_validator_type_trees.specs.Worked.{id, id_of, both}
+use Rattle.wasm_types.specs.trees.declared.index.UnpackedIndex.TheVariants.{RecGroup}
+use Rattle.wasm_module_validator_type_storage.specs.trees.Worked.{id, id_of, both}
 use Rattle.wasm_module_validator_type_alloc.specs.Canonicalized.{IsNamed, IsIdOf}
 use Rattle.wasm_module_validator_type_alloc.specs.Sizes.{capped, size_of, size_between}
 

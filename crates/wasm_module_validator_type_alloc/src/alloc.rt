@@ -5,7 +5,7 @@ ghost use Rattle.std.specs.Prelude.{◌≡◌, ◌<◌, [], true, List, Some, sl
 use crate::TypeIdentifier;
 use std::alloc::Global;
 use std::ops::{Deref, DerefMut, Index};
-use wasm_module_validator_types::TypeList;
+use wasm_module_validator_type_list::TypeList;
 use wasm_types::Limits;
 
 /// A list of types that takes more, until it is committed.

@@ -1,12 +1,12 @@
 //! Indices of groups in canonical form, as ids of a list.
 
 ghost use Rattle.std.specs.Prelude.{◌≡◌, ◌<◌, true, IfErr, IfOk, length};
-ghost use Rattle.wasm_types.specs.error.Denials.{Tells};
-ghost use Rattle.wasm_types.specs.error.declared.error.ErrorKind.TheVariants.{Other};
-ghost use Rattle.wasm_types.specs.indices.Indices.{is_canonical_index};
+ghost use Rattle.wasm_types.specs.decoding.Denials.{Tells};
+ghost use Rattle.wasm_types.specs.decoding.declared.error.ErrorKind.TheVariants.{Other};
+ghost use Rattle.wasm_types.specs.trees.Indices.{is_canonical_index};
 ghost use Rattle.wasm_module_validator_type_alloc.specs.Canonicalized.{IsNamed, IsIdOf};
 
-use wasm_module_validator_types::{RecGroupId, TypeList};
+use wasm_module_validator_type_list::{RecGroupId, TypeList};
 use wasm_types::{CoreTypeId, PackedIndex, Result, UnpackedIndex};
 
 /// The id that an index means in a group of a list: a place of the group is that of its type, and an id is itself. A place behind the

@@ -1,12 +1,12 @@
 //! What is named by an identifier: a type, and the ids of a group.
 
 ghost use Rattle.std.specs.Prelude.{◌≡◌, ◌+◌, ℕ};
-ghost use Rattle.wasm_types.specs.groups.Entries.{inner_of};
+ghost use Rattle.wasm_types.specs.Entries.{inner_of};
 ghost use Rattle.wasm_module_validator_type_alloc.specs.Sizes.{capped, size_of, size_between};
 
 use crate::TypeInfo;
 use std::ops::Range;
-use wasm_module_validator_types::{RecGroupId, TypeList};
+use wasm_module_validator_type_list::{RecGroupId, TypeList};
 use wasm_types::{CompositeInnerType, CoreTypeId, SubType};
 
 /// What an identifier names.

@@ -1,14 +1,14 @@
 //! What names a type or a group of a list.
 
 ghost use Rattle.std.specs.Prelude.{◌≡◌, ℕ, List, length, map};
-ghost use Rattle.wasm_types.specs.groups.Entries.{declared_of};
-ghost use Rattle.wasm_module_validator_type_trees.specs.Groups.{Group, count, declared_by_id, group_ranges};
+ghost use Rattle.wasm_types.specs.Entries.{declared_of};
+ghost use Rattle.wasm_module_validator_type_storage.specs.trees.Groups.{Group, count, declared_by_id, group_ranges};
 ghost use Rattle.wasm_module_validator_type_alloc.specs.ListedLaws.{types_counted, groups_counted};
 
 use crate::TypeData;
 use std::ops::Range;
-use wasm_module_validator_lists::snapshots::SnapshotList;
-use wasm_module_validator_types::{RecGroupId, TypeList};
+use wasm_module_validator_type_list::{RecGroupId, TypeList};
+use wasm_module_validator_type_storage::snapshots::SnapshotList;
 use wasm_types::{CoreTypeId, SubType};
 
 /// What names something in a list of types, by its number.

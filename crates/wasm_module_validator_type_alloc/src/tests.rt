@@ -4,7 +4,7 @@ ghost use Rattle.std.specs.Prelude.{◌≡◌, ◌<◌};
 
 use crate::{MaybeOwned, TypeAlloc, TypeData, TypeIdentifier};
 use std::process::Abort;
-use wasm_module_validator_types::{RecGroupId, TypeList};
+use wasm_module_validator_type_list::{RecGroupId, TypeList};
 use wasm_types::{CoreTypeId, Limits};
 
 #[test]

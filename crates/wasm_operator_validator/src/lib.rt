@@ -41,16 +41,16 @@
 
 pub use wasm_operator_validator_arity::{ModuleArity, OperatorArity};
 pub use wasm_operator_validator_constants::{ConstExpr, check_const_expr, new_const_expr};
-pub use wasm_operator_validator_functions::new_func;
+pub use wasm_operator_validator_driver::{
+    BlockType, Frame, FrameKind, LocalInits, Locals, MaybeType, OperatorValidator,
+    OperatorValidatorAllocations, WasmModuleResources, validate_expression,
+};
 pub use wasm_operator_validator_soundness::accepted::accepted_bodies_are_sound;
+pub use wasm_operator_validator_stacks::new_func;
 pub use wasm_operator_validator_state::attempts::{
     RollbackLog, RollbackLogAllocations, Transaction, ty_to_str,
 };
 pub use wasm_operator_validator_state::{check_ref_type_features, check_value_type_features};
 pub use wasm_operator_validator_visits::{
     AnswerAs, AsError, AsRefusal, ValidatingVisitor, WasmProposalValidator,
-};
-pub use wasm_operator_validator_walk::{
-    BlockType, Frame, FrameKind, LocalInits, Locals, MaybeType, OperatorValidator,
-    OperatorValidatorAllocations, WasmModuleResources, validate_expression,
 };

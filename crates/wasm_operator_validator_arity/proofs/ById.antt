@@ -2,19 +2,19 @@
 use Rattle.std.proofs.Common.{◌≡◌, ◌∙◌, length, Option, Some, None, option_map, option_and_then, slice_get, refl, sym, ap, ⊎_elim}
 use Rattle.std.proofs.lemmas.Bool.{cases_lt}
 use Rattle.std.proofs.lemmas.Option.{slice_get-get_or, slice_get_past}
-use Rattle.wasm_types.specs.indices.Indices.{type_id_of}
-use Rattle.wasm_types.specs.indices.declared.index.CoreTypeId.{CoreTypeId}
-use Rattle.wasm_types.specs.indices.declared.index.UnpackedIndex.{UnpackedIndex}
-use Rattle.wasm_types.specs.indices.declared.index.UnpackedIndex.TheVariants as index
+use Rattle.wasm_types.specs.trees.Indices.{type_id_of}
+use Rattle.wasm_types.specs.trees.declared.index.CoreTypeId.{CoreTypeId}
+use Rattle.wasm_types.specs.trees.declared.index.UnpackedIndex.{UnpackedIndex}
+use Rattle.wasm_types.specs.trees.declared.index.UnpackedIndex.TheVariants as index
 use Rattle.wasm_types.specs.trees.Types.{EntryOf, inner_map}
 use Rattle.wasm_types.specs.trees.Trees.{TypeTree, opened}
 use Rattle.wasm_types.specs.trees.Below.{expanded}
 use Rattle.wasm_types.specs.fields.declared.func.FuncType.{FuncType}
-use Rattle.wasm_types.specs.groups.Entries.{inner_of}
-use Rattle.wasm_types.specs.groups.Kinds.{func_in}
-use Rattle.wasm_types.specs.groups.declared.composite.CompositeInnerType.{CompositeInnerType}
-use Rattle.wasm_types.specs.groups.declared.composite.CompositeInnerType.TheVariants.{Func, Array, Struct, Cont}
-use Rattle.wasm_types.specs.groups.declared.sub_type.SubType.{SubType}
+use Rattle.wasm_types.specs.Entries.{inner_of}
+use Rattle.wasm_types.specs.Kinds.{func_in}
+use Rattle.wasm_types.specs.declared.composite.CompositeInnerType.{CompositeInnerType}
+use Rattle.wasm_types.specs.declared.composite.CompositeInnerType.TheVariants.{Func, Array, Struct, Cont}
+use Rattle.wasm_types.specs.declared.sub_type.SubType.{SubType}
 use Rattle.wasm_operator_validator_resources.specs.Meaning.{Meaning, IsKnown, type_of_id, named_type, entry_in, function_in}
 use Rattle.wasm_operator_validator_rules.specs.arity.Arity.{in_u32, function_counts, type_counts}
 use Rattle.wasm_operator_validator_arity.specs.Knowing.{ended, type_by_id, function_alone, function_by_id}

@@ -1,8 +1,8 @@
 -- The functions that continuations go on with.
 use Rattle.std.proofs.Common.{◌≡◌, ◌∙◌, ◌-◌, ℕ, Bool, zero, suc, List, [], ◌∷◌, map, length, arith, Option, Some, None, option_map, option_and_then, slice_get, refl, sym, ap}
 use Rattle.std.proofs.lemmas.Option.{get_or_from_slice_get}
-use Rattle.wasm_types.specs.indices.declared.index.UnpackedIndex.{UnpackedIndex}
-use Rattle.wasm_types.specs.indices.declared.index.UnpackedIndex.TheVariants as index
+use Rattle.wasm_types.specs.trees.declared.index.UnpackedIndex.{UnpackedIndex}
+use Rattle.wasm_types.specs.trees.declared.index.UnpackedIndex.TheVariants as index
 use Rattle.wasm_types.specs.trees.Types.{EntryOf, InnerOf, function, array_of, struct_of, continuation, value_map, inner_map}
 use Rattle.wasm_types.specs.trees.Trees.{TypeTree, opened}
 use Rattle.wasm_types.specs.trees.Below.{expanded}
@@ -13,10 +13,10 @@ use Rattle.wasm_types.specs.values.declared.value.ValType.TheVariants.{Ref}
 use Rattle.wasm_types.specs.values.Values.{value_of}
 use Rattle.wasm_types.specs.values.Reference.{Reference}
 use Rattle.wasm_types.specs.fields.declared.func.FuncType.{FuncType}
-use Rattle.wasm_types.specs.groups.Entries.{inner_of}
-use Rattle.wasm_types.specs.groups.declared.composite.CompositeInnerType.{CompositeInnerType}
-use Rattle.wasm_types.specs.groups.declared.composite.CompositeInnerType.TheVariants.{Func, Array, Struct, Cont}
-use Rattle.wasm_types.specs.groups.declared.sub_type.SubType.{SubType}
+use Rattle.wasm_types.specs.Entries.{inner_of}
+use Rattle.wasm_types.specs.declared.composite.CompositeInnerType.{CompositeInnerType}
+use Rattle.wasm_types.specs.declared.composite.CompositeInnerType.TheVariants.{Func, Array, Struct, Cont}
+use Rattle.wasm_types.specs.declared.sub_type.SubType.{SubType}
 use Rattle.wasm_operator_validator_resources.specs.Meaning.{Meaning, named_type, entry_in, function_in}
 use Rattle.wasm_operator_validator_rules.specs.arity.Arity.{Counts, in_u32, function_counts, continuation_counts, resumed, referred, last_referred, switch_counts}
 use Rattle.wasm_operator_validator_arity.specs.Knowing.{ended, type_by_id, type_of_heap, function_alone, function_by_id, continued_by, continued_at}

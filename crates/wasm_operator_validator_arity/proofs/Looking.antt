@@ -6,10 +6,10 @@ use Rattle.wasm_types.specs.trees.Trees.{TypeTree, opened}
 use Rattle.wasm_types.specs.values.declared.value.ValType.{ValType}
 use Rattle.wasm_types.specs.values.Values.{value_of}
 use Rattle.wasm_types.specs.fields.Fields.{field_of}
-use Rattle.wasm_types.specs.groups.Entries.{inner_of}
-use Rattle.wasm_types.specs.groups.declared.composite.CompositeInnerType.{CompositeInnerType}
-use Rattle.wasm_types.specs.groups.declared.composite.CompositeInnerType.TheVariants.{Func, Array, Struct, Cont}
-use Rattle.wasm_types.specs.groups.declared.sub_type.SubType.{SubType}
+use Rattle.wasm_types.specs.Entries.{inner_of}
+use Rattle.wasm_types.specs.declared.composite.CompositeInnerType.{CompositeInnerType}
+use Rattle.wasm_types.specs.declared.composite.CompositeInnerType.TheVariants.{Func, Array, Struct, Cont}
+use Rattle.wasm_types.specs.declared.sub_type.SubType.{SubType}
 use Rattle.wasm_operator_validator_resources.specs.Answers.{IsTypeOf}
 use Rattle.wasm_operator_validator_resources.specs.Meaning.{Meaning, named_type, entry_in}
 use Rattle.wasm_operator_validator_rules.specs.Context.{Module}

@@ -1,7 +1,7 @@
 //! What a [`ModuleArity`](crate::ModuleArity) over look-ups of a module answers.
 
 ghost use Rattle.std.specs.Prelude.{◌≡◌, option_map, slice_get};
-ghost use Rattle.wasm_types.specs.groups.Kinds.{func_in};
+ghost use Rattle.wasm_types.specs.Kinds.{func_in};
 ghost use Rattle.wasm_types.specs.trees.Trees.{opened};
 ghost use Rattle.wasm_operator_validator_resources.specs.Meaning.{Meaning, entry_in, function_in};
 ghost use Rattle.wasm_operator_validator_rules.specs.arity.Arity.{type_counts};

@@ -7,7 +7,7 @@ ghost use Rattle.wasm_types.specs.trees.Types.{value_map};
 ghost use Rattle.wasm_types.specs.trees.Below.{expanded};
 ghost use Rattle.wasm_types.specs.values.Values.{value_of};
 ghost use Rattle.wasm_operator_validator_resources.specs.Meaning.{function_in, named_type};
-ghost use Rattle.wasm_operator_validator_rules.specs.expression.operator.Op.{continuation_of};
+ghost use Rattle.wasm_operators_enums.specs.Op.{continuation_of};
 ghost use Rattle.wasm_operator_validator_rules.specs.arity.Arity.{in_u32, continuation_counts, continuation_operator_counts, switch_counts, last_referred, resumed};
 ghost use Rattle.wasm_operator_validator_arity.specs.Knowing.{Partly, ended, known_by, continued_by, continued_at};
 

@@ -1,7 +1,7 @@
 //! Numbers of operands by group, where the module or the open frames determine some.
 
 ghost use Rattle.std.specs.Prelude.{◌≡◌, ◌+◌, ◌-◌, ◌*◌, Option, option_map, option_and_then};
-ghost use Rattle.wasm_operator_validator_rules.specs.expression.operator.Op.{parametric_of, exception_of};
+ghost use Rattle.wasm_operators_enums.specs.Op.{parametric_of, exception_of};
 ghost use Rattle.wasm_operator_validator_rules.specs.arity.Arity.{in_u32, control_counts, parametric_counts, exception_counts, gc_counts, descriptor_counts};
 ghost use Rattle.wasm_operator_validator_arity.specs.Knowing.{ended, known_by};
 

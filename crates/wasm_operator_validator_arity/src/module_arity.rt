@@ -4,8 +4,8 @@ ghost use Rattle.std.specs.Prelude.{◌≡◌, List, length, option_map, slice_g
 ghost use Rattle.wasm_types.specs.trees.Trees.{opened};
 ghost use Rattle.wasm_operator_validator_resources.specs.Answers.{IsTypeOf};
 ghost use Rattle.wasm_operator_validator_resources.specs.Meaning.{Meaning, entry_in, function_in};
-ghost use Rattle.wasm_operator_validator_rules.specs.expression.immediates.declared.block.BlockType.{BlockType as TheBlockType};
-ghost use Rattle.wasm_operator_validator_rules.specs.expression.immediates.declared.frames.FrameKind.{FrameKind as TheFrameKind};
+ghost use Rattle.wasm_operators_immediates.specs.declared.block.BlockType.{BlockType as TheBlockType};
+ghost use Rattle.wasm_operators_immediates.specs.declared.frames.FrameKind.{FrameKind as TheFrameKind};
 ghost use Rattle.wasm_operator_validator_rules.specs.arity.Arity.{in_u32, type_counts};
 ghost use Rattle.wasm_operator_validator_arity.specs.Knowing.{ended, function_by_id, type_of_heap};
 

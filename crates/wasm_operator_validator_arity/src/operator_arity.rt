@@ -1,6 +1,6 @@
 //! How many operands an operator takes and gives.
 
-ghost use Rattle.wasm_operator_validator_rules.specs.expression.operator.Op.{op_of};
+ghost use Rattle.wasm_operators_enums.specs.Op.{op_of};
 ghost use Rattle.wasm_operator_validator_rules.specs.arity.Arity.{counts_of};
 ghost use Rattle.wasm_operator_validator_arity.specs.Knowing.{ended, known_by, AnswersFor};
 

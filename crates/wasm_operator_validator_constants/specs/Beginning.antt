@@ -1,9 +1,9 @@
 -- Where a constant begins (WebAssembly 3.0, validation, constant expressions).
 use Rattle.std.specs.Prelude.{ℕ, [], false}
 use Rattle.wasm_types.specs.values.declared.value.ValType.{ValType}
-use Rattle.wasm_operator_validator_stacks.specs.expression.immediates.declared.block.BlockType.TheVariants as block
-use Rattle.wasm_operator_validator_stacks.specs.state.Bodies.{fresh}
-use Rattle.wasm_operator_validator_stacks.specs.state.State.{State}
+use Rattle.wasm_operators_immediates.specs.declared.block.BlockType.TheVariants as block
+use Rattle.wasm_operator_validator_state.specs.Bodies.{fresh}
+use Rattle.wasm_operator_validator_state.specs.State.{State}
 use Rattle.wasm_operator_validator_stacks.specs.Layout.{none_saved}
 
 -- what is known there: no locals, and one open frame that gives a value of this type

@@ -1,16 +1,16 @@
 -- Constant expressions as bytes (WebAssembly 3.0, validation, constant expressions).
 use Rattle.std.specs.Prelude.{◌≡◌, ℕ, Option, Result, IfErr}
 use Rattle.wasm_types.specs.decoding.Decoder.{State as Bytes}
-use Rattle.wasm_types.specs.error.Denials.{Tells, UnlessMemory}
-use Rattle.wasm_types.specs.error.ErrorValue.{ErrorValue}
-use Rattle.wasm_types.specs.error.declared.error.ErrorKind.{ErrorKind}
+use Rattle.wasm_types.specs.decoding.Denials.{Tells, UnlessMemory}
+use Rattle.wasm_types.specs.decoding.ErrorValue.{ErrorValue}
+use Rattle.wasm_types.specs.decoding.declared.error.ErrorKind.{ErrorKind}
 use Rattle.wasm_types.specs.values.declared.value.ValType.{ValType}
-use Rattle.wasm_operators_walking.specs.reader.operator.Op.{Op}
-use Rattle.wasm_operators_walking.specs.reader.expression.Code.{Code}
-use Rattle.wasm_operators_walking.specs.reader.expression.Spelling.{SpelledExpression}
+use Rattle.wasm_operators_enums.specs.Op.{Op}
+use Rattle.wasm_operators_encoding.specs.expressions.Code.{Code}
+use Rattle.wasm_operators_encoding.specs.expressions.Spelling.{SpelledExpression}
 use Rattle.wasm_operator_validator_rules.specs.constants.Constants.{IsConstantOperator, IsConstant}
-use Rattle.wasm_operator_validator_expression.specs.resources.Meaning.{Meaning, type_in}
-use Rattle.wasm_operator_validator_expression.specs.state.State.{State}
+use Rattle.wasm_operator_validator_state.specs.resources.Meaning.{Meaning, type_in}
+use Rattle.wasm_operator_validator_state.specs.State.{State}
 use Rattle.wasm_operator_validator_constants.specs.declared.refusal.ConstantRefusal.{ConstantRefusal}
 use Rattle.wasm_operator_validator_constants.specs.Refusals.{kind_of_constant}
 use Rattle.wasm_operator_validator_constants.specs.Operators.{RefusesOperator}

@@ -6,8 +6,7 @@ pub mod Beginning
 pub mod Checked
 -- Laws, with the proofs.
 pub mod laws
--- The rules and laws of the crates below, under their names: crates above cite them here.
-pub use Rattle.wasm_operator_validator_expression.specs.expression as expression
-pub use Rattle.wasm_operator_validator_expression.specs.rules as rules
-pub use Rattle.wasm_operator_validator_expression.specs.resources as resources
-pub use Rattle.wasm_operator_validator_expression.specs.state as state
+-- The rules of crates below, under their names: crates above cite them here.
+pub use Rattle.wasm_operator_validator_driver.specs.arity as arity
+pub use Rattle.wasm_operator_validator_expression.specs as expression
+pub use Rattle.wasm_operator_validator_driver.specs.straight_line as straight_line

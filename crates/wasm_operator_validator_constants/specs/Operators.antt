@@ -1,29 +1,29 @@
 -- Why an operator is refused in a constant.
 use Rattle.std.specs.Prelude.{◌≡◌, ◌≤◌, ℕ, Bool, true, false, Option, Some, None, slice_get}
-use Rattle.wasm_types.specs.error.declared.error.ErrorKind.TheVariants as kinds
+use Rattle.wasm_types.specs.decoding.declared.error.ErrorKind.TheVariants as kinds
 -- for attributes that unfold it
-unfoldable pub use Rattle.wasm_types.specs.features.Features.{has}
-use Rattle.wasm_types.specs.features.Features.{Feature, ExtendedConst, Gc, SharedEverythingThreads, mask}
-use Rattle.wasm_types.specs.features.declared.WasmFeatures.{WasmFeatures}
-use Rattle.wasm_operator_validator_rules.specs.expression.groups.declared.control.ControlOperator.{ControlOperator}
-use Rattle.wasm_operator_validator_rules.specs.expression.groups.declared.control.ControlOperator.TheVariants as control
-use Rattle.wasm_operator_validator_rules.specs.expression.groups.declared.memory.MemoryOperator.{MemoryOperator}
-use Rattle.wasm_operator_validator_rules.specs.expression.groups.declared.memory.MemoryOperator.TheVariants as memory
-use Rattle.wasm_operator_validator_rules.specs.expression.groups.declared.bulk.BulkOperator.{BulkOperator}
-use Rattle.wasm_operator_validator_rules.specs.expression.groups.declared.bulk.BulkOperator.TheVariants as bulk
-use Rattle.wasm_operator_validator_rules.specs.expression.groups.declared.numeric.NumericOperator.{NumericOperator}
-use Rattle.wasm_operator_validator_rules.specs.expression.groups.declared.numeric.NumericOperator.TheVariants as numeric
-use Rattle.wasm_operator_validator_rules.specs.expression.groups.declared.atomic.SharedOperator.{SharedOperator}
-use Rattle.wasm_operator_validator_rules.specs.expression.groups.declared.atomic.SharedOperator.TheVariants as shared
-use Rattle.wasm_operator_validator_rules.specs.expression.operator.groups.declared.gc.GcOperator.{GcOperator}
-use Rattle.wasm_operator_validator_rules.specs.expression.operator.groups.declared.gc.GcOperator.TheVariants as gc
-use Rattle.wasm_operator_validator_rules.specs.expression.operator.groups.declared.gc.DescriptorOperator.{DescriptorOperator}
-use Rattle.wasm_operator_validator_rules.specs.expression.operator.groups.declared.gc.DescriptorOperator.TheVariants as descriptor
-use Rattle.wasm_operator_validator_rules.specs.expression.operator.Op as op
-use Rattle.wasm_operator_validator_rules.specs.expression.operator.Op.{Op}
+unfoldable pub use Rattle.wasm_types.specs.settings.Features.{has}
+use Rattle.wasm_types.specs.settings.Features.{Feature, ExtendedConst, Gc, SharedEverythingThreads, mask}
+use Rattle.wasm_types.specs.settings.declared.WasmFeatures.{WasmFeatures}
+use Rattle.wasm_operators_enums.specs.declared.control.ControlOperator.{ControlOperator}
+use Rattle.wasm_operators_enums.specs.declared.control.ControlOperator.TheVariants as control
+use Rattle.wasm_operators_enums.specs.declared.memory.MemoryOperator.{MemoryOperator}
+use Rattle.wasm_operators_enums.specs.declared.memory.MemoryOperator.TheVariants as memory
+use Rattle.wasm_operators_enums.specs.declared.bulk.BulkOperator.{BulkOperator}
+use Rattle.wasm_operators_enums.specs.declared.bulk.BulkOperator.TheVariants as bulk
+use Rattle.wasm_operators_enums.specs.declared.numeric.NumericOperator.{NumericOperator}
+use Rattle.wasm_operators_enums.specs.declared.numeric.NumericOperator.TheVariants as numeric
+use Rattle.wasm_operators_enums.specs.declared.atomic.SharedOperator.{SharedOperator}
+use Rattle.wasm_operators_enums.specs.declared.atomic.SharedOperator.TheVariants as shared
+use Rattle.wasm_operators_enums.specs.declared.gc.GcOperator.{GcOperator}
+use Rattle.wasm_operators_enums.specs.declared.gc.GcOperator.TheVariants as gc
+use Rattle.wasm_operators_enums.specs.declared.gc.DescriptorOperator.{DescriptorOperator}
+use Rattle.wasm_operators_enums.specs.declared.gc.DescriptorOperator.TheVariants as descriptor
+use Rattle.wasm_operators_enums.specs.Op as op
+use Rattle.wasm_operators_enums.specs.Op.{Op}
 use Rattle.wasm_operator_validator_rules.specs.Context.{Module, Global}
 use Rattle.wasm_operator_validator_rules.specs.constants.Constants.{IsConstantOperator}
-use Rattle.wasm_operator_validator_expression.specs.state.Refusals.{kind_of}
+use Rattle.wasm_operator_validator_state.specs.Refusals.{kind_of}
 use Rattle.wasm_operator_validator_constants.specs.declared.refusal.ConstantRefusal.{ConstantRefusal}
 use Rattle.wasm_operator_validator_constants.specs.declared.refusal.ConstantRefusal.TheVariants as refusals
 

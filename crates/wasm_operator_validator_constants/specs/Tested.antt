@@ -3,19 +3,19 @@
 -- The test is any fact of an operator, and so is what is said of the kind of a refusal. Both stay the same all the way.
 use Rattle.std.specs.Prelude.{◌≡◌, ◌⊎◌, ◌+◌, ℕ, List, [], ◌∷◌, true, Option, Some, None, Result, IfErr, length}
 use Rattle.wasm_types.specs.decoding.Decoder.{State as Bytes}
-use Rattle.wasm_types.specs.error.Denials.{Tells}
-use Rattle.wasm_types.specs.error.ErrorValue.{ErrorValue}
-use Rattle.wasm_types.specs.error.declared.error.ErrorKind.{ErrorKind}
-use Rattle.wasm_types.specs.error.declared.error.ErrorKind.TheVariants as kinds
+use Rattle.wasm_types.specs.decoding.Denials.{Tells}
+use Rattle.wasm_types.specs.decoding.ErrorValue.{ErrorValue}
+use Rattle.wasm_types.specs.decoding.declared.error.ErrorKind.{ErrorKind}
+use Rattle.wasm_types.specs.decoding.declared.error.ErrorKind.TheVariants as kinds
 use Rattle.wasm_types.specs.reader.Reading.{IsNotMemory}
-use Rattle.wasm_operators_walking.specs.reader.operator.Op.{Op}
-use Rattle.wasm_operators_walking.specs.reader.expression.Code.{Code, walk}
-use Rattle.wasm_operators_walking.specs.reader.expression.Spelling.{SpelledExpression}
-use Rattle.wasm_operators_walking.specs.reader.Standing.{Standing, at_start}
-use Rattle.wasm_operators_walking.specs.Walking.{VisitsAll, WalksTo, WalksUntilAt, StopsPlain}
-use Rattle.wasm_operator_validator_expression.specs.resources.Meaning.{Meaning}
-use Rattle.wasm_operator_validator_expression.specs.state.Refusals.{OfContent}
-use Rattle.wasm_operator_validator_expression.specs.state.State.{State, Accepts, Visits}
+use Rattle.wasm_operators_enums.specs.Op.{Op}
+use Rattle.wasm_operators_encoding.specs.expressions.Code.{Code, walk}
+use Rattle.wasm_operators_encoding.specs.expressions.Spelling.{SpelledExpression}
+use Rattle.wasm_operators_reader.specs.Standing.{Standing, at_start}
+use Rattle.wasm_operators_reader.specs.Walking.{VisitsAll, WalksTo, WalksUntilAt, StopsPlain}
+use Rattle.wasm_operator_validator_state.specs.resources.Meaning.{Meaning}
+use Rattle.wasm_operator_validator_state.specs.Refusals.{OfContent}
+use Rattle.wasm_operator_validator_state.specs.State.{State, Accepts, Visits}
 
 -- ---- one operator
 

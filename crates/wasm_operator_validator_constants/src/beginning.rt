@@ -1,7 +1,7 @@
 //! The validator of a constant, as its expression begins.
 
 ghost use Rattle.std.specs.Prelude.{◌≡◌, IfOk, IfErr};
-ghost use Rattle.wasm_types.specs.error.declared.error.ErrorKind.TheVariants.{OutOfMemory};
+ghost use Rattle.wasm_types.specs.decoding.declared.error.ErrorKind.TheVariants.{OutOfMemory};
 ghost use Rattle.wasm_operator_validator_constants.specs.Beginning.{constant_begins};
 
 use wasm_operator_validator_stacks::{

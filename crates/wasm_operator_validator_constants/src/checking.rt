@@ -8,10 +8,10 @@ use crate::validating::validate_constant_operators;
 use crate::walk::ConstantWalk;
 use std::alloc::Global;
 use std::mem::replace;
+use wasm_operator_validator_driver::{AsRefusal, ValidatingVisitor, ValidatingWalk};
 use wasm_operator_validator_stacks::{
     OperatorValidator, OperatorValidatorAllocations, WasmModuleResources,
 };
-use wasm_operator_validator_walk::{AsRefusal, ValidatingVisitor, ValidatingWalk};
 use wasm_operators_bodies::ConstExpr;
 use wasm_types::{BinaryReader, Result, ValType, WasmFeatures};
 

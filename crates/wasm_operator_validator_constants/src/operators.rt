@@ -1,7 +1,7 @@
 //! The test of one operator.
 
 ghost use Rattle.std.specs.Prelude.{◌≡◌, ℕ, false, IfOk, IfErr};
-ghost use Rattle.wasm_operators_walking.specs.reader.operator.Op.{Op, op_of};
+ghost use Rattle.wasm_operators_enums.specs.Op.{Op, op_of};
 ghost use Rattle.wasm_operator_validator_rules.specs.constants.Constants.{IsConstantOperator};
 ghost use Rattle.wasm_operator_validator_constants.specs.Operators.{global_read, is_sum, is_object, is_described, is_reference};
 ghost use Rattle.wasm_operator_validator_constants.specs.Operators.{is_shared_number, ends_frame, is_listed, is_allowed};
@@ -10,7 +10,7 @@ ghost use Rattle.wasm_operator_validator_constants.specs.Operators.{allowing, Is
 use crate::ConstantRefusal;
 use crate::globals::check_global;
 use wasm_operator_validator_stacks::{BulkOperator, MemoryOperator, WasmModuleResources};
-use wasm_operators_walking::{
+use wasm_operators_reader::walks::{
     ControlOperator, DescriptorOperator, GcOperator, NumericOperator, Operator, SharedOperator,
 };
 use wasm_types::WasmFeatures;

@@ -1,8 +1,8 @@
 //! Why an operator of a constant is refused, in few bytes.
 
 ghost use Rattle.std.specs.Prelude.{◌≡◌};
-ghost use Rattle.wasm_types.specs.error.declared.error.ErrorKind.TheVariants.{MissingFeature, Other};
-ghost use Rattle.wasm_operator_validator_expression.specs.state.Refusals.{OfContent};
+ghost use Rattle.wasm_types.specs.decoding.declared.error.ErrorKind.TheVariants.{MissingFeature, Other};
+ghost use Rattle.wasm_operator_validator_state.specs.Refusals.{OfContent};
 ghost use Rattle.wasm_operator_validator_constants.specs.Refusals.{kind_of_constant};
 
 use std::alloc::Global;

@@ -1,16 +1,16 @@
 //! The loop over the operators of a constant.
 
 ghost use Rattle.std.specs.Prelude.{◌≡◌, ◌↔◌, Result, IsTrue, [], false};
-ghost use Rattle.wasm_types.specs.error.declared.error.ErrorKind.TheVariants.{Other};
-ghost use Rattle.wasm_operators_walking.specs.reader.operator.Op.{Op};
-ghost use Rattle.wasm_operator_validator_expression.specs.state.State.{State};
+ghost use Rattle.wasm_types.specs.decoding.declared.error.ErrorKind.TheVariants.{Other};
+ghost use Rattle.wasm_operators_enums.specs.Op.{Op};
+ghost use Rattle.wasm_operator_validator_state.specs.State.{State};
 ghost use Rattle.wasm_operator_validator_constants.specs.Refusals.{refused_constant};
 ghost use Rattle.wasm_operator_validator_constants.specs.Checked.{Surroundings, VisitsConstant, ValidatesConstant};
 
 use crate::ConstantRefusal;
 use crate::refusal::constant_error_at;
 use std::alloc::Global;
-use wasm_operators_walking::{TellOperator, TellPlain, tell_expression_with_offset};
+use wasm_operators_reader::walks::{TellOperator, TellPlain, tell_expression_with_offset};
 use wasm_types::{BinaryReader, Error, Result};
 
 /// A visitor that tests each operator, and validates those that are constant.

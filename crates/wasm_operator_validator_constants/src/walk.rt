@@ -8,9 +8,9 @@ ghost use Rattle.wasm_operator_validator_constants.specs.laws.Driven.{same_aroun
 use crate::ConstantRefusal;
 use crate::operators::is_constant_operator;
 use crate::validating::ValidatingConstants;
+use wasm_operator_validator_driver::ValidatingWalk;
 use wasm_operator_validator_stacks::WasmModuleResources;
-use wasm_operator_validator_walk::ValidatingWalk;
-use wasm_operators_walking::{Operator, TellOperator, TellPlain, Visitor};
+use wasm_operators_reader::walks::{Operator, TellOperator, TellPlain, Visitor};
 use wasm_types::WasmFeatures;
 
 /// The walk that validates, where each operator has to be constant first.

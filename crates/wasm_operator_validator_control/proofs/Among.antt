@@ -18,11 +18,11 @@ use Rattle.std.proofs.Common.{
   subst,
   arith,
 }
-use Rattle.wasm_operator_validator_determined.specs.rules.Operands.{ValueType, Operand}
-use Rattle.wasm_operator_validator_determined.specs.resources.Meaning.{Meaning}
-use Rattle.wasm_operator_validator_determined.specs.state.State.{State}
+use Rattle.wasm_operator_validator_rules.specs.Operands.{ValueType, Operand}
+use Rattle.wasm_operator_validator_state.specs.resources.Meaning.{Meaning}
+use Rattle.wasm_operator_validator_state.specs.State.{State}
 use Rattle.wasm_operator_validator_control.specs.Fitting.{Suits, EachSuits, FitsAt, EachFitsAt}
-use Rattle.wasm_operator_validator_labels.specs.Among.{IsAmong, SameLabels}
+use Rattle.wasm_operator_validator_locals.specs.labels.Among.{IsAmong, SameLabels}
 
 -- ---- labels that suit
 

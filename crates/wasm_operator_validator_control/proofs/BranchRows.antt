@@ -1,22 +1,22 @@
 -- The rows of branches and returns.
 use Rattle.std.proofs.Common.{◌≡◌, ◌↔◌, ◌∙◌, ℕ, List, [], ◌∷◌, ◌++◌, Some, None, false, refl, sym, ap, subst, append-nil, slice_get, map, reverse}
-use Rattle.wasm_types.specs.error.declared.error.ErrorKind.{ErrorKind}
-use Rattle.wasm_types.specs.error.Denials.{Denies}
-use Rattle.wasm_types.specs.error.DenialLaws.{denies_from}
-use Rattle.wasm_operator_validator_determined.specs.expression.info.declared.proposal.Proposal.TheVariants.{Mvp}
-use Rattle.wasm_operator_validator_determined.specs.expression.groups.declared.control.ControlOperator.TheVariants as control
-use Rattle.wasm_operator_validator_determined.specs.expression.operator.Op as op
-use Rattle.wasm_operator_validator_determined.specs.expression.operator.Op.{Op}
-use Rattle.wasm_operator_validator_determined.specs.rules.Operands.{ValueType, Operand, known, all_known}
-use Rattle.wasm_operator_validator_determined.specs.rules.InstructionTypes.{i32_type}
-use Rattle.wasm_operator_validator_determined.specs.rules.Row.{Takes, GroupRow}
-use Rattle.wasm_operator_validator_determined.specs.resources.Meaning.{Meaning}
-use Rattle.wasm_operator_validator_determined.specs.state.State.{State, initialised, context, label, outermost_results, Accepts}
-use Rattle.wasm_operator_validator_determined.specs.state.Steps.{Stacks, MayPop}
-use Rattle.wasm_operator_validator_determined.specs.state.Entering.{MayBegin}
-use Rattle.wasm_operator_validator_determined.specs.state.laws.Rows.{some_row}
-use Rattle.wasm_operator_validator_determined.specs.Operators.{IsPlain}
-use Rattle.wasm_operator_validator_determined.specs.laws.Determined.{no_row}
+use Rattle.wasm_types.specs.decoding.declared.error.ErrorKind.{ErrorKind}
+use Rattle.wasm_types.specs.decoding.Denials.{Denies}
+use Rattle.wasm_types.specs.decoding.DenialLaws.{denies_from}
+use Rattle.wasm_operators_immediates.specs.declared.proposal.Proposal.TheVariants.{Mvp}
+use Rattle.wasm_operators_enums.specs.declared.control.ControlOperator.TheVariants as control
+use Rattle.wasm_operators_enums.specs.Op as op
+use Rattle.wasm_operators_enums.specs.Op.{Op}
+use Rattle.wasm_operator_validator_rules.specs.Operands.{ValueType, Operand, known, all_known}
+use Rattle.wasm_operator_validator_rules.specs.InstructionTypes.{i32_type}
+use Rattle.wasm_operator_validator_rules.specs.Row.{Takes, GroupRow}
+use Rattle.wasm_operator_validator_state.specs.resources.Meaning.{Meaning}
+use Rattle.wasm_operator_validator_state.specs.State.{State, initialised, context, label, outermost_results, Accepts}
+use Rattle.wasm_operator_validator_state.specs.Steps.{Stacks, MayPop}
+use Rattle.wasm_operator_validator_state.specs.Entering.{MayBegin}
+use Rattle.wasm_operator_validator_state.specs.laws.Rows.{some_row}
+use Rattle.wasm_operator_validator_stacks.specs.determined.Operators.{IsPlain}
+use Rattle.wasm_operator_validator_stacks.specs.determined.laws.Determined.{no_row}
 use Rattle.wasm_operator_validator_control.specs.laws.Jumping.{IsLast, pops_last}
 use Rattle.wasm_operator_validator_control.specs.laws.Labels.{one_label, not_labelled}
 

@@ -3,13 +3,13 @@ use Rattle.std.proofs.Common.{◌≡◌, ◌↔◌, ◌∙◌, ℕ, List, [], �
 use Rattle.std.proofs.lemmas.List.{map-append}
 use Rattle.wasm_types.specs.trees.Below.{Below}
 use Rattle.wasm_types.specs.values.declared.value.ValType.{ValType}
-use Rattle.wasm_operator_validator_determined.specs.expression.immediates.declared.handlers.Catch.TheVariants as clause
-use Rattle.wasm_operator_validator_determined.specs.rules.Operands.{ValueType, AllBelow, known, all_known}
-use Rattle.wasm_operator_validator_determined.specs.rules.Context.{Context}
-use Rattle.wasm_operator_validator_determined.specs.rules.Exceptions.{exception, Carries, Catches}
-use Rattle.wasm_operator_validator_determined.specs.resources.Meaning.{Meaning, type_in}
-use Rattle.wasm_operator_validator_determined.specs.state.declared.refusal.Refusal.{Refusal}
-use Rattle.wasm_operator_validator_determined.specs.state.State.{State, types_in, label, context}
+use Rattle.wasm_operators_immediates.specs.declared.handlers.Catch.TheVariants as clause
+use Rattle.wasm_operator_validator_rules.specs.Operands.{ValueType, AllBelow, known, all_known}
+use Rattle.wasm_operator_validator_rules.specs.Context.{Context}
+use Rattle.wasm_operator_validator_rules.specs.Exceptions.{exception, Carries, Catches}
+use Rattle.wasm_operator_validator_state.specs.resources.Meaning.{Meaning, type_in}
+use Rattle.wasm_operator_validator_state.specs.declared.refusal.Refusal.{Refusal}
+use Rattle.wasm_operator_validator_state.specs.State.{State, types_in, label, context}
 use Rattle.wasm_operator_validator_control.specs.Clauses.{IsTagIn}
 use Rattle.wasm_operator_validator_control.specs.Fitting.{Answers}
 use Rattle.wasm_operator_validator_control.specs.laws.Labels.{one_label, not_labelled}

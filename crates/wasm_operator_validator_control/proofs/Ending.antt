@@ -1,26 +1,26 @@
 -- The ends of frames.
 use Rattle.std.proofs.Common.{◌≡◌, ◌↔◌, ◌∙◌, List, [], ◌∷◌, Bool, false, IsTrue, Option, Some, None, refl, sym, ap, subst, append-nil}
-use Rattle.wasm_types.specs.error.declared.error.ErrorKind.{ErrorKind}
-use Rattle.wasm_types.specs.error.Denials.{Denies}
-use Rattle.wasm_types.specs.error.DenialLaws.{denies, denies_from}
-use Rattle.wasm_operator_validator_determined.specs.expression.immediates.declared.block.BlockType.{BlockType}
-use Rattle.wasm_operator_validator_determined.specs.expression.immediates.declared.frames.FrameKind.{FrameKind}
-use Rattle.wasm_operator_validator_determined.specs.expression.immediates.declared.frames.FrameKind.TheVariants as frames
-use Rattle.wasm_operator_validator_determined.specs.expression.info.declared.proposal.Proposal.TheVariants.{Mvp}
-use Rattle.wasm_operator_validator_determined.specs.rules.Operands.{ValueType, Operand, AllBelow, all_known, stack}
-use Rattle.wasm_operator_validator_determined.specs.rules.Context.{Signature}
-use Rattle.wasm_operator_validator_determined.specs.rules.Typed.{MayClose}
-use Rattle.wasm_operator_validator_determined.specs.resources.Meaning.{Meaning}
-use Rattle.wasm_operator_validator_determined.specs.state.Refusals.{Does}
-use Rattle.wasm_operator_validator_determined.specs.state.declared.frame.Frame.{Frame as OpenFrame}
-use Rattle.wasm_operator_validator_determined.specs.state.State.{Open, State, signature_of, Accepts, Decides, Checks}
-use Rattle.wasm_operator_validator_determined.specs.state.Steps.{Stacks, SameFrames, Popped, MayPop, Pushed, IsBare, LeavesTo, begun}
-use Rattle.wasm_operator_validator_determined.specs.state.Entering.{MayBegin}
-use Rattle.wasm_operator_validator_determined.specs.state.laws.Checks.{checks_going}
-use Rattle.wasm_operator_validator_determined.specs.state.laws.Closing.{end, else}
-use Rattle.wasm_operator_validator_determined.specs.state.laws.Accepting.{MayEnd, results_of, ends}
-use Rattle.wasm_operator_validator_determined.specs.state.laws.Frames.{BeginsFrame, pushed_closes, IsIfTop, elses, bare, ended, turned, closes_nothing}
-use Rattle.wasm_operator_validator_determined.specs.Operators.{Stays}
+use Rattle.wasm_types.specs.decoding.declared.error.ErrorKind.{ErrorKind}
+use Rattle.wasm_types.specs.decoding.Denials.{Denies}
+use Rattle.wasm_types.specs.decoding.DenialLaws.{denies, denies_from}
+use Rattle.wasm_operators_immediates.specs.declared.block.BlockType.{BlockType}
+use Rattle.wasm_operators_immediates.specs.declared.frames.FrameKind.{FrameKind}
+use Rattle.wasm_operators_immediates.specs.declared.frames.FrameKind.TheVariants as frames
+use Rattle.wasm_operators_immediates.specs.declared.proposal.Proposal.TheVariants.{Mvp}
+use Rattle.wasm_operator_validator_rules.specs.Operands.{ValueType, Operand, AllBelow, all_known, stack}
+use Rattle.wasm_operator_validator_rules.specs.Context.{Signature}
+use Rattle.wasm_operator_validator_rules.specs.Typed.{MayClose}
+use Rattle.wasm_operator_validator_state.specs.resources.Meaning.{Meaning}
+use Rattle.wasm_operator_validator_state.specs.Refusals.{Does}
+use Rattle.wasm_operator_validator_state.specs.declared.frame.Frame.{Frame as OpenFrame}
+use Rattle.wasm_operator_validator_state.specs.State.{Open, State, signature_of, Accepts, Decides, Checks}
+use Rattle.wasm_operator_validator_state.specs.Steps.{Stacks, SameFrames, Popped, MayPop, Pushed, IsBare, LeavesTo, begun}
+use Rattle.wasm_operator_validator_state.specs.Entering.{MayBegin}
+use Rattle.wasm_operator_validator_state.specs.laws.Checks.{checks_going}
+use Rattle.wasm_operator_validator_state.specs.laws.Closing.{end, else}
+use Rattle.wasm_operator_validator_state.specs.laws.Accepting.{MayEnd, results_of, ends}
+use Rattle.wasm_operator_validator_state.specs.laws.Frames.{BeginsFrame, pushed_closes, IsIfTop, elses, bare, ended, turned, closes_nothing}
+use Rattle.wasm_operator_validator_stacks.specs.determined.Operators.{Stays}
 use Rattle.wasm_operator_validator_control.specs.Ending.{Finishes, MayFinish}
 use Rattle.wasm_operator_validator_control.specs.laws.Labels.{frame_at, IsFrame}
 use Rattle.wasm_operator_validator_control.specs.laws.Turned.{below_as_stacks}

@@ -32,16 +32,16 @@ use Rattle.std.proofs.Common.{
 }
 use Rattle.std.proofs.lemmas.List.{reverse-reverse}
 use Rattle.wasm_types.specs.values.declared.heap.AbstractHeapType.{AbstractHeapType}
-use Rattle.wasm_operator_validator_determined.specs.rules.Operands.{ValueType, Operand, bottom, some_reference, known, OperandBelow, AllBelow, all_known, stack}
-use Rattle.wasm_operator_validator_determined.specs.resources.Meaning.{Meaning, type_in}
-use Rattle.wasm_operator_validator_determined.specs.state.declared.operand.MaybeType.{MaybeType}
-use Rattle.wasm_operator_validator_determined.specs.state.declared.operand.MaybeType.TheVariants as maybe
-use Rattle.wasm_operator_validator_determined.specs.state.declared.refusal.Refusal.{Refusal}
-use Rattle.wasm_operator_validator_determined.specs.state.State.{State, Stands}
-use Rattle.wasm_operator_validator_determined.specs.state.Steps.{Stacks, IsOpen, MayPop}
-use Rattle.wasm_operator_validator_determined.specs.state.laws.Operands.{operand_refl, operand_trans, all_below_refl}
-use Rattle.wasm_operator_validator_determined.specs.state.laws.Accepting.{stacks_below}
-use Rattle.wasm_operator_validator_determined.specs.stacks.Peeking.{operand_at}
+use Rattle.wasm_operator_validator_rules.specs.Operands.{ValueType, Operand, bottom, some_reference, known, OperandBelow, AllBelow, all_known, stack}
+use Rattle.wasm_operator_validator_state.specs.resources.Meaning.{Meaning, type_in}
+use Rattle.wasm_operator_validator_state.specs.declared.operand.MaybeType.{MaybeType}
+use Rattle.wasm_operator_validator_state.specs.declared.operand.MaybeType.TheVariants as maybe
+use Rattle.wasm_operator_validator_state.specs.declared.refusal.Refusal.{Refusal}
+use Rattle.wasm_operator_validator_state.specs.State.{State, Stands}
+use Rattle.wasm_operator_validator_state.specs.Steps.{Stacks, IsOpen, MayPop}
+use Rattle.wasm_operator_validator_state.specs.laws.Operands.{operand_refl, operand_trans, all_below_refl}
+use Rattle.wasm_operator_validator_state.specs.laws.Accepting.{stacks_below}
+use Rattle.wasm_operator_validator_stacks.specs.Peeking.{operand_at}
 use Rattle.wasm_operator_validator_control.specs.laws.Labels.{one_label}
 use Rattle.wasm_operator_validator_control.specs.laws.Turned.{below_append, below_reverse}
 use Rattle.wasm_operator_validator_control.specs.Fitting.{labels_of, EachBelow, MayBranch, EachSuits, FitsAt, EachFitsAt, a_reference, either_shared, SharesOne, AgreesAt, AllAgree, Answers}

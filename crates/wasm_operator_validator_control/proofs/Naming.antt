@@ -9,20 +9,20 @@ use Rattle.wasm_types.specs.values.declared.heap.HeapType.TheVariants as heap
 use Rattle.wasm_types.specs.values.declared.heap.AbstractHeapType.TheVariants as heaps
 use Rattle.wasm_types.specs.values.declared.value.ValType.TheVariants as vals
 use Rattle.wasm_types.specs.values.Reference.{Reference}
-use Rattle.wasm_types.specs.groups.Kinds.{func_in}
-use Rattle.wasm_types.specs.groups.Entries.{inner_of}
-use Rattle.wasm_types.specs.groups.declared.composite.CompositeInnerType.{CompositeInnerType}
-use Rattle.wasm_types.specs.groups.declared.composite.CompositeInnerType.TheVariants.{Func, Array, Struct, Cont}
-use Rattle.wasm_types.specs.groups.declared.sub_type.SubType.{SubType}
-use Rattle.wasm_operator_validator_determined.specs.rules.Operands.{ValueType}
-use Rattle.wasm_operator_validator_determined.specs.rules.Context.{Table, Signature, IsFunctionType}
-use Rattle.wasm_operator_validator_determined.specs.resources.Meaning.{Meaning, named_type, entry_in, type_in, reference_in}
-use Rattle.wasm_operator_validator_determined.specs.state.State.{State, types_in}
-use Rattle.wasm_operator_validator_determined.specs.Operators.{MayUseIn, IsUsable}
-use Rattle.wasm_operator_validator_determined.specs.laws.Types.{reference_is}
-use Rattle.wasm_operator_validator_determined.specs.laws.Usable.{fails}
-use Rattle.wasm_operator_validator_blocks.specs.Signatures.{signature_in}
-use Rattle.wasm_operator_validator_blocks.proofs.Signing.{types_twice}
+use Rattle.wasm_types.specs.Kinds.{func_in}
+use Rattle.wasm_types.specs.Entries.{inner_of}
+use Rattle.wasm_types.specs.declared.composite.CompositeInnerType.{CompositeInnerType}
+use Rattle.wasm_types.specs.declared.composite.CompositeInnerType.TheVariants.{Func, Array, Struct, Cont}
+use Rattle.wasm_types.specs.declared.sub_type.SubType.{SubType}
+use Rattle.wasm_operator_validator_rules.specs.Operands.{ValueType}
+use Rattle.wasm_operator_validator_rules.specs.Context.{Table, Signature, IsFunctionType}
+use Rattle.wasm_operator_validator_state.specs.resources.Meaning.{Meaning, named_type, entry_in, type_in, reference_in}
+use Rattle.wasm_operator_validator_state.specs.State.{State, types_in}
+use Rattle.wasm_operator_validator_stacks.specs.determined.Operators.{MayUseIn, IsUsable}
+use Rattle.wasm_operator_validator_stacks.specs.determined.laws.Types.{reference_is}
+use Rattle.wasm_operator_validator_stacks.specs.determined.laws.Usable.{fails}
+use Rattle.wasm_operator_validator_state.specs.blocks.Signatures.{signature_in}
+use Rattle.wasm_operator_validator_state.proofs.Signing.{types_twice}
 use Rattle.wasm_operator_validator_control.specs.Callees.{IsUsableFunction, IsFunctionIn, IsFunctionTable, table_is_shared}
 
 -- ---- what a type is

@@ -1,35 +1,35 @@
 -- The rows of references without null and of branches on null.
 use Rattle.std.proofs.Common.{◌≡◌, ◌↔◌, ◌∙◌, ℕ, List, [], ◌∷◌, ◌++◌, Bool, true, false, Option, Some, None, refl, sym, ap, subst, map, reverse, slice_get}
 use Rattle.std.proofs.lemmas.List.{reverse-append, map-append}
-use Rattle.wasm_types.specs.error.declared.error.ErrorKind.{ErrorKind}
-use Rattle.wasm_types.specs.error.Denials.{Denies}
-use Rattle.wasm_types.specs.error.DenialLaws.{denies, denies_from}
+use Rattle.wasm_types.specs.decoding.declared.error.ErrorKind.{ErrorKind}
+use Rattle.wasm_types.specs.decoding.Denials.{Denies}
+use Rattle.wasm_types.specs.decoding.DenialLaws.{denies, denies_from}
 use Rattle.wasm_types.specs.trees.Types.{HeapOf, number, ref, abstract}
 use Rattle.wasm_types.specs.trees.Trees.{TypeTree}
 use Rattle.wasm_types.specs.values.declared.value.ValType.{ValType}
 use Rattle.wasm_types.specs.values.Reference.{Reference}
 use Rattle.wasm_types.specs.values.declared.value.ValType.TheVariants as vals
 use Rattle.wasm_types.specs.values.Trees.{abstract_of}
-use Rattle.wasm_operator_validator_determined.specs.expression.info.declared.proposal.Proposal.TheVariants.{FunctionReferences}
-use Rattle.wasm_operator_validator_determined.specs.expression.groups.declared.control.ControlOperator.TheVariants as control
-use Rattle.wasm_operator_validator_determined.specs.expression.operator.Op as op
-use Rattle.wasm_operator_validator_determined.specs.expression.operator.Op.{Op}
-use Rattle.wasm_operator_validator_determined.specs.rules.Operands.{ValueType, Operand, bottom, some_reference, known, IsReference, OperandBelow, AllBelow, all_known, stack}
-use Rattle.wasm_operator_validator_determined.specs.rules.Row.{Takes, GroupRow, not_null}
-use Rattle.wasm_operator_validator_determined.specs.resources.Meaning.{Meaning, type_in, heap_in}
-use Rattle.wasm_operator_validator_determined.specs.state.Refusals.{Does}
-use Rattle.wasm_operator_validator_determined.specs.state.declared.operand.MaybeType.{MaybeType}
-use Rattle.wasm_operator_validator_determined.specs.state.declared.operand.MaybeType.TheVariants as maybe
-use Rattle.wasm_operator_validator_determined.specs.state.State.{State, Stands, initialised, context, types_in, label, Accepts, Decides, Checks}
-use Rattle.wasm_operator_validator_determined.specs.state.Steps.{Stacks, MayPop, MayPopAny, PoppedAny, PushedAny, Exchanged}
-use Rattle.wasm_operator_validator_determined.specs.state.laws.Operands.{operand_refl, all_below_refl}
-use Rattle.wasm_operator_validator_determined.specs.state.laws.Rows.{Reached, Least, by_row, some_row}
-use Rattle.wasm_operator_validator_determined.specs.state.Entering.{MayBegin}
-use Rattle.wasm_operator_validator_determined.specs.state.laws.Entering.{enabled}
-use Rattle.wasm_operator_validator_determined.specs.state.laws.Checks.{checks_going}
-use Rattle.wasm_operator_validator_determined.specs.Operators.{IsPlain, Stays}
-use Rattle.wasm_operator_validator_determined.specs.laws.Same.{same_trans, stays_same, stays_trans}
-use Rattle.wasm_operator_validator_determined.specs.laws.Determined.{refused_then, no_row}
+use Rattle.wasm_operators_immediates.specs.declared.proposal.Proposal.TheVariants.{FunctionReferences}
+use Rattle.wasm_operators_enums.specs.declared.control.ControlOperator.TheVariants as control
+use Rattle.wasm_operators_enums.specs.Op as op
+use Rattle.wasm_operators_enums.specs.Op.{Op}
+use Rattle.wasm_operator_validator_rules.specs.Operands.{ValueType, Operand, bottom, some_reference, known, IsReference, OperandBelow, AllBelow, all_known, stack}
+use Rattle.wasm_operator_validator_rules.specs.Row.{Takes, GroupRow, not_null}
+use Rattle.wasm_operator_validator_state.specs.resources.Meaning.{Meaning, type_in, heap_in}
+use Rattle.wasm_operator_validator_state.specs.Refusals.{Does}
+use Rattle.wasm_operator_validator_state.specs.declared.operand.MaybeType.{MaybeType}
+use Rattle.wasm_operator_validator_state.specs.declared.operand.MaybeType.TheVariants as maybe
+use Rattle.wasm_operator_validator_state.specs.State.{State, Stands, initialised, context, types_in, label, Accepts, Decides, Checks}
+use Rattle.wasm_operator_validator_state.specs.Steps.{Stacks, MayPop, MayPopAny, PoppedAny, PushedAny, Exchanged}
+use Rattle.wasm_operator_validator_state.specs.laws.Operands.{operand_refl, all_below_refl}
+use Rattle.wasm_operator_validator_state.specs.laws.Rows.{Reached, Least, by_row, some_row}
+use Rattle.wasm_operator_validator_state.specs.Entering.{MayBegin}
+use Rattle.wasm_operator_validator_state.specs.laws.Entering.{enabled}
+use Rattle.wasm_operator_validator_state.specs.laws.Checks.{checks_going}
+use Rattle.wasm_operator_validator_stacks.specs.determined.Operators.{IsPlain, Stays}
+use Rattle.wasm_operator_validator_stacks.specs.determined.laws.Same.{same_trans, stays_same, stays_trans}
+use Rattle.wasm_operator_validator_stacks.specs.determined.laws.Determined.{refused_then, no_row}
 use Rattle.wasm_operator_validator_control.specs.Nulls.{known_not_null, EndsIn, EndsInNone}
 use Rattle.wasm_operator_validator_control.specs.laws.Jumping.{pops_last}
 use Rattle.wasm_operator_validator_control.specs.laws.Labels.{one_label, not_labelled}

@@ -1,36 +1,36 @@
 -- Operators that open a frame.
 use Rattle.std.proofs.Common.{◌≡◌, ◌↔◌, ◌∙◌, false, List, [], ◌∷◌, ◌++◌, Option, Some, None, refl, sym, ap, subst}
-use Rattle.wasm_types.specs.error.declared.error.ErrorKind.{ErrorKind}
-use Rattle.wasm_types.specs.error.Denials.{Denies}
-use Rattle.wasm_types.specs.error.DenialLaws.{denies_from}
+use Rattle.wasm_types.specs.decoding.declared.error.ErrorKind.{ErrorKind}
+use Rattle.wasm_types.specs.decoding.Denials.{Denies}
+use Rattle.wasm_types.specs.decoding.DenialLaws.{denies_from}
 use Rattle.wasm_types.specs.trees.Trees.{TypeTree}
 use Rattle.wasm_types.specs.trees.Types.{InnerOf, function}
 use Rattle.wasm_types.specs.trees.Below.{expanded}
-use Rattle.wasm_operator_validator_determined.specs.expression.immediates.declared.block.BlockType.{BlockType}
-use Rattle.wasm_operator_validator_determined.specs.expression.immediates.declared.block.BlockType.TheVariants as block
-use Rattle.wasm_operator_validator_determined.specs.expression.immediates.declared.frames.FrameKind.{FrameKind}
-use Rattle.wasm_operator_validator_determined.specs.expression.immediates.declared.frames.FrameKind.TheVariants as frames
-use Rattle.wasm_operator_validator_determined.specs.expression.info.declared.proposal.Proposal.{Proposal}
-use Rattle.wasm_operator_validator_determined.specs.expression.info.declared.proposal.Proposal.TheVariants.{Mvp}
-use Rattle.wasm_operator_validator_determined.specs.expression.groups.declared.control.ControlOperator.TheVariants as control
-use Rattle.wasm_operator_validator_determined.specs.expression.operator.Op as op
-use Rattle.wasm_operator_validator_determined.specs.expression.operator.Op.{Op}
-use Rattle.wasm_operator_validator_determined.specs.expression.operator.declared.role.Role.TheVariants as role
-use Rattle.wasm_operator_validator_determined.specs.expression.operator.Roles.{role_of}
-use Rattle.wasm_operator_validator_determined.specs.rules.Operands.{ValueType, known, stack}
-use Rattle.wasm_operator_validator_determined.specs.rules.Context.{Context, Signature, IsBlockType}
-use Rattle.wasm_operator_validator_determined.specs.rules.Typed.{HasType, MayNest, block_type_of, entry_of}
-use Rattle.wasm_operator_validator_determined.specs.rules.InstructionTypes.{i32_type}
-use Rattle.wasm_operator_validator_determined.specs.resources.Meaning.{Meaning}
-use Rattle.wasm_operator_validator_determined.specs.state.Refusals.{Does}
-use Rattle.wasm_operator_validator_determined.specs.state.State.{Given, Open, State, signature_of, context, Accepts, Decides, Checks}
-use Rattle.wasm_operator_validator_determined.specs.state.Entering.{MayBegin}
-use Rattle.wasm_operator_validator_determined.specs.state.laws.Checks.{checks_going}
-use Rattle.wasm_operator_validator_determined.specs.state.Steps.{Stacks, IsOpen, Popped, MayPop, Pushed, begun}
-use Rattle.wasm_operator_validator_determined.specs.state.laws.Frames.{Means, opened, may_open, pushed_closes}
-use Rattle.wasm_operator_validator_blocks.specs.Signatures.{IsBlock}
+use Rattle.wasm_operators_immediates.specs.declared.block.BlockType.{BlockType}
+use Rattle.wasm_operators_immediates.specs.declared.block.BlockType.TheVariants as block
+use Rattle.wasm_operators_immediates.specs.declared.frames.FrameKind.{FrameKind}
+use Rattle.wasm_operators_immediates.specs.declared.frames.FrameKind.TheVariants as frames
+use Rattle.wasm_operators_immediates.specs.declared.proposal.Proposal.{Proposal}
+use Rattle.wasm_operators_immediates.specs.declared.proposal.Proposal.TheVariants.{Mvp}
+use Rattle.wasm_operators_enums.specs.declared.control.ControlOperator.TheVariants as control
+use Rattle.wasm_operators_enums.specs.Op as op
+use Rattle.wasm_operators_enums.specs.Op.{Op}
+use Rattle.wasm_operators_enums.specs.declared.role.Role.TheVariants as role
+use Rattle.wasm_operators_enums.specs.Roles.{role_of}
+use Rattle.wasm_operator_validator_rules.specs.Operands.{ValueType, known, stack}
+use Rattle.wasm_operator_validator_rules.specs.Context.{Context, Signature, IsBlockType}
+use Rattle.wasm_operator_validator_rules.specs.Typed.{HasType, MayNest, block_type_of, entry_of}
+use Rattle.wasm_operator_validator_rules.specs.InstructionTypes.{i32_type}
+use Rattle.wasm_operator_validator_state.specs.resources.Meaning.{Meaning}
+use Rattle.wasm_operator_validator_state.specs.Refusals.{Does}
+use Rattle.wasm_operator_validator_state.specs.State.{Given, Open, State, signature_of, context, Accepts, Decides, Checks}
+use Rattle.wasm_operator_validator_state.specs.Entering.{MayBegin}
+use Rattle.wasm_operator_validator_state.specs.laws.Checks.{checks_going}
+use Rattle.wasm_operator_validator_state.specs.Steps.{Stacks, IsOpen, Popped, MayPop, Pushed, begun}
+use Rattle.wasm_operator_validator_state.specs.laws.Frames.{Means, opened, may_open, pushed_closes}
+use Rattle.wasm_operator_validator_state.specs.blocks.Signatures.{IsBlock}
 use Rattle.wasm_operator_validator_control.specs.Opening.{Opened}
-use Rattle.wasm_operator_validator_determined.specs.laws.Same.{same_trans}
+use Rattle.wasm_operator_validator_stacks.specs.determined.laws.Same.{same_trans}
 use Rattle.wasm_operator_validator_control.specs.laws.Jumping.{stack_last}
 
 -- ---- what a block type means

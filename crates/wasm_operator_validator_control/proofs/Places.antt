@@ -37,13 +37,13 @@ use Rattle.std.proofs.lemmas.List.{length-reverse, length-map, get_or-reverse}
 use Rattle.std.proofs.Math.ListN.{get_or-map}
 use Rattle.std.proofs.lemmas.Option.{slice_get-get_or}
 use Rattle.wasm_types.specs.values.declared.value.ValType.{ValType}
-use Rattle.wasm_operator_validator_determined.specs.rules.Operands.{ValueType, Operand, known, OperandBelow, AllBelow, all_known, stack}
-use Rattle.wasm_operator_validator_determined.specs.resources.Meaning.{Meaning, type_in}
-use Rattle.wasm_operator_validator_determined.specs.state.declared.operand.MaybeType.{MaybeType}
-use Rattle.wasm_operator_validator_determined.specs.state.declared.operand.MaybeType.TheVariants as maybe
-use Rattle.wasm_operator_validator_determined.specs.state.State.{Open, State, Stands, Covers, types_in}
-use Rattle.wasm_operator_validator_determined.specs.state.Steps.{StacksOf, IsOpen, MayPop}
-use Rattle.wasm_operator_validator_determined.specs.stacks.Peeking.{or_any, operand_at}
+use Rattle.wasm_operator_validator_rules.specs.Operands.{ValueType, Operand, known, OperandBelow, AllBelow, all_known, stack}
+use Rattle.wasm_operator_validator_state.specs.resources.Meaning.{Meaning, type_in}
+use Rattle.wasm_operator_validator_state.specs.declared.operand.MaybeType.{MaybeType}
+use Rattle.wasm_operator_validator_state.specs.declared.operand.MaybeType.TheVariants as maybe
+use Rattle.wasm_operator_validator_state.specs.State.{Open, State, Stands, Covers, types_in}
+use Rattle.wasm_operator_validator_state.specs.Steps.{StacksOf, IsOpen, MayPop}
+use Rattle.wasm_operator_validator_stacks.specs.Peeking.{or_any, operand_at}
 use Rattle.wasm_operator_validator_control.specs.laws.Jumping.{stacks_some}
 
 pub some_is : {A : Type 0} (x y : A) → ◌≡◌ {A = Option A} (Some x) (Some y) → x ≡ y

@@ -1,37 +1,37 @@
 -- The rows of calls by reference.
 use Rattle.std.proofs.Common.{◌≡◌, ◌↔◌, ◌∙◌, ◌<◌, ℕ, Bool, true, false, List, [], ◌∷◌, ◌++◌, length, Option, Some, None, option_and_then, slice_get, if◌then◌else◌, refl, sym, ap, subst, reverse}
 use Rattle.std.proofs.lemmas.Option.{get_or_from_slice_get, slice_get_within}
-use Rattle.wasm_types.specs.error.declared.error.ErrorKind.{ErrorKind}
-use Rattle.wasm_types.specs.error.Denials.{Denies}
-use Rattle.wasm_types.specs.error.DenialLaws.{denies_from}
+use Rattle.wasm_types.specs.decoding.declared.error.ErrorKind.{ErrorKind}
+use Rattle.wasm_types.specs.decoding.Denials.{Denies}
+use Rattle.wasm_types.specs.decoding.DenialLaws.{denies_from}
 use Rattle.wasm_types.specs.trees.Types.{ref, InnerOf}
 use Rattle.wasm_types.specs.trees.Trees.{TypeTree}
 use Rattle.wasm_types.specs.trees.Below.{expanded, is_shared}
-use Rattle.wasm_types.specs.indices.declared.index.UnpackedIndex.TheVariants as index
+use Rattle.wasm_types.specs.trees.declared.index.UnpackedIndex.TheVariants as index
 use Rattle.wasm_types.specs.values.declared.heap.HeapType.{HeapType}
 use Rattle.wasm_types.specs.values.declared.heap.HeapType.TheVariants as heap
 use Rattle.wasm_types.specs.values.declared.value.ValType.TheVariants as vals
 use Rattle.wasm_types.specs.values.Reference.{Reference}
-use Rattle.wasm_operator_validator_determined.specs.expression.info.declared.proposal.Proposal.TheVariants.{FunctionReferences, TailCall}
-use Rattle.wasm_operator_validator_determined.specs.expression.groups.declared.control.ControlOperator.TheVariants as control
-use Rattle.wasm_operator_validator_determined.specs.expression.operator.Op as op
-use Rattle.wasm_operator_validator_determined.specs.expression.operator.Op.{Op}
-use Rattle.wasm_operator_validator_determined.specs.rules.Operands.{ValueType, Operand, known, all_known}
-use Rattle.wasm_operator_validator_determined.specs.rules.Context.{Context, Signature, IsFunctionType, MayUse, may_use}
-use Rattle.wasm_operator_validator_determined.specs.rules.Named.{used_type, as_function}
-use Rattle.wasm_operator_validator_determined.specs.rules.InstructionTypes.{InstructionType, ◌⟶◌, named, instruction_type, reference_to}
-use Rattle.wasm_operator_validator_determined.specs.rules.arity.laws.Lookups.{named_is, used_is, function_is}
-use Rattle.wasm_operator_validator_determined.specs.rules.Row.{Takes}
-use Rattle.wasm_operator_validator_determined.specs.resources.Meaning.{Meaning, type_in, reference_in}
-use Rattle.wasm_operator_validator_determined.specs.resources.Answers.{IsNamed}
-use Rattle.wasm_operator_validator_determined.specs.state.State.{State, context, outermost_results, Accepts}
-use Rattle.wasm_operator_validator_determined.specs.state.Steps.{Stacks, MayPop}
-use Rattle.wasm_operator_validator_determined.specs.state.Entering.{MayBegin}
-use Rattle.wasm_operator_validator_determined.specs.state.laws.Rows.{some_row}
-use Rattle.wasm_operator_validator_determined.specs.Operators.{IsPlain}
-use Rattle.wasm_operator_validator_determined.specs.laws.Usable.{may}
-use Rattle.wasm_operator_validator_determined.specs.laws.Types.{reference_is}
-use Rattle.wasm_operator_validator_determined.specs.laws.Determined.{no_row}
+use Rattle.wasm_operators_immediates.specs.declared.proposal.Proposal.TheVariants.{FunctionReferences, TailCall}
+use Rattle.wasm_operators_enums.specs.declared.control.ControlOperator.TheVariants as control
+use Rattle.wasm_operators_enums.specs.Op as op
+use Rattle.wasm_operators_enums.specs.Op.{Op}
+use Rattle.wasm_operator_validator_rules.specs.Operands.{ValueType, Operand, known, all_known}
+use Rattle.wasm_operator_validator_rules.specs.Context.{Context, Signature, IsFunctionType, MayUse, may_use}
+use Rattle.wasm_operator_validator_rules.specs.Named.{used_type, as_function}
+use Rattle.wasm_operator_validator_rules.specs.InstructionTypes.{InstructionType, ◌⟶◌, named, instruction_type, reference_to}
+use Rattle.wasm_operator_validator_rules.specs.arity.laws.Lookups.{named_is, used_is, function_is}
+use Rattle.wasm_operator_validator_rules.specs.Row.{Takes}
+use Rattle.wasm_operator_validator_state.specs.resources.Meaning.{Meaning, type_in, reference_in}
+use Rattle.wasm_operator_validator_state.specs.resources.Answers.{IsNamed}
+use Rattle.wasm_operator_validator_state.specs.State.{State, context, outermost_results, Accepts}
+use Rattle.wasm_operator_validator_state.specs.Steps.{Stacks, MayPop}
+use Rattle.wasm_operator_validator_state.specs.Entering.{MayBegin}
+use Rattle.wasm_operator_validator_state.specs.laws.Rows.{some_row}
+use Rattle.wasm_operator_validator_stacks.specs.determined.Operators.{IsPlain}
+use Rattle.wasm_operator_validator_stacks.specs.determined.laws.Usable.{may}
+use Rattle.wasm_operator_validator_stacks.specs.determined.laws.Types.{reference_is}
+use Rattle.wasm_operator_validator_stacks.specs.determined.laws.Determined.{no_row}
 use Rattle.wasm_operator_validator_control.specs.laws.Jumping.{IsLast, pops_last, last_stack}
 use Rattle.wasm_operator_validator_control.specs.Callees.{reference_type}
 use Rattle.wasm_operator_validator_control.proofs.Naming.{one_function}

@@ -1,28 +1,28 @@
 -- The row of `br_table`.
 use Rattle.std.proofs.Common.{◌≡◌, ◌↔◌, ℕ, List, [], ◌∷◌, ◌++◌, Option, Some, None, false, reverse, refl, sym, subst, append_assoc, append-nil}
 use Rattle.std.proofs.lemmas.List.{reverse-append, reverse-reverse}
-use Rattle.wasm_types.specs.error.declared.error.ErrorKind.{ErrorKind}
-use Rattle.wasm_types.specs.error.Denials.{Denies}
-use Rattle.wasm_types.specs.error.DenialLaws.{denies, denies_from}
-use Rattle.wasm_operator_validator_determined.specs.expression.immediates.Tables.{Labels}
-use Rattle.wasm_operator_validator_determined.specs.expression.info.declared.proposal.Proposal.TheVariants.{Mvp}
-use Rattle.wasm_operator_validator_determined.specs.expression.groups.declared.control.ControlOperator.TheVariants as control
-use Rattle.wasm_operator_validator_determined.specs.expression.operator.Op as op
-use Rattle.wasm_operator_validator_determined.specs.expression.operator.Op.{Op}
-use Rattle.wasm_operator_validator_determined.specs.rules.Operands.{ValueType, Operand, known}
-use Rattle.wasm_operator_validator_determined.specs.rules.InstructionTypes.{i32_type}
-use Rattle.wasm_operator_validator_determined.specs.rules.Row.{FitEach}
-use Rattle.wasm_operator_validator_determined.specs.resources.Meaning.{Meaning}
-use Rattle.wasm_operator_validator_determined.specs.state.Refusals.{Does}
-use Rattle.wasm_operator_validator_determined.specs.state.State.{State, context, Accepts, Decides, Checks}
-use Rattle.wasm_operator_validator_determined.specs.state.Steps.{Stacks, SameFrames, Popped, MayPop, Jumped}
-use Rattle.wasm_operator_validator_determined.specs.state.Entering.{MayBegin}
-use Rattle.wasm_operator_validator_determined.specs.state.laws.Operands.{all_below_refl}
-use Rattle.wasm_operator_validator_determined.specs.state.laws.Rows.{by_row, some_row}
-use Rattle.wasm_operator_validator_determined.specs.state.laws.Entering.{enabled}
-use Rattle.wasm_operator_validator_determined.specs.state.laws.Checks.{checks_going}
-use Rattle.wasm_operator_validator_determined.specs.Operators.{IsPlain, Stays}
-use Rattle.wasm_operator_validator_determined.specs.laws.Same.{same_trans}
+use Rattle.wasm_types.specs.decoding.declared.error.ErrorKind.{ErrorKind}
+use Rattle.wasm_types.specs.decoding.Denials.{Denies}
+use Rattle.wasm_types.specs.decoding.DenialLaws.{denies, denies_from}
+use Rattle.wasm_operators_immediates.specs.Tables.{Labels}
+use Rattle.wasm_operators_immediates.specs.declared.proposal.Proposal.TheVariants.{Mvp}
+use Rattle.wasm_operators_enums.specs.declared.control.ControlOperator.TheVariants as control
+use Rattle.wasm_operators_enums.specs.Op as op
+use Rattle.wasm_operators_enums.specs.Op.{Op}
+use Rattle.wasm_operator_validator_rules.specs.Operands.{ValueType, Operand, known}
+use Rattle.wasm_operator_validator_rules.specs.InstructionTypes.{i32_type}
+use Rattle.wasm_operator_validator_rules.specs.Row.{FitEach}
+use Rattle.wasm_operator_validator_state.specs.resources.Meaning.{Meaning}
+use Rattle.wasm_operator_validator_state.specs.Refusals.{Does}
+use Rattle.wasm_operator_validator_state.specs.State.{State, context, Accepts, Decides, Checks}
+use Rattle.wasm_operator_validator_state.specs.Steps.{Stacks, SameFrames, Popped, MayPop, Jumped}
+use Rattle.wasm_operator_validator_state.specs.Entering.{MayBegin}
+use Rattle.wasm_operator_validator_state.specs.laws.Operands.{all_below_refl}
+use Rattle.wasm_operator_validator_state.specs.laws.Rows.{by_row, some_row}
+use Rattle.wasm_operator_validator_state.specs.laws.Entering.{enabled}
+use Rattle.wasm_operator_validator_state.specs.laws.Checks.{checks_going}
+use Rattle.wasm_operator_validator_stacks.specs.determined.Operators.{IsPlain, Stays}
+use Rattle.wasm_operator_validator_stacks.specs.determined.laws.Same.{same_trans}
 use Rattle.wasm_operator_validator_control.specs.laws.Labels.{same_labels}
 use Rattle.wasm_operator_validator_control.specs.Fitting.{labels_of, EachBelow, MayBranch}
 

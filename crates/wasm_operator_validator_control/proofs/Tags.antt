@@ -10,12 +10,12 @@ use Rattle.wasm_types.specs.values.declared.value.ValType.TheVariants as vals
 use Rattle.wasm_types.specs.values.Reference.{Reference}
 use Rattle.wasm_types.specs.values.Values.{value_of}
 use Rattle.wasm_types.specs.fields.declared.func.FuncType.{FuncType}
-use Rattle.wasm_operator_validator_determined.specs.rules.Operands.{ValueType}
-use Rattle.wasm_operator_validator_determined.specs.rules.Exceptions.{exception}
-use Rattle.wasm_operator_validator_determined.specs.resources.Meaning.{Meaning, named_type, type_in, reference_in, function_in}
-use Rattle.wasm_operator_validator_determined.specs.state.State.{types_in}
-use Rattle.wasm_operator_validator_determined.specs.laws.Types.{reference_is}
-use Rattle.wasm_operator_validator_blocks.proofs.Signing.{types_twice}
+use Rattle.wasm_operator_validator_rules.specs.Operands.{ValueType}
+use Rattle.wasm_operator_validator_rules.specs.Exceptions.{exception}
+use Rattle.wasm_operator_validator_state.specs.resources.Meaning.{Meaning, named_type, type_in, reference_in, function_in}
+use Rattle.wasm_operator_validator_state.specs.State.{types_in}
+use Rattle.wasm_operator_validator_stacks.specs.determined.laws.Types.{reference_is}
+use Rattle.wasm_operator_validator_state.proofs.Signing.{types_twice}
 use Rattle.wasm_operator_validator_control.specs.Clauses.{IsTagIn}
 
 -- what the code was answered

@@ -1,18 +1,18 @@
 -- The rows of exceptions that are thrown.
 use Rattle.std.proofs.Common.{◌≡◌, ◌↔◌, ◌∙◌, ℕ, zero, suc, List, [], ◌∷◌, ◌++◌, Bool, true, false, Option, Some, None, refl, sym, ap, subst, map, slice_get, append-nil}
-use Rattle.wasm_operator_validator_determined.specs.expression.immediates.declared.block.BlockType.{BlockType}
-use Rattle.wasm_operator_validator_determined.specs.expression.immediates.declared.frames.FrameKind.{FrameKind}
-use Rattle.wasm_operator_validator_determined.specs.expression.info.declared.proposal.Proposal.TheVariants.{Exceptions, LegacyExceptions}
-use Rattle.wasm_operator_validator_determined.specs.expression.operator.Op as op
-use Rattle.wasm_operator_validator_determined.specs.expression.operator.Op.{Op}
-use Rattle.wasm_operator_validator_determined.specs.rules.Operands.{ValueType, Operand, all_known}
-use Rattle.wasm_operator_validator_determined.specs.rules.Context.{is_catch}
-use Rattle.wasm_operator_validator_determined.specs.rules.Exceptions.{exception}
-use Rattle.wasm_operator_validator_determined.specs.resources.Meaning.{Meaning}
-use Rattle.wasm_operator_validator_determined.specs.state.State.{Open, State}
-use Rattle.wasm_operator_validator_determined.specs.state.Entering.{MayBegin}
-use Rattle.wasm_operator_validator_determined.specs.Operators.{IsPlain}
-use Rattle.wasm_operator_validator_determined.specs.laws.Determined.{no_row}
+use Rattle.wasm_operators_immediates.specs.declared.block.BlockType.{BlockType}
+use Rattle.wasm_operators_immediates.specs.declared.frames.FrameKind.{FrameKind}
+use Rattle.wasm_operators_immediates.specs.declared.proposal.Proposal.TheVariants.{Exceptions, LegacyExceptions}
+use Rattle.wasm_operators_enums.specs.Op as op
+use Rattle.wasm_operators_enums.specs.Op.{Op}
+use Rattle.wasm_operator_validator_rules.specs.Operands.{ValueType, Operand, all_known}
+use Rattle.wasm_operator_validator_rules.specs.Context.{is_catch}
+use Rattle.wasm_operator_validator_rules.specs.Exceptions.{exception}
+use Rattle.wasm_operator_validator_state.specs.resources.Meaning.{Meaning}
+use Rattle.wasm_operator_validator_state.specs.State.{Open, State}
+use Rattle.wasm_operator_validator_state.specs.Entering.{MayBegin}
+use Rattle.wasm_operator_validator_stacks.specs.determined.Operators.{IsPlain}
+use Rattle.wasm_operator_validator_stacks.specs.determined.laws.Determined.{no_row}
 use Rattle.wasm_operator_validator_control.specs.Clauses.{IsTagIn}
 use Rattle.wasm_operator_validator_control.specs.laws.Jumping.{IsLast}
 use Rattle.wasm_operator_validator_control.specs.laws.Labels.{frame_at, IsFrame, IsNoFrame}

@@ -1,36 +1,36 @@
 -- Checks of `try`, of its clauses and of `delegate`; the entry of operators that open, turn or end a frame and need a feature.
 use Rattle.std.proofs.Common.{◌≡◌, ◌↔◌, ◌∙◌, ℕ, suc, List, [], ◌∷◌, Bool, false, IsTrue, Option, Some, None, refl, sym, ap, subst, map, slice_get, bit_and}
-use Rattle.wasm_types.specs.features.Features.{Floats}
+use Rattle.wasm_types.specs.settings.Features.{Floats}
 use Rattle.wasm_types.specs.trees.Gates.{Has}
-use Rattle.wasm_types.specs.error.declared.error.ErrorKind.{ErrorKind}
-use Rattle.wasm_types.specs.error.Denials.{Denies}
-use Rattle.wasm_types.specs.error.DenialLaws.{denies, denies_from}
-use Rattle.wasm_operator_validator_determined.specs.expression.immediates.declared.block.BlockType.{BlockType}
-use Rattle.wasm_operator_validator_determined.specs.expression.immediates.declared.frames.FrameKind.{FrameKind}
-use Rattle.wasm_operator_validator_determined.specs.expression.immediates.declared.frames.FrameKind.TheVariants as frames
-use Rattle.wasm_operator_validator_determined.specs.expression.info.Info.{features_of}
-use Rattle.wasm_operator_validator_determined.specs.expression.info.declared.proposal.Proposal.{Proposal}
-use Rattle.wasm_operator_validator_determined.specs.expression.info.declared.proposal.Proposal.TheVariants.{Exceptions, LegacyExceptions}
-use Rattle.wasm_operator_validator_determined.specs.expression.immediates.Tables.{CatchTable}
-use Rattle.wasm_operator_validator_determined.specs.expression.operator.Op as op
-use Rattle.wasm_operator_validator_determined.specs.expression.operator.Op.{Op}
-use Rattle.wasm_operator_validator_determined.specs.rules.Operands.{ValueType, Operand, stack}
-use Rattle.wasm_operator_validator_determined.specs.rules.Exceptions.{EachCatches}
-use Rattle.wasm_operator_validator_determined.specs.rules.Row.{IsEnabled}
-use Rattle.wasm_operator_validator_determined.specs.rules.Typed.{EndsAt}
-use Rattle.wasm_operator_validator_determined.specs.resources.Meaning.{Meaning}
-use Rattle.wasm_operator_validator_determined.specs.state.Refusals.{Does, kind_of}
-use Rattle.wasm_operator_validator_determined.specs.state.declared.refusal.Refusal.{Refusal}
-use Rattle.wasm_operator_validator_determined.specs.state.declared.frame.Frame.{Frame as OpenFrame}
-use Rattle.wasm_operator_validator_determined.specs.state.State.{Open, State, signature_of, label, context, Accepts, Decides, Checks}
-use Rattle.wasm_operator_validator_determined.specs.state.Steps.{Stacks, SameFrames, Pushed, IsOpen, LeavesTo, begun}
-use Rattle.wasm_operator_validator_determined.specs.state.Entering.{MayBegin, StopsWith}
-use Rattle.wasm_operator_validator_determined.specs.state.laws.Entering.{IsOf, accepts_open, enabled}
-use Rattle.wasm_operator_validator_determined.specs.state.laws.Checks.{stopped_so, checks_going}
-use Rattle.wasm_operator_validator_determined.specs.state.laws.Accepting.{results_of}
-use Rattle.wasm_operator_validator_determined.specs.state.laws.Frames.{may_open, pushed_closes}
-use Rattle.wasm_operator_validator_determined.specs.state.laws.Clauses.{IsTry, Begins, catch, catch_all, catch_begins, catch_all_begins, IsTryTop, TurnsTo, clauses, BeginsClause, TurnsToOnly, caught, delegate, IsBareTryTop, delegates, delegated}
-use Rattle.wasm_operator_validator_determined.specs.Operators.{Stays}
+use Rattle.wasm_types.specs.decoding.declared.error.ErrorKind.{ErrorKind}
+use Rattle.wasm_types.specs.decoding.Denials.{Denies}
+use Rattle.wasm_types.specs.decoding.DenialLaws.{denies, denies_from}
+use Rattle.wasm_operators_immediates.specs.declared.block.BlockType.{BlockType}
+use Rattle.wasm_operators_immediates.specs.declared.frames.FrameKind.{FrameKind}
+use Rattle.wasm_operators_immediates.specs.declared.frames.FrameKind.TheVariants as frames
+use Rattle.wasm_operators_immediates.specs.Info.{features_of}
+use Rattle.wasm_operators_immediates.specs.declared.proposal.Proposal.{Proposal}
+use Rattle.wasm_operators_immediates.specs.declared.proposal.Proposal.TheVariants.{Exceptions, LegacyExceptions}
+use Rattle.wasm_operators_immediates.specs.Tables.{CatchTable}
+use Rattle.wasm_operators_enums.specs.Op as op
+use Rattle.wasm_operators_enums.specs.Op.{Op}
+use Rattle.wasm_operator_validator_rules.specs.Operands.{ValueType, Operand, stack}
+use Rattle.wasm_operator_validator_rules.specs.Exceptions.{EachCatches}
+use Rattle.wasm_operator_validator_rules.specs.Row.{IsEnabled}
+use Rattle.wasm_operator_validator_rules.specs.Typed.{EndsAt}
+use Rattle.wasm_operator_validator_state.specs.resources.Meaning.{Meaning}
+use Rattle.wasm_operator_validator_state.specs.Refusals.{Does, kind_of}
+use Rattle.wasm_operator_validator_state.specs.declared.refusal.Refusal.{Refusal}
+use Rattle.wasm_operator_validator_state.specs.declared.frame.Frame.{Frame as OpenFrame}
+use Rattle.wasm_operator_validator_state.specs.State.{Open, State, signature_of, label, context, Accepts, Decides, Checks}
+use Rattle.wasm_operator_validator_state.specs.Steps.{Stacks, SameFrames, Pushed, IsOpen, LeavesTo, begun}
+use Rattle.wasm_operator_validator_state.specs.Entering.{MayBegin, StopsWith}
+use Rattle.wasm_operator_validator_state.specs.laws.Entering.{IsOf, accepts_open, enabled}
+use Rattle.wasm_operator_validator_state.specs.laws.Checks.{stopped_so, checks_going}
+use Rattle.wasm_operator_validator_state.specs.laws.Accepting.{results_of}
+use Rattle.wasm_operator_validator_state.specs.laws.Frames.{may_open, pushed_closes}
+use Rattle.wasm_operator_validator_state.specs.laws.Clauses.{IsTry, Begins, catch, catch_all, catch_begins, catch_all_begins, IsTryTop, TurnsTo, clauses, BeginsClause, TurnsToOnly, caught, delegate, IsBareTryTop, delegates, delegated}
+use Rattle.wasm_operator_validator_stacks.specs.determined.Operators.{Stays}
 use Rattle.wasm_operator_validator_control.specs.Clauses.{IsTagIn}
 use Rattle.wasm_operator_validator_control.specs.Ending.{Finishes, MayFinish}
 use Rattle.wasm_operator_validator_control.specs.laws.Labels.{frame_at, IsFrame, IsNoFrame, label_at, no_label_at, not_labelled}

@@ -1,9 +1,9 @@
 -- What tags of exceptions carry (WebAssembly 3.0, validation, types, tag types).
 use Rattle.std.specs.Prelude.{◌≡◌, ℕ, List, [], Some, slice_get}
 use Rattle.wasm_types.specs.trees.Trees.{TypeTree}
-use Rattle.wasm_operator_validator_determined.specs.rules.Operands.{ValueType}
-use Rattle.wasm_operator_validator_determined.specs.rules.Context.{IsFunctionType}
-use Rattle.wasm_operator_validator_determined.specs.resources.Meaning.{Meaning}
+use Rattle.wasm_operator_validator_rules.specs.Operands.{ValueType}
+use Rattle.wasm_operator_validator_rules.specs.Context.{IsFunctionType}
+use Rattle.wasm_operator_validator_state.specs.resources.Meaning.{Meaning}
 
 -- a tag of a module that carries these and gives nothing back, wherever it is named
 abbrev pub IsTagIn : Meaning → ℕ → List ValueType → Type 0

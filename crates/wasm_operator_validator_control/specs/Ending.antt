@@ -1,10 +1,10 @@
 -- What ending a frame does to a validator.
-use Rattle.wasm_operator_validator_determined.specs.expression.immediates.declared.block.BlockType.{BlockType}
-use Rattle.wasm_operator_validator_determined.specs.rules.Operands.{stack}
-use Rattle.wasm_operator_validator_determined.specs.resources.Meaning.{Meaning}
-use Rattle.wasm_operator_validator_determined.specs.state.declared.frame.Frame.{Frame as OpenFrame}
-use Rattle.wasm_operator_validator_determined.specs.state.State.{State, signature_of}
-use Rattle.wasm_operator_validator_determined.specs.state.Steps.{Stacks, Popped, Leaves}
+use Rattle.wasm_operators_immediates.specs.declared.block.BlockType.{BlockType}
+use Rattle.wasm_operator_validator_rules.specs.Operands.{stack}
+use Rattle.wasm_operator_validator_state.specs.resources.Meaning.{Meaning}
+use Rattle.wasm_operator_validator_state.specs.declared.frame.Frame.{Frame as OpenFrame}
+use Rattle.wasm_operator_validator_state.specs.State.{State, signature_of}
+use Rattle.wasm_operator_validator_state.specs.Steps.{Stacks, Popped, Leaves}
 
 -- the results were taken off, and the innermost frame was left, which had nothing else
 pub record Finishes (m : Meaning) (σ : State) (bt : BlockType) (τ : State) : Type 0 where

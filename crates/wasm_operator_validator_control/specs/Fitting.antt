@@ -3,14 +3,14 @@ use Rattle.std.specs.Prelude.{◌≡◌, ◌<◌, ℕ, Bool, false, List, [], �
 use Rattle.wasm_types.specs.trees.Types.{ref, abstract}
 use Rattle.wasm_types.specs.values.declared.heap.AbstractHeapType.{AbstractHeapType}
 use Rattle.wasm_types.specs.values.Trees.{abstract_of}
-use Rattle.wasm_operator_validator_determined.specs.rules.Operands.{ValueType, Operand, known, OperandBelow, AllBelow, all_known, stack}
-use Rattle.wasm_operator_validator_determined.specs.resources.Meaning.{Meaning}
-use Rattle.wasm_operator_validator_determined.specs.state.declared.operand.MaybeType.{MaybeType}
-use Rattle.wasm_operator_validator_determined.specs.state.declared.operand.MaybeType.TheVariants as maybe
-use Rattle.wasm_operator_validator_determined.specs.state.declared.refusal.Refusal.{Refusal}
-use Rattle.wasm_operator_validator_determined.specs.state.State.{State, label}
-use Rattle.wasm_operator_validator_determined.specs.state.Steps.{Stacks, MayPop}
-use Rattle.wasm_operator_validator_determined.specs.stacks.Peeking.{operand_at}
+use Rattle.wasm_operator_validator_rules.specs.Operands.{ValueType, Operand, known, OperandBelow, AllBelow, all_known, stack}
+use Rattle.wasm_operator_validator_state.specs.resources.Meaning.{Meaning}
+use Rattle.wasm_operator_validator_state.specs.declared.operand.MaybeType.{MaybeType}
+use Rattle.wasm_operator_validator_state.specs.declared.operand.MaybeType.TheVariants as maybe
+use Rattle.wasm_operator_validator_state.specs.declared.refusal.Refusal.{Refusal}
+use Rattle.wasm_operator_validator_state.specs.State.{State, label}
+use Rattle.wasm_operator_validator_state.specs.Steps.{Stacks, MayPop}
+use Rattle.wasm_operator_validator_stacks.specs.Peeking.{operand_at}
 
 -- what a branch to each open frame takes
 abbrev pub labels_of : Meaning → State → List (List ValueType)

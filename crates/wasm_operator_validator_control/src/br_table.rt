@@ -1,9 +1,9 @@
 //! The check.
 
-ghost use Rattle.wasm_operator_validator_determined.specs.expression.groups.declared.control.ControlOperator.{ControlOperator};
-ghost use Rattle.wasm_operator_validator_determined.specs.expression.operator.Op.{Op};
-ghost use Rattle.wasm_operator_validator_determined.specs.state.Refusals.{refused};
-ghost use Rattle.wasm_operator_validator_determined.specs.state.State.{Checks};
+ghost use Rattle.wasm_operators_enums.specs.declared.control.ControlOperator.{ControlOperator};
+ghost use Rattle.wasm_operators_enums.specs.Op.{Op};
+ghost use Rattle.wasm_operator_validator_state.specs.Refusals.{refused};
+ghost use Rattle.wasm_operator_validator_state.specs.State.{Checks};
 
 use crate::labels::match_table;
 use crate::{BrTable, OperatorValidator, Proposal, Refusal, WasmModuleResources};

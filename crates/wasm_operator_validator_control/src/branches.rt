@@ -1,15 +1,15 @@
 //! Operators that neither open nor end a frame: branches and returns.
 
-ghost use Rattle.wasm_operator_validator_determined.specs.expression.groups.declared.control.ControlOperator.{ControlOperator};
-ghost use Rattle.wasm_operator_validator_determined.specs.expression.operator.Op.{Op};
-ghost use Rattle.wasm_operator_validator_determined.specs.state.Refusals.{refused};
-ghost use Rattle.wasm_operator_validator_determined.specs.state.State.{Checks};
+ghost use Rattle.wasm_operators_enums.specs.declared.control.ControlOperator.{ControlOperator};
+ghost use Rattle.wasm_operators_enums.specs.Op.{Op};
+ghost use Rattle.wasm_operator_validator_state.specs.Refusals.{refused};
+ghost use Rattle.wasm_operator_validator_state.specs.State.{Checks};
 
 use crate::leaving::jump_with;
-use wasm_operator_validator_blocks::{block_results, label_types};
-use wasm_operator_validator_determined::{
+use wasm_operator_validator_stacks::determined::{
     OperatorValidator, Proposal, Refusal, WasmModuleResources,
 };
+use wasm_operator_validator_state::blocks::{block_results, label_types};
 use wasm_types::ValType;
 
 /// Checks `nop`.

@@ -1,9 +1,9 @@
 //! Calls.
 
-ghost use Rattle.wasm_operator_validator_determined.specs.expression.groups.declared.control.ControlOperator.{ControlOperator};
-ghost use Rattle.wasm_operator_validator_determined.specs.expression.operator.Op.{Op};
-ghost use Rattle.wasm_operator_validator_determined.specs.state.Refusals.{refused};
-ghost use Rattle.wasm_operator_validator_determined.specs.state.State.{Checks};
+ghost use Rattle.wasm_operators_enums.specs.declared.control.ControlOperator.{ControlOperator};
+ghost use Rattle.wasm_operators_enums.specs.Op.{Op};
+ghost use Rattle.wasm_operator_validator_state.specs.Refusals.{refused};
+ghost use Rattle.wasm_operator_validator_state.specs.State.{Checks};
 
 use crate::callees::{callee, callee_type, reference_at};
 use crate::tables::function_table;

@@ -1,11 +1,11 @@
 //! `try_table` with its clauses (WebAssembly 3.0, validation, control instructions).
 
 ghost use Rattle.std.specs.Prelude.{◌++◌, ◌∷◌, [], false};
-ghost use Rattle.wasm_operator_validator_determined.specs.expression.immediates.Tables.{catch_table_of};
-ghost use Rattle.wasm_operator_validator_determined.specs.expression.operator.Op.{Op, ExceptionTree};
-ghost use Rattle.wasm_operator_validator_determined.specs.rules.Exceptions.{exception, Carries, Catches, EachCatches};
-ghost use Rattle.wasm_operator_validator_determined.specs.state.Refusals.{refused};
-ghost use Rattle.wasm_operator_validator_determined.specs.state.State.{Checks, types_in, context};
+ghost use Rattle.wasm_operators_immediates.specs.Tables.{catch_table_of};
+ghost use Rattle.wasm_operators_enums.specs.Op.{Op, ExceptionTree};
+ghost use Rattle.wasm_operator_validator_rules.specs.Exceptions.{exception, Carries, Catches, EachCatches};
+ghost use Rattle.wasm_operator_validator_state.specs.Refusals.{refused};
+ghost use Rattle.wasm_operator_validator_state.specs.State.{Checks, types_in, context};
 ghost use Rattle.wasm_operator_validator_control.specs.Fitting.{Answers};
 
 use crate::exceptions::{exception_tag, exception_type};

@@ -1,11 +1,11 @@
 //! `try` with its clauses, and `delegate` (the older form of the proposal on exceptions).
 
 ghost use Rattle.std.specs.Prelude.{◌≡◌, ◌↔◌, IsTrue};
-ghost use Rattle.wasm_operator_validator_determined.specs.expression.immediates.declared.frames.FrameKind.TheVariants.{LegacyTry};
-ghost use Rattle.wasm_operator_validator_determined.specs.expression.operator.Op.{Op, ExceptionTree};
-ghost use Rattle.wasm_operator_validator_determined.specs.state.Refusals.{refused};
-ghost use Rattle.wasm_operator_validator_determined.specs.state.State.{Checks};
-ghost use Rattle.wasm_operator_validator_determined.specs.state.laws.Clauses.{IsTry};
+ghost use Rattle.wasm_operators_immediates.specs.declared.frames.FrameKind.TheVariants.{LegacyTry};
+ghost use Rattle.wasm_operators_enums.specs.Op.{Op, ExceptionTree};
+ghost use Rattle.wasm_operator_validator_state.specs.Refusals.{refused};
+ghost use Rattle.wasm_operator_validator_state.specs.State.{Checks};
+ghost use Rattle.wasm_operator_validator_state.specs.laws.Clauses.{IsTry};
 
 use crate::exceptions::exception_tag;
 use crate::frames::{finish_frame, open_frame};

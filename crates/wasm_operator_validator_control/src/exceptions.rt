@@ -2,13 +2,13 @@
 //! exceptions).
 
 ghost use Rattle.std.specs.Prelude.{◌≡◌, ◌↔◌, IsTrue, MatchResult, true, List};
-ghost use Rattle.wasm_operator_validator_determined.specs.expression.operator.Op.{Op, ExceptionTree};
-ghost use Rattle.wasm_operator_validator_determined.specs.rules.Context.{is_catch};
-ghost use Rattle.wasm_operator_validator_determined.specs.rules.Exceptions.{exception};
-ghost use Rattle.wasm_operator_validator_determined.specs.rules.Operands.{ValueType};
-ghost use Rattle.wasm_operator_validator_determined.specs.resources.Meaning.{Meaning, type_in};
-ghost use Rattle.wasm_operator_validator_determined.specs.state.Refusals.{refused};
-ghost use Rattle.wasm_operator_validator_determined.specs.state.State.{Checks, types_in};
+ghost use Rattle.wasm_operators_enums.specs.Op.{Op, ExceptionTree};
+ghost use Rattle.wasm_operator_validator_rules.specs.Context.{is_catch};
+ghost use Rattle.wasm_operator_validator_rules.specs.Exceptions.{exception};
+ghost use Rattle.wasm_operator_validator_rules.specs.Operands.{ValueType};
+ghost use Rattle.wasm_operator_validator_state.specs.resources.Meaning.{Meaning, type_in};
+ghost use Rattle.wasm_operator_validator_state.specs.Refusals.{refused};
+ghost use Rattle.wasm_operator_validator_state.specs.State.{Checks, types_in};
 ghost use Rattle.wasm_operator_validator_control.specs.Clauses.{IsTagIn};
 
 use crate::{

@@ -1,20 +1,22 @@
 //! Operators that open, turn or end a frame.
 
 ghost use Rattle.std.specs.Prelude.{◌≡◌, ◌↔◌, IsTrue};
-ghost use Rattle.wasm_operator_validator_determined.specs.expression.immediates.declared.frames.FrameKind.TheVariants.{If};
-ghost use Rattle.wasm_operator_validator_determined.specs.rules.Operands.{stack};
-ghost use Rattle.wasm_operator_validator_determined.specs.rules.Typed.{MayClose};
-ghost use Rattle.wasm_operator_validator_determined.specs.expression.groups.declared.control.ControlOperator.{ControlOperator};
-ghost use Rattle.wasm_operator_validator_determined.specs.expression.operator.Op.{Op};
-ghost use Rattle.wasm_operator_validator_determined.specs.state.Refusals.{Does, refused};
-ghost use Rattle.wasm_operator_validator_determined.specs.state.State.{Checks, signature_of};
-ghost use Rattle.wasm_operator_validator_determined.specs.state.Steps.{IsOpen, MayPop};
+ghost use Rattle.wasm_operators_immediates.specs.declared.frames.FrameKind.TheVariants.{If};
+ghost use Rattle.wasm_operator_validator_rules.specs.Operands.{stack};
+ghost use Rattle.wasm_operator_validator_rules.specs.Typed.{MayClose};
+ghost use Rattle.wasm_operators_enums.specs.declared.control.ControlOperator.{ControlOperator};
+ghost use Rattle.wasm_operators_enums.specs.Op.{Op};
+ghost use Rattle.wasm_operator_validator_state.specs.Refusals.{Does, refused};
+ghost use Rattle.wasm_operator_validator_state.specs.State.{Checks, signature_of};
+ghost use Rattle.wasm_operator_validator_state.specs.Steps.{IsOpen, MayPop};
 ghost use Rattle.wasm_operator_validator_control.specs.Opening.{Opened};
 ghost use Rattle.wasm_operator_validator_control.specs.Ending.{Finishes, MayFinish};
 
-use wasm_operator_validator_blocks::{are_below, block_params, block_results, check_block_type};
-use wasm_operator_validator_determined::{
+use wasm_operator_validator_stacks::determined::{
     BlockType, FrameKind, OperatorValidator, Proposal, Reason, Refusal, WasmModuleResources,
+};
+use wasm_operator_validator_state::blocks::{
+    are_below, block_params, block_results, check_block_type,
 };
 use wasm_types::ValType;
 

@@ -1,7 +1,7 @@
 //! Operands against the labels of a table.
 
 ghost use Rattle.std.specs.Prelude.{◌∷◌};
-ghost use Rattle.wasm_operator_validator_determined.specs.state.Steps.{IsOpen};
+ghost use Rattle.wasm_operator_validator_state.specs.Steps.{IsOpen};
 ghost use Rattle.wasm_operator_validator_control.specs.Fitting.{EachSuits, MayBranch, Answers};
 
 use crate::matching::{match_label, match_operands};
@@ -9,7 +9,7 @@ use crate::sharing::agree;
 use crate::{
     BrTable, BrTableTargets, OperatorValidator, Refusal, WasmModuleResources, label_types,
 };
-use wasm_operator_validator_labels::{Met, is_known, keep};
+use wasm_operator_validator_locals::labels::{Met, is_known, keep};
 
 /// Whether each of these labels takes so many operands, and what it takes could be taken off. A label that was met is not asked again.
 fn match_targets<R: WasmModuleResources>(

@@ -1,13 +1,13 @@
 //! What branches and returns do to the operands.
 
 ghost use Rattle.std.specs.Prelude.{◌≡◌};
-ghost use Rattle.wasm_operator_validator_determined.specs.rules.Operands.{stack};
-ghost use Rattle.wasm_operator_validator_determined.specs.state.Refusals.{Does, refused};
-ghost use Rattle.wasm_operator_validator_determined.specs.state.State.{types_in};
-ghost use Rattle.wasm_operator_validator_determined.specs.state.Steps.{IsOpen, MayPop};
+ghost use Rattle.wasm_operator_validator_rules.specs.Operands.{stack};
+ghost use Rattle.wasm_operator_validator_state.specs.Refusals.{Does, refused};
+ghost use Rattle.wasm_operator_validator_state.specs.State.{types_in};
+ghost use Rattle.wasm_operator_validator_state.specs.Steps.{IsOpen, MayPop};
 ghost use Rattle.wasm_operator_validator_control.specs.Jumps.{Jumps};
 
-use wasm_operator_validator_determined::{OperatorValidator, Refusal, WasmModuleResources};
+use wasm_operator_validator_stacks::determined::{OperatorValidator, Refusal, WasmModuleResources};
 use wasm_types::ValType;
 
 /// Takes operands off, behind which nothing is reached.

@@ -36,12 +36,12 @@ pub use frames::{check_block, check_else, check_end, check_if, check_loop};
 pub use leaving::jump_with;
 pub use references::{check_br_on_non_null, check_br_on_null, check_ref_as_non_null};
 pub use tails::{check_return_call, check_return_call_indirect, check_return_call_ref};
-pub use wasm_operator_validator_blocks::{
-    are_below, block_params, block_results, check_block_type, function_at, function_of, label_types,
-};
-pub use wasm_operator_validator_determined::{
+pub use wasm_operator_validator_stacks::determined::{
     BlockType, BrTable, BrTableTargets, BulkOperator, ConstOperator, Frame, FrameKind, MaybeType,
     MemArg, MemArgTarget, MemoryOperator, OperatorValidator, Proposal, Reason, Refusal, Space,
     WasmModuleResources, check_value_type_features, copied, is_abstract_fit, is_fit, may_use,
     may_use_type, refusal_of,
+};
+pub use wasm_operator_validator_state::blocks::{
+    are_below, block_params, block_results, check_block_type, function_at, function_of, label_types,
 };

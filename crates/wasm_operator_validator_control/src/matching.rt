@@ -1,8 +1,8 @@
 //! Operands against one label.
 
-ghost use Rattle.wasm_operator_validator_determined.specs.rules.Operands.{stack};
-ghost use Rattle.wasm_operator_validator_determined.specs.state.State.{types_in};
-ghost use Rattle.wasm_operator_validator_determined.specs.state.Steps.{IsOpen, MayPop};
+ghost use Rattle.wasm_operator_validator_rules.specs.Operands.{stack};
+ghost use Rattle.wasm_operator_validator_state.specs.State.{types_in};
+ghost use Rattle.wasm_operator_validator_state.specs.Steps.{IsOpen, MayPop};
 ghost use Rattle.wasm_operator_validator_control.specs.Fitting.{Suits, Answers};
 
 use crate::{OperatorValidator, Reason, Refusal, WasmModuleResources, is_fit, label_types};

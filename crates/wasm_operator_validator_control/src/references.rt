@@ -1,16 +1,16 @@
 //! References without null, and branches on null (WebAssembly 3.0, validation, reference and control instructions).
 
 ghost use Rattle.std.specs.Prelude.{◌≡◌, MatchOption};
-ghost use Rattle.wasm_operator_validator_determined.specs.expression.groups.declared.control.ControlOperator.{ControlOperator};
-ghost use Rattle.wasm_operator_validator_determined.specs.expression.operator.Op.{Op};
-ghost use Rattle.wasm_operator_validator_determined.specs.state.Refusals.{refused};
-ghost use Rattle.wasm_operator_validator_determined.specs.state.State.{Checks};
+ghost use Rattle.wasm_operators_enums.specs.declared.control.ControlOperator.{ControlOperator};
+ghost use Rattle.wasm_operators_enums.specs.Op.{Op};
+ghost use Rattle.wasm_operator_validator_state.specs.Refusals.{refused};
+ghost use Rattle.wasm_operator_validator_state.specs.State.{Checks};
 ghost use Rattle.wasm_operator_validator_control.specs.Nulls.{known_not_null, EndsIn, EndsInNone};
 
-use wasm_operator_validator_blocks::label_types;
-use wasm_operator_validator_determined::{
+use wasm_operator_validator_stacks::determined::{
     MaybeType, OperatorValidator, Proposal, Reason, Refusal, WasmModuleResources,
 };
+use wasm_operator_validator_state::blocks::label_types;
 use wasm_types::ValType;
 
 /// Checks `ref.as_non_null`.

@@ -3,14 +3,14 @@
 ghost use Rattle.std.specs.Prelude.{◌≡◌, ◌↔◌, ◌∷◌, IsTrue, IfSome, length};
 ghost use Rattle.std.specs.Slice.Iter.{iter_rest};
 ghost use Rattle.wasm_operator_validator_control.specs.Fitting.{labels_of, FitsAt, EachFitsAt, a_reference, either_shared, AgreesAt, AllAgree, Answers};
-ghost use Rattle.wasm_operator_validator_labels.specs.Among.{SameLabels};
+ghost use Rattle.wasm_operator_validator_locals.specs.labels.Among.{SameLabels};
 
 use crate::{
     BrTable, BrTableTargets, MaybeType, OperatorValidator, Refusal, WasmModuleResources,
     is_abstract_fit, label_types,
 };
 use std::slice::Iter;
-use wasm_operator_validator_labels::{Met, is_met, is_worth};
+use wasm_operator_validator_locals::labels::{Met, is_met, is_worth};
 use wasm_types::{AbstractHeapType, ValType};
 
 /// Whether all labels of a table agree in each place on whether a reference is shared, where that is not known. `types` are those of

@@ -3,8 +3,8 @@
 ghost use Rattle.std.specs.Prelude.{◌↔◌, IsTrue, MatchResult, true};
 ghost use Rattle.wasm_types.specs.trees.Types.{ref, abstract, func};
 ghost use Rattle.wasm_types.specs.trees.Below.{Below};
-ghost use Rattle.wasm_operator_validator_determined.specs.rules.Context.{Table};
-ghost use Rattle.wasm_operator_validator_determined.specs.resources.Meaning.{table_in, reference_in};
+ghost use Rattle.wasm_operator_validator_rules.specs.Context.{Table};
+ghost use Rattle.wasm_operator_validator_state.specs.resources.Meaning.{table_in, reference_in};
 ghost use Rattle.wasm_operator_validator_control.specs.Callees.{IsFunctionTable};
 
 use crate::{OperatorValidator, Reason, Refusal, Space, WasmModuleResources, may_use};

@@ -1,16 +1,16 @@
 -- Which bytes a validator accepts as an expression, and why it refuses others.
 use Rattle.std.specs.Prelude.{◌≡◌, ◌↔◌, ◌⊎◌, ◌+◌, ℕ, [], true, Option, Some, None, is_some, Result, Ok, Err, IfErr, OnOk, length}
 use Rattle.wasm_types.specs.decoding.Decoder.{State as Bytes}
-use Rattle.wasm_types.specs.error.Denials.{Tells}
-use Rattle.wasm_types.specs.error.ErrorValue.{ErrorValue}
-use Rattle.wasm_types.specs.error.declared.error.ErrorKind.{ErrorKind}
-use Rattle.wasm_types.specs.error.declared.error.ErrorKind.TheVariants as kinds
-use Rattle.wasm_operators_walking.specs.reader.immediates.declared.block.BlockType.{BlockType}
-use Rattle.wasm_operators_walking.specs.reader.expression.Code.{Code, walk}
-use Rattle.wasm_operators_walking.specs.reader.expression.Spelling.{SpelledExpression}
-use Rattle.wasm_operators_walking.specs.reader.Standing.{Standing, at_start}
-use Rattle.wasm_operators_walking.specs.Walking.{VisitsAll, WalksTo, WalksUntilAt, StopsPlain}
-use Rattle.wasm_operator_validator_state.specs.rules.Typed.{IsBody}
+use Rattle.wasm_types.specs.decoding.Denials.{Tells}
+use Rattle.wasm_types.specs.decoding.ErrorValue.{ErrorValue}
+use Rattle.wasm_types.specs.decoding.declared.error.ErrorKind.{ErrorKind}
+use Rattle.wasm_types.specs.decoding.declared.error.ErrorKind.TheVariants as kinds
+use Rattle.wasm_operators_immediates.specs.declared.block.BlockType.{BlockType}
+use Rattle.wasm_operators_encoding.specs.expressions.Code.{Code, walk}
+use Rattle.wasm_operators_encoding.specs.expressions.Spelling.{SpelledExpression}
+use Rattle.wasm_operators_reader.specs.Standing.{Standing, at_start}
+use Rattle.wasm_operators_reader.specs.Walking.{VisitsAll, WalksTo, WalksUntilAt, StopsPlain}
+use Rattle.wasm_operator_validator_rules.specs.Typed.{IsBody}
 use Rattle.wasm_operator_validator_state.specs.resources.Meaning.{Meaning}
 use Rattle.wasm_operator_validator_state.specs.declared.refusal.Refusal.{Refusal}
 use Rattle.wasm_operator_validator_state.specs.Refusals.{OfContent, kind_of, refused_by}

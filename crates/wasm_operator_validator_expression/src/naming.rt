@@ -5,7 +5,7 @@ ghost use Rattle.wasm_operator_validator_state.specs.Refusals.{kind_of, OfConten
 
 use std::alloc::Global;
 use wasm_operator_validator_state::{Reason, Refusal};
-use wasm_operators_walking::read_operator;
+use wasm_operators_reader::walks::read_operator;
 use wasm_types::{BinaryReader, Error};
 
 /// The error of the refusal of the operator at this offset. `reader` stands where the expression begins: of an operator without a rule

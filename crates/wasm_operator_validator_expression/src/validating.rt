@@ -1,8 +1,8 @@
 //! The loop over an expression.
 
 ghost use Rattle.std.specs.Prelude.{◌≡◌, ◌↔◌, Result, Ok, IsTrue, [], true};
-ghost use Rattle.wasm_types.specs.error.declared.error.ErrorKind.TheVariants.{Other};
-ghost use Rattle.wasm_operators_walking.specs.reader.operator.Op.{Op};
+ghost use Rattle.wasm_types.specs.decoding.declared.error.ErrorKind.TheVariants.{Other};
+ghost use Rattle.wasm_operators_enums.specs.Op.{Op};
 ghost use Rattle.wasm_operator_validator_state.specs.resources.Meaning.{Meaning};
 ghost use Rattle.wasm_operator_validator_state.specs.State.{State, Visits};
 ghost use Rattle.wasm_operator_validator_expression.specs.Validating.{Validates};
@@ -10,7 +10,7 @@ ghost use Rattle.wasm_operator_validator_expression.specs.Validating.{Validates}
 use crate::naming::error_at;
 use std::alloc::Global;
 use wasm_operator_validator_state::Refusal;
-use wasm_operators_walking::{
+use wasm_operators_reader::walks::{
     OperatorsReaderAllocations, TellOperator, TellPlain, tell_expression_with_offset, tells_whole,
 };
 use wasm_types::{BinaryReader, Error, Result};

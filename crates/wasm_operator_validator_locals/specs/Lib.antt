@@ -4,3 +4,5 @@ pub mod Locals
 pub mod tape
 -- Definitions: which locals are initialised.
 pub mod inits
+-- Rules and laws: labels of a table that were met.
+pub mod labels

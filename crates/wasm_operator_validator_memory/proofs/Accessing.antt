@@ -4,20 +4,20 @@ use Rattle.wasm_types.specs.trees.Types.{Number}
 use Rattle.wasm_types.specs.externs.Addresses as addresses
 use Rattle.wasm_types.specs.externs.declared.memory.MemoryType.{MemoryType}
 use Rattle.wasm_types.specs.values.declared.value.ValType.{ValType}
-use Rattle.wasm_operator_validator_determined.specs.expression.immediates.declared.memory.MemArg.{MemArg}
-use Rattle.wasm_operator_validator_determined.specs.expression.info.declared.proposal.Proposal.TheVariants.{Mvp}
-use Rattle.wasm_operator_validator_determined.specs.expression.groups.declared.memory.MemoryOperator.{MemoryOperator}
-use Rattle.wasm_operator_validator_determined.specs.expression.groups.declared.memory.MemoryOperator.TheVariants as memory
-use Rattle.wasm_operator_validator_determined.specs.expression.operator.Op as op
-use Rattle.wasm_operator_validator_determined.specs.rules.Operands.{ValueType}
-use Rattle.wasm_operator_validator_determined.specs.rules.Context.{Context, address_type}
-use Rattle.wasm_operator_validator_determined.specs.rules.Accesses.{Access, AccessOf, access_of, load, store, moves_float, may_access, is_aligned, is_within, is_in_memory}
-use Rattle.wasm_operator_validator_determined.specs.rules.InstructionTypes.{◌⟶◌, accesses, memory_type_of, instruction_type}
-use Rattle.wasm_operator_validator_determined.specs.rules.Row.{float_access}
-use Rattle.wasm_operator_validator_determined.specs.resources.Meaning.{Meaning, type_in}
-use Rattle.wasm_operator_validator_determined.specs.state.State.{State, context, types_in}
-use Rattle.wasm_operator_validator_determined.specs.Operators.{IsInTable}
-use Rattle.wasm_operator_validator_determined.specs.laws.Types.{number_in, address_is}
+use Rattle.wasm_operators_immediates.specs.declared.memory.MemArg.{MemArg}
+use Rattle.wasm_operators_immediates.specs.declared.proposal.Proposal.TheVariants.{Mvp}
+use Rattle.wasm_operators_enums.specs.declared.memory.MemoryOperator.{MemoryOperator}
+use Rattle.wasm_operators_enums.specs.declared.memory.MemoryOperator.TheVariants as memory
+use Rattle.wasm_operators_enums.specs.Op as op
+use Rattle.wasm_operator_validator_rules.specs.Operands.{ValueType}
+use Rattle.wasm_operator_validator_rules.specs.Context.{Context, address_type}
+use Rattle.wasm_operator_validator_rules.specs.Accesses.{Access, AccessOf, access_of, load, store, moves_float, may_access, is_aligned, is_within, is_in_memory}
+use Rattle.wasm_operator_validator_rules.specs.InstructionTypes.{◌⟶◌, accesses, memory_type_of, instruction_type}
+use Rattle.wasm_operator_validator_rules.specs.Row.{float_access}
+use Rattle.wasm_operator_validator_state.specs.resources.Meaning.{Meaning, type_in}
+use Rattle.wasm_operator_validator_state.specs.State.{State, context, types_in}
+use Rattle.wasm_operator_validator_stacks.specs.determined.Operators.{IsInTable}
+use Rattle.wasm_operator_validator_stacks.specs.determined.laws.Types.{number_in, address_is}
 use Rattle.wasm_operator_validator_memory.specs.Reaching.{reached, number_of, IsAccess}
 use Rattle.wasm_operator_validator_memory.specs.laws.Reaching.{accesses_at, accesses_nowhere}
 

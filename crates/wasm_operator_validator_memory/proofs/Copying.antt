@@ -6,16 +6,16 @@ use Rattle.wasm_types.specs.trees.Below.{Below}
 use Rattle.wasm_types.specs.values.Reference.{Reference}
 use Rattle.wasm_types.specs.values.declared.value.ValType.{ValType}
 use Rattle.wasm_types.specs.values.declared.value.ValType.TheVariants as vals
-use Rattle.wasm_operator_validator_determined.specs.expression.groups.declared.bulk.BulkOperator.TheVariants as bulk
-use Rattle.wasm_operator_validator_determined.specs.expression.operator.Op as op
-use Rattle.wasm_operator_validator_determined.specs.rules.Operands.{ValueType, Operand}
-use Rattle.wasm_operator_validator_determined.specs.rules.Context.{Table, address_type}
-use Rattle.wasm_operator_validator_determined.specs.rules.InstructionTypes.{◌⟶◌, named, i32_type, shorter}
-use Rattle.wasm_operator_validator_determined.specs.rules.Row.{Takes, BulkRow}
-use Rattle.wasm_operator_validator_determined.specs.resources.Meaning.{Meaning, type_in, table_in, reference_in}
-use Rattle.wasm_operator_validator_determined.specs.state.State.{State, context, types_in}
-use Rattle.wasm_operator_validator_determined.specs.laws.Types.{i32_in, address_is, reference_is}
-use Rattle.wasm_operator_validator_determined.specs.laws.Usable.{same_usable, fails}
+use Rattle.wasm_operators_enums.specs.declared.bulk.BulkOperator.TheVariants as bulk
+use Rattle.wasm_operators_enums.specs.Op as op
+use Rattle.wasm_operator_validator_rules.specs.Operands.{ValueType, Operand}
+use Rattle.wasm_operator_validator_rules.specs.Context.{Table, address_type}
+use Rattle.wasm_operator_validator_rules.specs.InstructionTypes.{◌⟶◌, named, i32_type, shorter}
+use Rattle.wasm_operator_validator_rules.specs.Row.{Takes, BulkRow}
+use Rattle.wasm_operator_validator_state.specs.resources.Meaning.{Meaning, type_in, table_in, reference_in}
+use Rattle.wasm_operator_validator_state.specs.State.{State, context, types_in}
+use Rattle.wasm_operator_validator_stacks.specs.determined.laws.Types.{i32_in, address_is, reference_is}
+use Rattle.wasm_operator_validator_stacks.specs.determined.laws.Usable.{same_usable, fails}
 use Rattle.wasm_operator_validator_memory.specs.Tables.{table_is_shared}
 use Rattle.wasm_operator_validator_memory.proofs.Indexing.{UsableTable, NoTable, IsIndex, HasType, HasNone}
 

@@ -5,11 +5,11 @@ use Rattle.std.specs.List.{list_any}
 use Rattle.std.proofs.lemmas.Bool.{le-ltb}
 use Rattle.std.proofs.lemmas.Option.{slice_get-map}
 use Rattle.wasm_types.specs.values.declared.value.ValType.{ValType}
-use Rattle.wasm_operator_validator_determined.specs.rules.Operands.{ValueType}
-use Rattle.wasm_operator_validator_determined.specs.rules.Context.{defaultable, is_defaulted}
-use Rattle.wasm_operator_validator_determined.specs.resources.Meaning.{Meaning, type_in}
-use Rattle.wasm_operator_validator_determined.specs.state.State.{State, types_in, initialised}
-use Rattle.wasm_operator_validator_determined.specs.stacks.Defining.{with_locals}
+use Rattle.wasm_operator_validator_rules.specs.Operands.{ValueType}
+use Rattle.wasm_operator_validator_rules.specs.Context.{defaultable, is_defaulted}
+use Rattle.wasm_operator_validator_state.specs.resources.Meaning.{Meaning, type_in}
+use Rattle.wasm_operator_validator_state.specs.State.{State, types_in, initialised}
+use Rattle.wasm_operator_validator_stacks.specs.Defining.{with_locals}
 
 in_run : (k i : ℕ) (t : ValType) → i < k → slice_get (replicate k t) i ≡ Some t
 in_run zero i t h = absurd (omega arith)

@@ -4,19 +4,19 @@ use Rattle.wasm_types.specs.externs.Addresses as addresses
 use Rattle.wasm_types.specs.externs.declared.table.TableType.{TableType}
 use Rattle.wasm_types.specs.values.declared.value.ValType.{ValType}
 use Rattle.wasm_types.specs.values.declared.value.ValType.TheVariants as vals
-use Rattle.wasm_operator_validator_determined.specs.expression.groups.declared.bulk.BulkOperator.{BulkOperator}
-use Rattle.wasm_operator_validator_determined.specs.expression.groups.declared.bulk.BulkOperator.TheVariants as bulk
-use Rattle.wasm_operator_validator_determined.specs.expression.groups.memory.Table.{bulk_info}
-use Rattle.wasm_operator_validator_determined.specs.expression.operator.Op as op
-use Rattle.wasm_operator_validator_determined.specs.rules.Operands.{Operand}
-use Rattle.wasm_operator_validator_determined.specs.rules.Context.{Context, Table, address_type}
-use Rattle.wasm_operator_validator_determined.specs.rules.InstructionTypes.{InstructionType, ◌⟶◌, instruction_type}
-use Rattle.wasm_operator_validator_determined.specs.rules.Row.{BulkRow, TableRow}
-use Rattle.wasm_operator_validator_determined.specs.resources.Meaning.{Meaning, table_in}
-use Rattle.wasm_operator_validator_determined.specs.state.State.{State, context, types_in}
-use Rattle.wasm_operator_validator_determined.specs.Operators.{IsPlain, IsInTable, IsUsable}
-use Rattle.wasm_operator_validator_determined.specs.laws.Types.{address_is, reference_is}
-use Rattle.wasm_operator_validator_determined.specs.laws.Usable.{named_usable, named_unusable}
+use Rattle.wasm_operators_enums.specs.declared.bulk.BulkOperator.{BulkOperator}
+use Rattle.wasm_operators_enums.specs.declared.bulk.BulkOperator.TheVariants as bulk
+use Rattle.wasm_operators_enums.specs.memory.Table.{bulk_info}
+use Rattle.wasm_operators_enums.specs.Op as op
+use Rattle.wasm_operator_validator_rules.specs.Operands.{Operand}
+use Rattle.wasm_operator_validator_rules.specs.Context.{Context, Table, address_type}
+use Rattle.wasm_operator_validator_rules.specs.InstructionTypes.{InstructionType, ◌⟶◌, instruction_type}
+use Rattle.wasm_operator_validator_rules.specs.Row.{BulkRow, TableRow}
+use Rattle.wasm_operator_validator_state.specs.resources.Meaning.{Meaning, table_in}
+use Rattle.wasm_operator_validator_state.specs.State.{State, context, types_in}
+use Rattle.wasm_operator_validator_stacks.specs.determined.Operators.{IsPlain, IsInTable, IsUsable}
+use Rattle.wasm_operator_validator_stacks.specs.determined.laws.Types.{address_is, reference_is}
+use Rattle.wasm_operator_validator_stacks.specs.determined.laws.Usable.{named_usable, named_unusable}
 use Rattle.wasm_operator_validator_memory.specs.Tables.{table_is_shared}
 
 -- ---- which are in the table

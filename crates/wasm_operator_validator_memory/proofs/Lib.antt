@@ -11,3 +11,4 @@ pub mod Selecting
 pub mod WrittenTypes
 pub mod Room
 pub mod Declared
+pub mod Atomic

@@ -1,9 +1,9 @@
 -- `ref.null`, and the types that a module writes.
 use Rattle.std.proofs.Common.{◌≡◌, ◌↔◌, ◌∙◌, ℕ, List, [], ◌∷◌, Bool, true, false, IsTrue, Some, refl, sym, ap, subst}
-use Rattle.wasm_types.specs.error.declared.error.ErrorKind.{ErrorKind}
-use Rattle.wasm_types.specs.error.declared.error.ErrorKind.TheVariants as kinds
-use Rattle.wasm_types.specs.error.Denials.{Denies}
-use Rattle.wasm_types.specs.error.DenialLaws.{denies_from}
+use Rattle.wasm_types.specs.decoding.declared.error.ErrorKind.{ErrorKind}
+use Rattle.wasm_types.specs.decoding.declared.error.ErrorKind.TheVariants as kinds
+use Rattle.wasm_types.specs.decoding.Denials.{Denies}
+use Rattle.wasm_types.specs.decoding.DenialLaws.{denies_from}
 use Rattle.wasm_types.specs.trees.Types.{HeapOf, abstract, concrete, exact, ref, heap_map}
 use Rattle.wasm_types.specs.trees.Trees.{TypeTree}
 use Rattle.wasm_types.specs.trees.Below.{value_is_shared}
@@ -13,23 +13,23 @@ use Rattle.wasm_types.specs.values.declared.value.ValType.{ValType}
 use Rattle.wasm_types.specs.values.Reference.{Reference}
 use Rattle.wasm_types.specs.values.Trees.{heap_of}
 use Rattle.wasm_types.specs.values.Values.{value_of}
-use Rattle.wasm_operator_validator_determined.specs.expression.info.declared.proposal.Proposal.TheVariants.{ReferenceTypes}
-use Rattle.wasm_operator_validator_determined.specs.expression.groups.declared.bulk.BulkOperator.TheVariants as bulk
-use Rattle.wasm_operator_validator_determined.specs.expression.operator.Op as op
-use Rattle.wasm_operator_validator_determined.specs.expression.operator.Op.{Op}
-use Rattle.wasm_operator_validator_determined.specs.rules.Operands.{ValueType, Operand}
-use Rattle.wasm_operator_validator_determined.specs.rules.Context.{IsType, written_type}
-use Rattle.wasm_operator_validator_determined.specs.rules.Row.{Takes, GroupRow}
-use Rattle.wasm_operator_validator_determined.specs.resources.Meaning.{Meaning, type_in, named_type}
-use Rattle.wasm_operator_validator_determined.specs.resources.Answers.{IsWritten, IsNamed}
-use Rattle.wasm_operator_validator_determined.specs.state.State.{State, initialised, context, types_in, Accepts, Checks}
-use Rattle.wasm_operator_validator_determined.specs.state.Entering.{MayBegin}
-use Rattle.wasm_operator_validator_determined.specs.state.laws.Rows.{some_row}
-use Rattle.wasm_operator_validator_determined.specs.Operators.{MayUseIn}
-use Rattle.wasm_operator_validator_determined.specs.laws.Types.{is_written}
-use Rattle.wasm_operator_validator_determined.specs.laws.Same.{stays_refl}
-use Rattle.wasm_operator_validator_determined.specs.laws.Usable.{fails}
-use Rattle.wasm_operator_validator_determined.specs.laws.Determined.{refused_then, no_row}
+use Rattle.wasm_operators_immediates.specs.declared.proposal.Proposal.TheVariants.{ReferenceTypes}
+use Rattle.wasm_operators_enums.specs.declared.bulk.BulkOperator.TheVariants as bulk
+use Rattle.wasm_operators_enums.specs.Op as op
+use Rattle.wasm_operators_enums.specs.Op.{Op}
+use Rattle.wasm_operator_validator_rules.specs.Operands.{ValueType, Operand}
+use Rattle.wasm_operator_validator_rules.specs.Context.{IsType, written_type}
+use Rattle.wasm_operator_validator_rules.specs.Row.{Takes, GroupRow}
+use Rattle.wasm_operator_validator_state.specs.resources.Meaning.{Meaning, type_in, named_type}
+use Rattle.wasm_operator_validator_state.specs.resources.Answers.{IsWritten, IsNamed}
+use Rattle.wasm_operator_validator_state.specs.State.{State, initialised, context, types_in, Accepts, Checks}
+use Rattle.wasm_operator_validator_state.specs.Entering.{MayBegin}
+use Rattle.wasm_operator_validator_state.specs.laws.Rows.{some_row}
+use Rattle.wasm_operator_validator_stacks.specs.determined.Operators.{MayUseIn}
+use Rattle.wasm_operator_validator_stacks.specs.determined.laws.Types.{is_written}
+use Rattle.wasm_operator_validator_stacks.specs.determined.laws.Same.{stays_refl}
+use Rattle.wasm_operator_validator_stacks.specs.determined.laws.Usable.{fails}
+use Rattle.wasm_operator_validator_stacks.specs.determined.laws.Determined.{refused_then, no_row}
 use Rattle.wasm_operator_validator_memory.specs.Tables.{null_of, reference_to}
 use Rattle.wasm_operator_validator_memory.proofs.Indexing.{is_bulk}
 

@@ -4,17 +4,17 @@ use Rattle.std.proofs.lemmas.Option.{slice_get-map}
 use Rattle.wasm_types.specs.externs.declared.global.GlobalType.{GlobalType}
 use Rattle.wasm_types.specs.trees.Below.{value_is_shared}
 use Rattle.wasm_types.specs.values.declared.value.ValType.{ValType}
-use Rattle.wasm_operator_validator_determined.specs.expression.info.declared.proposal.Proposal.TheVariants.{Mvp}
-use Rattle.wasm_operator_validator_determined.specs.expression.groups.declared.memory.MemoryOperator.TheVariants as memory
-use Rattle.wasm_operator_validator_determined.specs.expression.operator.Op as op
-use Rattle.wasm_operator_validator_determined.specs.rules.Operands.{ValueType, Operand}
-use Rattle.wasm_operator_validator_determined.specs.rules.Context.{Global}
-use Rattle.wasm_operator_validator_determined.specs.rules.InstructionTypes.{◌⟶◌, provided, instruction_type}
-use Rattle.wasm_operator_validator_determined.specs.rules.Row.{Takes, IsLocal, GroupRow}
-use Rattle.wasm_operator_validator_determined.specs.resources.Meaning.{Meaning, type_in, global_in}
-use Rattle.wasm_operator_validator_determined.specs.state.State.{State, initialised, context, types_in}
-use Rattle.wasm_operator_validator_determined.specs.Operators.{IsPlain, IsInTable, IsUsable}
-use Rattle.wasm_operator_validator_determined.specs.laws.Usable.{same_usable, named_usable, named_unusable}
+use Rattle.wasm_operators_immediates.specs.declared.proposal.Proposal.TheVariants.{Mvp}
+use Rattle.wasm_operators_enums.specs.declared.memory.MemoryOperator.TheVariants as memory
+use Rattle.wasm_operators_enums.specs.Op as op
+use Rattle.wasm_operator_validator_rules.specs.Operands.{ValueType, Operand}
+use Rattle.wasm_operator_validator_rules.specs.Context.{Global}
+use Rattle.wasm_operator_validator_rules.specs.InstructionTypes.{◌⟶◌, provided, instruction_type}
+use Rattle.wasm_operator_validator_rules.specs.Row.{Takes, IsLocal, GroupRow}
+use Rattle.wasm_operator_validator_state.specs.resources.Meaning.{Meaning, type_in, global_in}
+use Rattle.wasm_operator_validator_state.specs.State.{State, initialised, context, types_in}
+use Rattle.wasm_operator_validator_stacks.specs.determined.Operators.{IsPlain, IsInTable, IsUsable}
+use Rattle.wasm_operator_validator_stacks.specs.determined.laws.Usable.{same_usable, named_usable, named_unusable}
 use Rattle.wasm_operator_validator_memory.specs.Variables.{global_is_shared}
 
 -- ---- globals

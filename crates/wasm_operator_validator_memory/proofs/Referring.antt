@@ -1,32 +1,32 @@
 -- `ref.is_null`.
 use Rattle.std.proofs.Common.{◌≡◌, List, [], ◌∷◌, true, false, Option, Some, None, refl, subst}
-use Rattle.wasm_types.specs.error.declared.error.ErrorKind.{ErrorKind}
-use Rattle.wasm_types.specs.error.Denials.{Denies}
-use Rattle.wasm_types.specs.error.DenialLaws.{denies, denies_from}
+use Rattle.wasm_types.specs.decoding.declared.error.ErrorKind.{ErrorKind}
+use Rattle.wasm_types.specs.decoding.Denials.{Denies}
+use Rattle.wasm_types.specs.decoding.DenialLaws.{denies, denies_from}
 use Rattle.wasm_types.specs.trees.Types.{number, ref, abstract}
 use Rattle.wasm_types.specs.values.declared.value.ValType.TheVariants as vals
 use Rattle.wasm_types.specs.values.Trees.{abstract_of}
-use Rattle.wasm_operator_validator_determined.specs.expression.info.declared.proposal.Proposal.TheVariants.{ReferenceTypes}
-use Rattle.wasm_operator_validator_determined.specs.expression.groups.declared.bulk.BulkOperator.TheVariants as bulk
-use Rattle.wasm_operator_validator_determined.specs.expression.operator.Op as op
-use Rattle.wasm_operator_validator_determined.specs.expression.operator.Op.{Op}
-use Rattle.wasm_operator_validator_determined.specs.rules.Operands.{ValueType, Operand, bottom, some_reference, known, IsReference, stack}
-use Rattle.wasm_operator_validator_determined.specs.rules.InstructionTypes.{i32_type}
-use Rattle.wasm_operator_validator_determined.specs.resources.Meaning.{Meaning, type_in}
-use Rattle.wasm_operator_validator_determined.specs.state.Refusals.{Does}
-use Rattle.wasm_operator_validator_determined.specs.state.declared.operand.MaybeType.{MaybeType}
-use Rattle.wasm_operator_validator_determined.specs.state.declared.operand.MaybeType.TheVariants as maybe
-use Rattle.wasm_operator_validator_determined.specs.state.State.{State, Stands, Accepts, Decides, Checks, types_in}
-use Rattle.wasm_operator_validator_determined.specs.state.Steps.{Stacks, MayPopAny, PoppedAny, Pushed}
-use Rattle.wasm_operator_validator_determined.specs.state.laws.Operands.{operand_refl, all_below_refl}
-use Rattle.wasm_operator_validator_determined.specs.state.laws.Rows.{by_row, some_row}
-use Rattle.wasm_operator_validator_determined.specs.state.Entering.{MayBegin}
-use Rattle.wasm_operator_validator_determined.specs.state.laws.Entering.{enabled}
-use Rattle.wasm_operator_validator_determined.specs.state.laws.Checks.{checks_going}
-use Rattle.wasm_operator_validator_determined.specs.Operators.{Stays}
-use Rattle.wasm_operator_validator_determined.specs.laws.Types.{i32_in}
-use Rattle.wasm_operator_validator_determined.specs.laws.Same.{same_trans, stays_same, stays_trans}
-use Rattle.wasm_operator_validator_determined.specs.laws.Determined.{refused_then}
+use Rattle.wasm_operators_immediates.specs.declared.proposal.Proposal.TheVariants.{ReferenceTypes}
+use Rattle.wasm_operators_enums.specs.declared.bulk.BulkOperator.TheVariants as bulk
+use Rattle.wasm_operators_enums.specs.Op as op
+use Rattle.wasm_operators_enums.specs.Op.{Op}
+use Rattle.wasm_operator_validator_rules.specs.Operands.{ValueType, Operand, bottom, some_reference, known, IsReference, stack}
+use Rattle.wasm_operator_validator_rules.specs.InstructionTypes.{i32_type}
+use Rattle.wasm_operator_validator_state.specs.resources.Meaning.{Meaning, type_in}
+use Rattle.wasm_operator_validator_state.specs.Refusals.{Does}
+use Rattle.wasm_operator_validator_state.specs.declared.operand.MaybeType.{MaybeType}
+use Rattle.wasm_operator_validator_state.specs.declared.operand.MaybeType.TheVariants as maybe
+use Rattle.wasm_operator_validator_state.specs.State.{State, Stands, Accepts, Decides, Checks, types_in}
+use Rattle.wasm_operator_validator_state.specs.Steps.{Stacks, MayPopAny, PoppedAny, Pushed}
+use Rattle.wasm_operator_validator_state.specs.laws.Operands.{operand_refl, all_below_refl}
+use Rattle.wasm_operator_validator_state.specs.laws.Rows.{by_row, some_row}
+use Rattle.wasm_operator_validator_state.specs.Entering.{MayBegin}
+use Rattle.wasm_operator_validator_state.specs.laws.Entering.{enabled}
+use Rattle.wasm_operator_validator_state.specs.laws.Checks.{checks_going}
+use Rattle.wasm_operator_validator_stacks.specs.determined.Operators.{Stays}
+use Rattle.wasm_operator_validator_stacks.specs.determined.laws.Types.{i32_in}
+use Rattle.wasm_operator_validator_stacks.specs.determined.laws.Same.{same_trans, stays_same, stays_trans}
+use Rattle.wasm_operator_validator_stacks.specs.determined.laws.Determined.{refused_then}
 use Rattle.wasm_operator_validator_memory.specs.Tables.{may_refer}
 
 abbrev pub is_null : Op

@@ -1,22 +1,22 @@
 -- When memory is wanted.
 use Rattle.std.proofs.Common.{◌≡◌, ◌↔◌, ◌∙◌, [], ◌∷◌, Bool, List, Option, Some, false, refl, sym, ap}
-use Rattle.wasm_types.specs.error.declared.error.ErrorKind.{ErrorKind}
-use Rattle.wasm_types.specs.error.declared.error.ErrorKind.TheVariants as kinds
+use Rattle.wasm_types.specs.decoding.declared.error.ErrorKind.{ErrorKind}
+use Rattle.wasm_types.specs.decoding.declared.error.ErrorKind.TheVariants as kinds
 use Rattle.wasm_types.specs.values.declared.value.ValType.{ValType}
-use Rattle.wasm_operator_validator_determined.specs.expression.info.declared.proposal.Proposal.{Proposal}
-use Rattle.wasm_operator_validator_determined.specs.expression.info.declared.proposal.Proposal.TheVariants.{Mvp}
-use Rattle.wasm_operator_validator_determined.specs.expression.operator.Op.{Op}
-use Rattle.wasm_operator_validator_determined.specs.rules.Operands.{ValueType, Operand, bottom, all_known}
-use Rattle.wasm_operator_validator_determined.specs.rules.InstructionTypes.{◌⟶◌, instruction_type}
-use Rattle.wasm_operator_validator_determined.specs.rules.Row.{Takes, GroupRow}
-use Rattle.wasm_operator_validator_determined.specs.resources.Meaning.{Meaning}
-use Rattle.wasm_operator_validator_determined.specs.state.Refusals.{kind_of}
-use Rattle.wasm_operator_validator_determined.specs.state.declared.refusal.Refusal.{Refusal}
-use Rattle.wasm_operator_validator_determined.specs.state.declared.refusal.Refusal.TheVariants as refusals
-use Rattle.wasm_operator_validator_determined.specs.state.State.{State, initialised, context, types_in}
-use Rattle.wasm_operator_validator_determined.specs.state.Entering.{MayBegin, StopsWith}
-use Rattle.wasm_operator_validator_determined.specs.state.laws.Entering.{enabled}
-use Rattle.wasm_operator_validator_determined.specs.Operators.{IsPlain, IsInTable}
+use Rattle.wasm_operators_immediates.specs.declared.proposal.Proposal.{Proposal}
+use Rattle.wasm_operators_immediates.specs.declared.proposal.Proposal.TheVariants.{Mvp}
+use Rattle.wasm_operators_enums.specs.Op.{Op}
+use Rattle.wasm_operator_validator_rules.specs.Operands.{ValueType, Operand, bottom, all_known}
+use Rattle.wasm_operator_validator_rules.specs.InstructionTypes.{◌⟶◌, instruction_type}
+use Rattle.wasm_operator_validator_rules.specs.Row.{Takes, GroupRow}
+use Rattle.wasm_operator_validator_state.specs.resources.Meaning.{Meaning}
+use Rattle.wasm_operator_validator_state.specs.Refusals.{kind_of}
+use Rattle.wasm_operator_validator_state.specs.declared.refusal.Refusal.{Refusal}
+use Rattle.wasm_operator_validator_state.specs.declared.refusal.Refusal.TheVariants as refusals
+use Rattle.wasm_operator_validator_state.specs.State.{State, initialised, context, types_in}
+use Rattle.wasm_operator_validator_state.specs.Entering.{MayBegin, StopsWith}
+use Rattle.wasm_operator_validator_state.specs.laws.Entering.{enabled}
+use Rattle.wasm_operator_validator_stacks.specs.determined.Operators.{IsPlain, IsInTable}
 use Rattle.wasm_operator_validator_memory.specs.Variables.{HasTypes, WantsRoom}
 use Rattle.wasm_operator_validator_memory.proofs.Selecting.{drop_op, drop_is}
 

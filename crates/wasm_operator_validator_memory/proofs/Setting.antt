@@ -3,26 +3,26 @@ use Rattle.std.proofs.Common.{◌≡◌, ◌↔◌, ◌∙◌, ◌==◌, ◌<◌
 use Rattle.std.specs.Prelude.{if◌then◌else◌}
 use Rattle.std.proofs.lemmas.List.{length-map}
 use Rattle.std.proofs.lemmas.Option.{slice_get_within}
-use Rattle.wasm_types.specs.error.Denials.{Denies}
-use Rattle.wasm_types.specs.error.declared.error.ErrorKind.{ErrorKind}
-use Rattle.wasm_types.specs.error.DenialLaws.{denies_from}
-use Rattle.wasm_operator_validator_determined.specs.expression.info.declared.proposal.Proposal.{Proposal}
-use Rattle.wasm_operator_validator_determined.specs.expression.operator.Op.{Op}
-use Rattle.wasm_operator_validator_determined.specs.rules.Operands.{ValueType, Operand, stack}
-use Rattle.wasm_operator_validator_determined.specs.rules.Context.{Initialised}
-use Rattle.wasm_operator_validator_determined.specs.rules.Row.{Takes, GroupRow, after}
-use Rattle.wasm_operator_validator_determined.specs.resources.Meaning.{Meaning, type_in}
-use Rattle.wasm_operator_validator_determined.specs.state.Refusals.{kind_of, refused}
-use Rattle.wasm_operator_validator_determined.specs.state.State.{Given, State, initialised, context, types_in, Accepts, Decides, Checks}
-use Rattle.wasm_operator_validator_determined.specs.state.Steps.{Stacks, MayPop, Exchanged, with_init}
-use Rattle.wasm_operator_validator_determined.specs.state.declared.refusal.Refusal.{Refusal}
-use Rattle.wasm_operator_validator_determined.specs.state.declared.refusal.Refusal.TheVariants as refusals
-use Rattle.wasm_operator_validator_determined.specs.state.laws.Rows.{some_row}
-use Rattle.wasm_operator_validator_determined.specs.state.laws.Locals.{with_init_sets}
-use Rattle.wasm_operator_validator_determined.specs.state.Entering.{MayBegin}
-use Rattle.wasm_operator_validator_determined.specs.state.laws.Checks.{checks_going}
-use Rattle.wasm_operator_validator_determined.specs.Operators.{IsPlain, Stays}
-use Rattle.wasm_operator_validator_determined.specs.laws.Determined.{written, refused_then}
+use Rattle.wasm_types.specs.decoding.Denials.{Denies}
+use Rattle.wasm_types.specs.decoding.declared.error.ErrorKind.{ErrorKind}
+use Rattle.wasm_types.specs.decoding.DenialLaws.{denies_from}
+use Rattle.wasm_operators_immediates.specs.declared.proposal.Proposal.{Proposal}
+use Rattle.wasm_operators_enums.specs.Op.{Op}
+use Rattle.wasm_operator_validator_rules.specs.Operands.{ValueType, Operand, stack}
+use Rattle.wasm_operator_validator_rules.specs.Context.{Initialised}
+use Rattle.wasm_operator_validator_rules.specs.Row.{Takes, GroupRow, after}
+use Rattle.wasm_operator_validator_state.specs.resources.Meaning.{Meaning, type_in}
+use Rattle.wasm_operator_validator_state.specs.Refusals.{kind_of, refused}
+use Rattle.wasm_operator_validator_state.specs.State.{Given, State, initialised, context, types_in, Accepts, Decides, Checks}
+use Rattle.wasm_operator_validator_state.specs.Steps.{Stacks, MayPop, Exchanged, with_init}
+use Rattle.wasm_operator_validator_state.specs.declared.refusal.Refusal.{Refusal}
+use Rattle.wasm_operator_validator_state.specs.declared.refusal.Refusal.TheVariants as refusals
+use Rattle.wasm_operator_validator_state.specs.laws.Rows.{some_row}
+use Rattle.wasm_operator_validator_state.specs.laws.Locals.{with_init_sets}
+use Rattle.wasm_operator_validator_state.specs.Entering.{MayBegin}
+use Rattle.wasm_operator_validator_state.specs.laws.Checks.{checks_going}
+use Rattle.wasm_operator_validator_stacks.specs.determined.Operators.{IsPlain, Stays}
+use Rattle.wasm_operator_validator_stacks.specs.determined.laws.Determined.{written, refused_then}
 
 -- which locals are initialised once one more was set
 abbrev pub with_local : ℕ → Initialised → Initialised

@@ -4,25 +4,25 @@ use Rattle.wasm_types.specs.externs.Addresses as addresses
 use Rattle.wasm_types.specs.externs.declared.memory.MemoryType.{MemoryType}
 use Rattle.wasm_types.specs.values.declared.value.ValType.{ValType}
 use Rattle.wasm_types.specs.values.declared.value.ValType.TheVariants as vals
-use Rattle.wasm_operator_validator_determined.specs.expression.info.declared.proposal.Proposal.TheVariants.{Mvp, BulkMemory}
-use Rattle.wasm_operator_validator_determined.specs.expression.groups.declared.memory.MemoryOperator.TheVariants as memory
-use Rattle.wasm_operator_validator_determined.specs.expression.groups.declared.bulk.BulkOperator.{BulkOperator}
-use Rattle.wasm_operator_validator_determined.specs.expression.groups.declared.bulk.BulkOperator.TheVariants as bulk
-use Rattle.wasm_operator_validator_determined.specs.expression.groups.memory.Table.{bulk_info}
-use Rattle.wasm_operator_validator_determined.specs.expression.operator.Op as op
-use Rattle.wasm_operator_validator_determined.specs.rules.Operands.{Operand}
-use Rattle.wasm_operator_validator_determined.specs.rules.Context.{Context, address_type}
-use Rattle.wasm_operator_validator_determined.specs.rules.InstructionTypes.{InstructionType, ◌⟶◌, provided, named, i32_type, names_data, shorter, instruction_type}
-use Rattle.wasm_operator_validator_determined.specs.rules.Row.{BulkRow, TableRow}
-use Rattle.wasm_operator_validator_determined.specs.resources.Meaning.{Meaning}
-use Rattle.wasm_operator_validator_determined.specs.state.Refusals.{kind_of, refused}
-use Rattle.wasm_operator_validator_determined.specs.state.State.{State, context, types_in, Checks}
-use Rattle.wasm_operator_validator_determined.specs.state.declared.refusal.Refusal.{Refusal}
-use Rattle.wasm_operator_validator_determined.specs.state.Entering.{MayBegin}
-use Rattle.wasm_operator_validator_determined.specs.Operators.{IsInTable}
-use Rattle.wasm_operator_validator_determined.specs.laws.Types.{i32_in, address_is}
-use Rattle.wasm_operator_validator_determined.specs.laws.Same.{stays_refl}
-use Rattle.wasm_operator_validator_determined.specs.laws.Determined.{refused_here, undetermined, unchanged, determined}
+use Rattle.wasm_operators_immediates.specs.declared.proposal.Proposal.TheVariants.{Mvp, BulkMemory}
+use Rattle.wasm_operators_enums.specs.declared.memory.MemoryOperator.TheVariants as memory
+use Rattle.wasm_operators_enums.specs.declared.bulk.BulkOperator.{BulkOperator}
+use Rattle.wasm_operators_enums.specs.declared.bulk.BulkOperator.TheVariants as bulk
+use Rattle.wasm_operators_enums.specs.memory.Table.{bulk_info}
+use Rattle.wasm_operators_enums.specs.Op as op
+use Rattle.wasm_operator_validator_rules.specs.Operands.{Operand}
+use Rattle.wasm_operator_validator_rules.specs.Context.{Context, address_type}
+use Rattle.wasm_operator_validator_rules.specs.InstructionTypes.{InstructionType, ◌⟶◌, provided, named, i32_type, names_data, shorter, instruction_type}
+use Rattle.wasm_operator_validator_rules.specs.Row.{BulkRow, TableRow}
+use Rattle.wasm_operator_validator_state.specs.resources.Meaning.{Meaning}
+use Rattle.wasm_operator_validator_state.specs.Refusals.{kind_of, refused}
+use Rattle.wasm_operator_validator_state.specs.State.{State, context, types_in, Checks}
+use Rattle.wasm_operator_validator_state.specs.declared.refusal.Refusal.{Refusal}
+use Rattle.wasm_operator_validator_state.specs.Entering.{MayBegin}
+use Rattle.wasm_operator_validator_stacks.specs.determined.Operators.{IsInTable}
+use Rattle.wasm_operator_validator_stacks.specs.determined.laws.Types.{i32_in, address_is}
+use Rattle.wasm_operator_validator_stacks.specs.determined.laws.Same.{stays_refl}
+use Rattle.wasm_operator_validator_stacks.specs.determined.laws.Determined.{refused_here, undetermined, unchanged, determined}
 
 -- ---- which are in the table
 

@@ -1,33 +1,33 @@
 -- `ref.func`.
 use Rattle.std.proofs.Common.{◌≡◌, ◌↔◌, ◌∙◌, ◌<◌, ℕ, List, [], ◌∷◌, Bool, true, false, IsTrue, Option, Some, None, length, slice_get, refl, sym, ap, subst}
 use Rattle.std.proofs.lemmas.Option.{slice_get_within, get_or_from_slice_get}
-use Rattle.wasm_types.specs.error.declared.error.ErrorKind.{ErrorKind}
-use Rattle.wasm_types.specs.error.DenialLaws.{denies_from}
+use Rattle.wasm_types.specs.decoding.declared.error.ErrorKind.{ErrorKind}
+use Rattle.wasm_types.specs.decoding.DenialLaws.{denies_from}
 use Rattle.wasm_types.specs.trees.Types.{HeapOf, ref}
 use Rattle.wasm_types.specs.trees.Trees.{TypeTree}
 use Rattle.wasm_types.specs.trees.Below.{HeapBelow, itself, is_shared, value_is_shared}
 use Rattle.wasm_types.specs.trees.ValidGroup.{type_at}
 use Rattle.wasm_types.specs.values.declared.heap.HeapType.{HeapType}
 use Rattle.wasm_types.specs.values.Reference.{Reference}
-use Rattle.wasm_operator_validator_determined.specs.expression.info.declared.proposal.Proposal.TheVariants.{ReferenceTypes}
-use Rattle.wasm_operator_validator_determined.specs.expression.groups.declared.bulk.BulkOperator.TheVariants as bulk
-use Rattle.wasm_operator_validator_determined.specs.expression.operator.Op as op
-use Rattle.wasm_operator_validator_determined.specs.expression.operator.Op.{Op}
-use Rattle.wasm_operator_validator_determined.specs.rules.Operands.{ValueType, known}
-use Rattle.wasm_operator_validator_determined.specs.rules.Row.{IsOneOf, IsReferenceTo, of_type, of_exactly}
-use Rattle.wasm_operator_validator_determined.specs.resources.Meaning.{Meaning, type_in, heap_in}
-use Rattle.wasm_operator_validator_determined.specs.resources.Answers.{IsTypeOf, IsNamed}
-use Rattle.wasm_operator_validator_determined.specs.state.Refusals.{Does}
-use Rattle.wasm_operator_validator_determined.specs.state.State.{State, context, Accepts, Decides, Checks}
-use Rattle.wasm_operator_validator_determined.specs.state.Steps.{Stacks, Pushed}
-use Rattle.wasm_operator_validator_determined.specs.state.laws.Operands.{all_below_refl}
-use Rattle.wasm_operator_validator_determined.specs.state.laws.Rows.{by_row}
-use Rattle.wasm_operator_validator_determined.specs.state.Entering.{MayBegin}
-use Rattle.wasm_operator_validator_determined.specs.state.laws.Entering.{enabled}
-use Rattle.wasm_operator_validator_determined.specs.state.laws.Checks.{checks_going}
-use Rattle.wasm_operator_validator_determined.specs.Operators.{MayUseIn, Stays}
-use Rattle.wasm_operator_validator_determined.specs.laws.Usable.{fails}
-use Rattle.wasm_operator_validator_determined.specs.laws.Determined.{no_row}
+use Rattle.wasm_operators_immediates.specs.declared.proposal.Proposal.TheVariants.{ReferenceTypes}
+use Rattle.wasm_operators_enums.specs.declared.bulk.BulkOperator.TheVariants as bulk
+use Rattle.wasm_operators_enums.specs.Op as op
+use Rattle.wasm_operators_enums.specs.Op.{Op}
+use Rattle.wasm_operator_validator_rules.specs.Operands.{ValueType, known}
+use Rattle.wasm_operator_validator_rules.specs.Row.{IsOneOf, IsReferenceTo, of_type, of_exactly}
+use Rattle.wasm_operator_validator_state.specs.resources.Meaning.{Meaning, type_in, heap_in}
+use Rattle.wasm_operator_validator_state.specs.resources.Answers.{IsTypeOf, IsNamed}
+use Rattle.wasm_operator_validator_state.specs.Refusals.{Does}
+use Rattle.wasm_operator_validator_state.specs.State.{State, context, Accepts, Decides, Checks}
+use Rattle.wasm_operator_validator_state.specs.Steps.{Stacks, Pushed}
+use Rattle.wasm_operator_validator_state.specs.laws.Operands.{all_below_refl}
+use Rattle.wasm_operator_validator_state.specs.laws.Rows.{by_row}
+use Rattle.wasm_operator_validator_state.specs.Entering.{MayBegin}
+use Rattle.wasm_operator_validator_state.specs.laws.Entering.{enabled}
+use Rattle.wasm_operator_validator_state.specs.laws.Checks.{checks_going}
+use Rattle.wasm_operator_validator_stacks.specs.determined.Operators.{MayUseIn, Stays}
+use Rattle.wasm_operator_validator_stacks.specs.determined.laws.Usable.{fails}
+use Rattle.wasm_operator_validator_stacks.specs.determined.laws.Determined.{no_row}
 use Rattle.wasm_operator_validator_memory.specs.Tables.{IsReferable, IsExactly, IsFunctionReference, heap_to, reference_to, written_heap}
 use Rattle.wasm_operator_validator_memory.proofs.Indexing.{is_bulk}
 

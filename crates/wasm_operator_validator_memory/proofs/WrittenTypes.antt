@@ -1,25 +1,25 @@
 -- Choices of a written type.
 use Rattle.std.proofs.Common.{◌≡◌, ◌↔◌, ◌∙◌, List, [], ◌∷◌, Bool, true, false, IsTrue, refl, sym, subst}
-use Rattle.wasm_types.specs.error.declared.error.ErrorKind.{ErrorKind}
-use Rattle.wasm_types.specs.error.Denials.{Denies}
-use Rattle.wasm_types.specs.error.DenialLaws.{denies_from}
+use Rattle.wasm_types.specs.decoding.declared.error.ErrorKind.{ErrorKind}
+use Rattle.wasm_types.specs.decoding.Denials.{Denies}
+use Rattle.wasm_types.specs.decoding.DenialLaws.{denies_from}
 use Rattle.wasm_types.specs.trees.Below.{value_is_shared}
 use Rattle.wasm_types.specs.values.declared.value.ValType.{ValType}
 use Rattle.wasm_types.specs.values.declared.value.ValType.TheVariants as vals
-use Rattle.wasm_operator_validator_determined.specs.expression.info.declared.proposal.Proposal.TheVariants.{ReferenceTypes}
-use Rattle.wasm_operator_validator_determined.specs.expression.operator.Op as op
-use Rattle.wasm_operator_validator_determined.specs.expression.operator.Op.{Op}
-use Rattle.wasm_operator_validator_determined.specs.rules.Operands.{ValueType, Operand}
-use Rattle.wasm_operator_validator_determined.specs.rules.Context.{IsType}
-use Rattle.wasm_operator_validator_determined.specs.rules.InstructionTypes.{i32_type}
-use Rattle.wasm_operator_validator_determined.specs.rules.Row.{Takes, GroupRow}
-use Rattle.wasm_operator_validator_determined.specs.resources.Meaning.{Meaning, type_in}
-use Rattle.wasm_operator_validator_determined.specs.state.State.{State, initialised, context, types_in, Accepts}
-use Rattle.wasm_operator_validator_determined.specs.state.laws.Rows.{some_row}
-use Rattle.wasm_operator_validator_determined.specs.state.Entering.{MayBegin}
-use Rattle.wasm_operator_validator_determined.specs.Operators.{IsPlain, MayUseIn}
-use Rattle.wasm_operator_validator_determined.specs.laws.Types.{i32_in, is_written}
-use Rattle.wasm_operator_validator_determined.specs.laws.Determined.{no_row}
+use Rattle.wasm_operators_immediates.specs.declared.proposal.Proposal.TheVariants.{ReferenceTypes}
+use Rattle.wasm_operators_enums.specs.Op as op
+use Rattle.wasm_operators_enums.specs.Op.{Op}
+use Rattle.wasm_operator_validator_rules.specs.Operands.{ValueType, Operand}
+use Rattle.wasm_operator_validator_rules.specs.Context.{IsType}
+use Rattle.wasm_operator_validator_rules.specs.InstructionTypes.{i32_type}
+use Rattle.wasm_operator_validator_rules.specs.Row.{Takes, GroupRow}
+use Rattle.wasm_operator_validator_state.specs.resources.Meaning.{Meaning, type_in}
+use Rattle.wasm_operator_validator_state.specs.State.{State, initialised, context, types_in, Accepts}
+use Rattle.wasm_operator_validator_state.specs.laws.Rows.{some_row}
+use Rattle.wasm_operator_validator_state.specs.Entering.{MayBegin}
+use Rattle.wasm_operator_validator_stacks.specs.determined.Operators.{IsPlain, MayUseIn}
+use Rattle.wasm_operator_validator_stacks.specs.determined.laws.Types.{i32_in, is_written}
+use Rattle.wasm_operator_validator_stacks.specs.determined.laws.Determined.{no_row}
 
 abbrev pub typed_op : ValType → Op
 typed_op t = op.Parametric (op.TypedSelect t)

@@ -1,8 +1,8 @@
 -- What a choice without a type gives, which is for numbers and vectors (WebAssembly 3.0, validation, parametric instructions).
 use Rattle.std.specs.Prelude.{◌≡◌, Bool, true, false, not}
 use Rattle.wasm_types.specs.values.ValueKinds.{is_reference}
-use Rattle.wasm_operator_validator_determined.specs.state.declared.operand.MaybeType.{MaybeType}
-use Rattle.wasm_operator_validator_determined.specs.state.declared.operand.MaybeType.TheVariants as maybe
+use Rattle.wasm_operator_validator_state.specs.declared.operand.MaybeType.{MaybeType}
+use Rattle.wasm_operator_validator_state.specs.declared.operand.MaybeType.TheVariants as maybe
 
 -- it may stand for a number or a vector
 abbrev pub may_choose : MaybeType → Bool

@@ -11,10 +11,5 @@ pub mod RoomLaws
 pub mod DeclaredLaws
 -- Laws, with the proofs: what an access takes and gives.
 pub mod laws
--- The rules and laws of the crates below, under their names: crates above cite them here.
-pub use Rattle.wasm_operator_validator_determined.specs.expression as expression
-pub use Rattle.wasm_operator_validator_determined.specs.rules as rules
-pub use Rattle.wasm_operator_validator_determined.specs.resources as resources
-pub use Rattle.wasm_operator_validator_determined.specs.state as state
-pub use Rattle.wasm_operator_validator_determined.specs.stacks as stacks
-pub use Rattle.wasm_operator_validator_determined.specs as determined
+-- Rules and laws: atomic accesses to memories (the proposal on threads).
+pub mod atomics

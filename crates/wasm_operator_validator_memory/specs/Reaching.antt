@@ -5,12 +5,12 @@ use Rattle.wasm_types.specs.externs.declared.memory.MemoryType.{MemoryType}
 use Rattle.wasm_types.specs.values.declared.value.ValType.{ValType}
 use Rattle.wasm_types.specs.values.declared.value.ValType.TheVariants as vals
 use Rattle.wasm_types.specs.values.Values.{value_of}
-use Rattle.wasm_operator_validator_determined.specs.expression.immediates.declared.memory.MemArg.{MemArg}
-use Rattle.wasm_operator_validator_determined.specs.expression.groups.declared.memory.MemoryOperator.{MemoryOperator}
-use Rattle.wasm_operator_validator_determined.specs.rules.Numbers.{is_float}
-use Rattle.wasm_operator_validator_determined.specs.rules.Operands.{ValueType}
-use Rattle.wasm_operator_validator_determined.specs.rules.Context.{address_type}
-use Rattle.wasm_operator_validator_determined.specs.rules.Accesses.{Access, access_of, may_access}
+use Rattle.wasm_operators_immediates.specs.declared.memory.MemArg.{MemArg}
+use Rattle.wasm_operators_enums.specs.declared.memory.MemoryOperator.{MemoryOperator}
+use Rattle.wasm_operator_validator_rules.specs.Numbers.{is_float}
+use Rattle.wasm_operator_validator_rules.specs.Operands.{ValueType}
+use Rattle.wasm_operator_validator_rules.specs.Context.{address_type}
+use Rattle.wasm_operator_validator_rules.specs.Accesses.{Access, access_of, may_access}
 
 -- the type of addresses of a memory, if there is one and it allows such an access
 abbrev pub reached : Bool → MemArg → Option MemoryType → Option ValueType

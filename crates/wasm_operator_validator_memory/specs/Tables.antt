@@ -1,27 +1,27 @@
 -- Tables and references.
 use Rattle.std.specs.Prelude.{◌≡◌, ◌↔◌, ℕ, Bool, true, false, IsTrue, Some, slice_get}
-use Rattle.wasm_types.specs.features.Features.{CustomDescriptors}
+use Rattle.wasm_types.specs.settings.Features.{CustomDescriptors}
 -- for attributes that unfold it
-unfoldable pub use Rattle.wasm_types.specs.features.Features.{has}
+unfoldable pub use Rattle.wasm_types.specs.settings.Features.{has}
 use Rattle.wasm_types.specs.trees.Types.{HeapOf, concrete, exact, ref}
 use Rattle.wasm_types.specs.trees.Trees.{TypeTree}
 use Rattle.wasm_types.specs.trees.Below.{is_shared}
 use Rattle.wasm_types.specs.trees.Gates.{Has}
-use Rattle.wasm_types.specs.indices.declared.index.UnpackedIndex.TheVariants as index
+use Rattle.wasm_types.specs.trees.declared.index.UnpackedIndex.TheVariants as index
 use Rattle.wasm_types.specs.values.declared.heap.HeapType.{HeapType}
 use Rattle.wasm_types.specs.values.declared.heap.HeapType.TheVariants as heap
 use Rattle.wasm_types.specs.values.declared.value.ValType.{ValType}
 use Rattle.wasm_types.specs.values.declared.value.ValType.TheVariants as vals
 use Rattle.wasm_types.specs.values.Reference.{Reference}
 use Rattle.wasm_types.specs.values.ValueKinds.{is_reference}
-use Rattle.wasm_operator_validator_determined.specs.rules.Operands.{ValueType}
-use Rattle.wasm_operator_validator_determined.specs.rules.Context.{Table}
-use Rattle.wasm_operator_validator_determined.specs.rules.Row.{IsOneOf}
-use Rattle.wasm_operator_validator_determined.specs.resources.Meaning.{Meaning}
-use Rattle.wasm_operator_validator_determined.specs.state.State.{State}
-use Rattle.wasm_operator_validator_determined.specs.Operators.{MayUseIn}
-use Rattle.wasm_operator_validator_determined.specs.state.declared.operand.MaybeType.{MaybeType}
-use Rattle.wasm_operator_validator_determined.specs.state.declared.operand.MaybeType.TheVariants as maybe
+use Rattle.wasm_operator_validator_rules.specs.Operands.{ValueType}
+use Rattle.wasm_operator_validator_rules.specs.Context.{Table}
+use Rattle.wasm_operator_validator_rules.specs.Row.{IsOneOf}
+use Rattle.wasm_operator_validator_state.specs.resources.Meaning.{Meaning}
+use Rattle.wasm_operator_validator_state.specs.State.{State}
+use Rattle.wasm_operator_validator_stacks.specs.determined.Operators.{MayUseIn}
+use Rattle.wasm_operator_validator_state.specs.declared.operand.MaybeType.{MaybeType}
+use Rattle.wasm_operator_validator_state.specs.declared.operand.MaybeType.TheVariants as maybe
 
 abbrev pub table_is_shared : Table → Bool
 table_is_shared t = t.shared

@@ -1,14 +1,14 @@
 -- Variables, and when memory is wanted.
 use Rattle.std.specs.Prelude.{◌≡◌, Bool, false, List, Option, Some}
-use Rattle.wasm_types.specs.error.declared.error.ErrorKind.{ErrorKind}
-use Rattle.wasm_types.specs.error.declared.error.ErrorKind.TheVariants as kinds
-use Rattle.wasm_operator_validator_determined.specs.expression.operator.Op.{Op}
-use Rattle.wasm_operator_validator_determined.specs.rules.Operands.{Operand}
-use Rattle.wasm_operator_validator_determined.specs.rules.Context.{Global}
-use Rattle.wasm_operator_validator_determined.specs.rules.Row.{Row}
-use Rattle.wasm_operator_validator_determined.specs.resources.Meaning.{Meaning}
-use Rattle.wasm_operator_validator_determined.specs.state.State.{State, initialised, context}
-use Rattle.wasm_operator_validator_determined.specs.state.Steps.{IsOpen}
+use Rattle.wasm_types.specs.decoding.declared.error.ErrorKind.{ErrorKind}
+use Rattle.wasm_types.specs.decoding.declared.error.ErrorKind.TheVariants as kinds
+use Rattle.wasm_operators_enums.specs.Op.{Op}
+use Rattle.wasm_operator_validator_rules.specs.Operands.{Operand}
+use Rattle.wasm_operator_validator_rules.specs.Context.{Global}
+use Rattle.wasm_operator_validator_rules.specs.Row.{Row}
+use Rattle.wasm_operator_validator_state.specs.resources.Meaning.{Meaning}
+use Rattle.wasm_operator_validator_state.specs.State.{State, initialised, context}
+use Rattle.wasm_operator_validator_state.specs.Steps.{IsOpen}
 
 abbrev pub global_is_shared : Global → Bool
 global_is_shared v = v.shared

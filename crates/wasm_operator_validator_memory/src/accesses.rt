@@ -1,13 +1,13 @@
 //! Loads and stores.
 
-ghost use Rattle.wasm_operator_validator_determined.specs.expression.operator.Op.{Op};
-ghost use Rattle.wasm_operator_validator_determined.specs.rules.Accesses.{load, store};
-ghost use Rattle.wasm_operator_validator_determined.specs.state.State.{Checks};
-ghost use Rattle.wasm_operator_validator_determined.specs.state.Refusals.{refused};
+ghost use Rattle.wasm_operators_enums.specs.Op.{Op};
+ghost use Rattle.wasm_operator_validator_rules.specs.Accesses.{load, store};
+ghost use Rattle.wasm_operator_validator_state.specs.State.{Checks};
+ghost use Rattle.wasm_operator_validator_state.specs.Refusals.{refused};
 ghost use Rattle.wasm_operator_validator_memory.specs.Reaching.{IsAccess};
 
 use crate::reaching::reach;
-use wasm_operator_validator_determined::{
+use wasm_operator_validator_stacks::determined::{
     MemArg, MemoryOperator, OperatorValidator, Proposal, Refusal, WasmModuleResources,
 };
 use wasm_types::ValType;

@@ -1,10 +1,10 @@
 //! What a choice between two operands gives.
 
 ghost use Rattle.std.specs.Prelude.{◌≡◌, true, MatchResult};
-ghost use Rattle.wasm_operator_validator_determined.specs.state.declared.operand.MaybeType.{MaybeType};
+ghost use Rattle.wasm_operator_validator_state.specs.declared.operand.MaybeType.{MaybeType};
 ghost use Rattle.wasm_operator_validator_memory.specs.Choices.{may_choose, Chooses};
 
-use wasm_operator_validator_determined::{MaybeType, Reason, Refusal};
+use wasm_operator_validator_stacks::determined::{MaybeType, Reason, Refusal};
 use wasm_types::equality_is_identity;
 
 /// What a choice without a type gives between these: it is for numbers and vectors of one type.

@@ -1,13 +1,13 @@
 //! Copies into tables, and element segments.
 
 ghost use Rattle.std.specs.Prelude.{IfErr};
-ghost use Rattle.wasm_operator_validator_determined.specs.expression.operator.Op.{Op};
-ghost use Rattle.wasm_operator_validator_determined.specs.state.State.{Checks};
-ghost use Rattle.wasm_operator_validator_determined.specs.state.Refusals.{refused};
-ghost use Rattle.wasm_operator_validator_determined.specs.Operators.{IsOfContent};
+ghost use Rattle.wasm_operators_enums.specs.Op.{Op};
+ghost use Rattle.wasm_operator_validator_state.specs.State.{Checks};
+ghost use Rattle.wasm_operator_validator_state.specs.Refusals.{refused};
+ghost use Rattle.wasm_operator_validator_stacks.specs.determined.Operators.{IsOfContent};
 
 use crate::finding::{find_elements, length_type, usable_table};
-use wasm_operator_validator_determined::{
+use wasm_operator_validator_stacks::determined::{
     BulkOperator, OperatorValidator, Proposal, Reason, Refusal, WasmModuleResources,
 };
 use wasm_types::ValType;

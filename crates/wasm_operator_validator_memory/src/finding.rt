@@ -2,12 +2,12 @@
 
 ghost use Rattle.std.specs.Prelude.{◌≡◌, ◌&&◌, None, Some, slice_get, IfErr, MatchResult};
 ghost use Rattle.wasm_types.specs.externs.Addresses.{address_type};
-ghost use Rattle.wasm_operator_validator_determined.specs.rules.Context.{Table};
-ghost use Rattle.wasm_operator_validator_determined.specs.resources.Meaning.{table_in, reference_in};
-ghost use Rattle.wasm_operator_validator_determined.specs.Operators.{IsUsable, IsOfContent};
+ghost use Rattle.wasm_operator_validator_rules.specs.Context.{Table};
+ghost use Rattle.wasm_operator_validator_state.specs.resources.Meaning.{table_in, reference_in};
+ghost use Rattle.wasm_operator_validator_stacks.specs.determined.Operators.{IsUsable, IsOfContent};
 ghost use Rattle.wasm_operator_validator_memory.specs.Tables.{table_is_shared};
 
-use wasm_operator_validator_determined::{
+use wasm_operator_validator_stacks::determined::{
     OperatorValidator, Reason, Refusal, Space, WasmModuleResources, may_use,
 };
 use wasm_types::{RefType, TableType, ValType};

@@ -4,13 +4,13 @@ ghost use Rattle.std.specs.Prelude.{◌≡◌, ◌↔◌, ◌<◌, IsTrue, Match
 ghost use Rattle.wasm_types.specs.trees.Types.{ref};
 ghost use Rattle.wasm_types.specs.trees.Trees.{TypeTree};
 ghost use Rattle.wasm_types.specs.trees.ValidGroup.{type_at};
-ghost use Rattle.wasm_operator_validator_determined.specs.expression.operator.Op.{Op};
-ghost use Rattle.wasm_operator_validator_determined.specs.resources.Meaning.{type_in};
-ghost use Rattle.wasm_operator_validator_determined.specs.state.State.{Checks};
-ghost use Rattle.wasm_operator_validator_determined.specs.state.Refusals.{refused};
+ghost use Rattle.wasm_operators_enums.specs.Op.{Op};
+ghost use Rattle.wasm_operator_validator_state.specs.resources.Meaning.{type_in};
+ghost use Rattle.wasm_operator_validator_state.specs.State.{Checks};
+ghost use Rattle.wasm_operator_validator_state.specs.Refusals.{refused};
 ghost use Rattle.wasm_operator_validator_memory.specs.Tables.{IsReferable, IsExactly, IsFunctionReference, heap_to, written_heap};
 
-use wasm_operator_validator_determined::{
+use wasm_operator_validator_stacks::determined::{
     BulkOperator, OperatorValidator, Proposal, Reason, Refusal, Space, WasmModuleResources,
     may_use_type,
 };

@@ -1,16 +1,16 @@
 //! Globals.
 
 ghost use Rattle.std.specs.Prelude.{◌≡◌, slice_get, MatchResult, IfErr};
-ghost use Rattle.wasm_types.specs.error.declared.error.ErrorKind.TheVariants.{Other};
-ghost use Rattle.wasm_operator_validator_determined.specs.expression.operator.Op.{Op};
-ghost use Rattle.wasm_operator_validator_determined.specs.resources.Meaning.{global_in};
-ghost use Rattle.wasm_operator_validator_determined.specs.rules.Context.{Global};
-ghost use Rattle.wasm_operator_validator_determined.specs.state.State.{Checks};
-ghost use Rattle.wasm_operator_validator_determined.specs.state.Refusals.{refused, kind_of};
-ghost use Rattle.wasm_operator_validator_determined.specs.Operators.{IsUsable};
+ghost use Rattle.wasm_types.specs.decoding.declared.error.ErrorKind.TheVariants.{Other};
+ghost use Rattle.wasm_operators_enums.specs.Op.{Op};
+ghost use Rattle.wasm_operator_validator_state.specs.resources.Meaning.{global_in};
+ghost use Rattle.wasm_operator_validator_rules.specs.Context.{Global};
+ghost use Rattle.wasm_operator_validator_state.specs.State.{Checks};
+ghost use Rattle.wasm_operator_validator_state.specs.Refusals.{refused, kind_of};
+ghost use Rattle.wasm_operator_validator_stacks.specs.determined.Operators.{IsUsable};
 ghost use Rattle.wasm_operator_validator_memory.specs.Variables.{global_is_shared, WantsRoom};
 
-use wasm_operator_validator_determined::{
+use wasm_operator_validator_stacks::determined::{
     MemoryOperator, OperatorValidator, Proposal, Reason, Refusal, Space, WasmModuleResources,
     may_use,
 };

@@ -4,9 +4,14 @@
 //! Each check decides its operator: it is not refused exactly if the operator may come, out of memory aside, and leaves what may
 //! follow (`Checks` of `wasm_operator_validator_state`). `specs/Reaching.antt` says which accesses a memory allows, `specs/Choices.antt`
 //! what a choice between two operands gives.
+//!
+//! Its parts beside these:
+//!
+//! - [`atomics`]: atomic accesses to memories (the proposal on threads).
 #![tactic(auto)]
 
 mod accesses;
+pub mod atomics;
 mod choosing;
 mod copies;
 mod finding;
@@ -41,7 +46,7 @@ pub use tables::{
     check_table_fill, check_table_get, check_table_grow, check_table_set, check_table_size,
 };
 pub use typed::{check_typed_select, check_typed_select_multi};
-pub use wasm_operator_validator_determined::{
+pub use wasm_operator_validator_stacks::determined::{
     BlockType, BrTable, BrTableTargets, BulkOperator, ConstOperator, Frame, FrameKind, MaybeType,
     MemArg, MemArgTarget, MemoryOperator, OperatorValidator, Proposal, Reason, Refusal, Space,
     WasmModuleResources, check_value_type_features, copied, is_abstract_fit, is_fit, may_use,

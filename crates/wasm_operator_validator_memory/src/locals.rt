@@ -2,16 +2,16 @@
 
 ghost use Rattle.std.specs.Prelude.{◌≡◌, slice_get, MatchResult, IfErr};
 ghost use Rattle.wasm_types.specs.trees.Below.{value_is_shared};
-ghost use Rattle.wasm_operator_validator_determined.specs.expression.operator.Op.{Op};
-ghost use Rattle.wasm_operator_validator_determined.specs.resources.Meaning.{type_in};
-ghost use Rattle.wasm_operator_validator_determined.specs.rules.Operands.{ValueType};
-ghost use Rattle.wasm_operator_validator_determined.specs.state.State.{Checks, types_in};
-ghost use Rattle.wasm_types.specs.error.declared.error.ErrorKind.TheVariants.{Other};
-ghost use Rattle.wasm_operator_validator_determined.specs.state.Refusals.{refused, kind_of};
-ghost use Rattle.wasm_operator_validator_determined.specs.Operators.{IsUsable};
+ghost use Rattle.wasm_operators_enums.specs.Op.{Op};
+ghost use Rattle.wasm_operator_validator_state.specs.resources.Meaning.{type_in};
+ghost use Rattle.wasm_operator_validator_rules.specs.Operands.{ValueType};
+ghost use Rattle.wasm_operator_validator_state.specs.State.{Checks, types_in};
+ghost use Rattle.wasm_types.specs.decoding.declared.error.ErrorKind.TheVariants.{Other};
+ghost use Rattle.wasm_operator_validator_state.specs.Refusals.{refused, kind_of};
+ghost use Rattle.wasm_operator_validator_stacks.specs.determined.Operators.{IsUsable};
 ghost use Rattle.wasm_operator_validator_memory.specs.Variables.{WantsRoom};
 
-use wasm_operator_validator_determined::{
+use wasm_operator_validator_stacks::determined::{
     MemoryOperator, OperatorValidator, Proposal, Reason, Refusal, WasmModuleResources, copied,
     may_use_type,
 };

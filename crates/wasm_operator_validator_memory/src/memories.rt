@@ -2,13 +2,13 @@
 
 ghost use Rattle.std.specs.Prelude.{◌≡◌, ◌&&◌, true, false, slice_get, IfErr, MatchResult};
 ghost use Rattle.wasm_types.specs.externs.Addresses.{address_type};
-ghost use Rattle.wasm_operator_validator_determined.specs.expression.operator.Op.{Op};
-ghost use Rattle.wasm_operator_validator_determined.specs.rules.InstructionTypes.{names_data};
-ghost use Rattle.wasm_operator_validator_determined.specs.state.State.{Checks};
-ghost use Rattle.wasm_operator_validator_determined.specs.state.Refusals.{refused};
-ghost use Rattle.wasm_operator_validator_determined.specs.Operators.{IsOfContent};
+ghost use Rattle.wasm_operators_enums.specs.Op.{Op};
+ghost use Rattle.wasm_operator_validator_rules.specs.InstructionTypes.{names_data};
+ghost use Rattle.wasm_operator_validator_state.specs.State.{Checks};
+ghost use Rattle.wasm_operator_validator_state.specs.Refusals.{refused};
+ghost use Rattle.wasm_operator_validator_stacks.specs.determined.Operators.{IsOfContent};
 
-use wasm_operator_validator_determined::{
+use wasm_operator_validator_stacks::determined::{
     BulkOperator, MemoryOperator, OperatorValidator, Proposal, Reason, Refusal, Space,
     WasmModuleResources,
 };

@@ -1,14 +1,14 @@
 //! The types of nulls that a module writes.
 
 ghost use Rattle.std.specs.Prelude.{MatchResult};
-ghost use Rattle.wasm_types.specs.error.Denials.{Denies};
-ghost use Rattle.wasm_operator_validator_determined.specs.resources.Meaning.{type_in};
-ghost use Rattle.wasm_operator_validator_determined.specs.rules.Context.{IsType};
-ghost use Rattle.wasm_operator_validator_determined.specs.rules.Operands.{ValueType};
-ghost use Rattle.wasm_operator_validator_determined.specs.state.Refusals.{kind_of};
+ghost use Rattle.wasm_types.specs.decoding.Denials.{Denies};
+ghost use Rattle.wasm_operator_validator_state.specs.resources.Meaning.{type_in};
+ghost use Rattle.wasm_operator_validator_rules.specs.Context.{IsType};
+ghost use Rattle.wasm_operator_validator_rules.specs.Operands.{ValueType};
+ghost use Rattle.wasm_operator_validator_state.specs.Refusals.{kind_of};
 ghost use Rattle.wasm_operator_validator_memory.specs.Tables.{null_of, reference_to};
 
-use wasm_operator_validator_determined::{
+use wasm_operator_validator_stacks::determined::{
     Reason, Refusal, WasmModuleResources, check_value_type_features, refusal_of,
 };
 use wasm_types::{HeapType, RefType, ValType, WasmFeatures};

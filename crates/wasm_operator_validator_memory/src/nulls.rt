@@ -1,11 +1,11 @@
 //! Nulls.
 
-ghost use Rattle.wasm_operator_validator_determined.specs.expression.operator.Op.{Op};
-ghost use Rattle.wasm_operator_validator_determined.specs.state.State.{Checks};
-ghost use Rattle.wasm_operator_validator_determined.specs.state.Refusals.{refused};
+ghost use Rattle.wasm_operators_enums.specs.Op.{Op};
+ghost use Rattle.wasm_operator_validator_state.specs.State.{Checks};
+ghost use Rattle.wasm_operator_validator_state.specs.Refusals.{refused};
 
 use crate::naming::name_null;
-use wasm_operator_validator_determined::{
+use wasm_operator_validator_stacks::determined::{
     BulkOperator, OperatorValidator, Proposal, Reason, Refusal, WasmModuleResources, may_use_type,
 };
 use wasm_types::HeapType;

@@ -1,12 +1,12 @@
 //! Operands of any type.
 
-ghost use Rattle.wasm_operator_validator_determined.specs.expression.operator.Op.{Op, ParametricTree};
-ghost use Rattle.wasm_operator_validator_determined.specs.state.State.{Checks};
-ghost use Rattle.wasm_operator_validator_determined.specs.state.Refusals.{refused};
+ghost use Rattle.wasm_operators_enums.specs.Op.{Op, ParametricTree};
+ghost use Rattle.wasm_operator_validator_state.specs.State.{Checks};
+ghost use Rattle.wasm_operator_validator_state.specs.Refusals.{refused};
 ghost use Rattle.wasm_operator_validator_memory.specs.Variables.{WantsRoom};
 
 use crate::choosing::chosen;
-use wasm_operator_validator_determined::{
+use wasm_operator_validator_stacks::determined::{
     OperatorValidator, Proposal, Refusal, WasmModuleResources,
 };
 use wasm_types::ValType;

@@ -1,11 +1,11 @@
 //! Which accesses a memory allows.
 
 ghost use Rattle.std.specs.Prelude.{◌≡◌, ◌||◌, ◌^◌, nat_lt, slice_get, MatchResult};
-ghost use Rattle.wasm_operator_validator_determined.specs.rules.Accesses.{is_aligned, is_in_memory};
-ghost use Rattle.wasm_operator_validator_determined.specs.resources.Meaning.{type_in};
+ghost use Rattle.wasm_operator_validator_rules.specs.Accesses.{is_aligned, is_in_memory};
+ghost use Rattle.wasm_operator_validator_state.specs.resources.Meaning.{type_in};
 ghost use Rattle.wasm_operator_validator_memory.specs.Reaching.{reached};
 
-use wasm_operator_validator_determined::{
+use wasm_operator_validator_stacks::determined::{
     MemArg, MemArgTarget, Reason, Refusal, Space, WasmModuleResources,
 };
 use wasm_types::ValType;

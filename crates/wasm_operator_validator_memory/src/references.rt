@@ -1,12 +1,12 @@
 //! References.
 
 ghost use Rattle.std.specs.Prelude.{◌≡◌};
-ghost use Rattle.wasm_operator_validator_determined.specs.expression.operator.Op.{Op};
-ghost use Rattle.wasm_operator_validator_determined.specs.state.State.{Checks};
-ghost use Rattle.wasm_operator_validator_determined.specs.state.Refusals.{refused};
+ghost use Rattle.wasm_operators_enums.specs.Op.{Op};
+ghost use Rattle.wasm_operator_validator_state.specs.State.{Checks};
+ghost use Rattle.wasm_operator_validator_state.specs.Refusals.{refused};
 ghost use Rattle.wasm_operator_validator_memory.specs.Tables.{may_refer};
 
-use wasm_operator_validator_determined::{
+use wasm_operator_validator_stacks::determined::{
     BulkOperator, MaybeType, OperatorValidator, Proposal, Refusal, WasmModuleResources,
 };
 use wasm_types::ValType;

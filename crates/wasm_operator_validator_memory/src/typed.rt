@@ -1,12 +1,12 @@
 //! Choices of a written type.
 
 ghost use Rattle.std.specs.Prelude.{IfErr};
-ghost use Rattle.wasm_operator_validator_determined.specs.expression.operator.Op.{Op, ParametricTree};
-ghost use Rattle.wasm_operator_validator_determined.specs.state.State.{Checks};
-ghost use Rattle.wasm_operator_validator_determined.specs.state.Refusals.{refused};
-ghost use Rattle.wasm_operator_validator_determined.specs.Operators.{IsOfContent};
+ghost use Rattle.wasm_operators_enums.specs.Op.{Op, ParametricTree};
+ghost use Rattle.wasm_operator_validator_state.specs.State.{Checks};
+ghost use Rattle.wasm_operator_validator_state.specs.Refusals.{refused};
+ghost use Rattle.wasm_operator_validator_stacks.specs.determined.Operators.{IsOfContent};
 
-use wasm_operator_validator_determined::{
+use wasm_operator_validator_stacks::determined::{
     OperatorValidator, Proposal, Reason, Refusal, WasmModuleResources, copied, may_use_type,
     refusal_of,
 };

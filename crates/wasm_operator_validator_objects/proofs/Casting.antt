@@ -1,8 +1,8 @@
 -- Branches on casts.
 use Rattle.std.proofs.Common.{◌≡◌, ◌↔◌, ◌∙◌, ℕ, Bool, true, false, IsTrue, List, [], ◌∷◌, ◌++◌, map, Option, Some, None, slice_get, if◌then◌else◌, refl, sym, ap, subst}
 use Rattle.std.proofs.lemmas.List.{map-append}
-use Rattle.wasm_types.specs.error.declared.error.ErrorKind.{ErrorKind}
-use Rattle.wasm_types.specs.error.DenialLaws.{denies_from}
+use Rattle.wasm_types.specs.decoding.declared.error.ErrorKind.{ErrorKind}
+use Rattle.wasm_types.specs.decoding.DenialLaws.{denies_from}
 use Rattle.wasm_types.specs.trees.Types.{HeapOf, ref}
 use Rattle.wasm_types.specs.trees.Trees.{TypeTree}
 use Rattle.wasm_types.specs.trees.Below.{Below}
@@ -10,20 +10,20 @@ use Rattle.wasm_types.specs.values.declared.heap.HeapType.{HeapType}
 use Rattle.wasm_types.specs.values.declared.value.ValType.{ValType}
 use Rattle.wasm_types.specs.values.declared.value.ValType.TheVariants as vals
 use Rattle.wasm_types.specs.values.Reference.{Reference}
-use Rattle.wasm_operators_visit.specs.groups.declared.gc.GcOperator.{GcOperator}
-use Rattle.wasm_operator_validator_determined.specs.rules.Operands.{ValueType, known, AllBelow, stack}
-use Rattle.wasm_operator_validator_determined.specs.rules.Aggregates.{heap_named, is_castable}
-use Rattle.wasm_operator_validator_determined.specs.rules.Objects.{IsCast, difference, null_left}
-use Rattle.wasm_operator_validator_determined.specs.rules.Taken.{Takes}
-use Rattle.wasm_operator_validator_determined.specs.resources.Meaning.{Meaning, type_in, heap_in, reference_in}
-use Rattle.wasm_operator_validator_determined.specs.state.Refusals.{Does}
-use Rattle.wasm_operator_validator_determined.specs.state.State.{State, label, types_in}
-use Rattle.wasm_operator_validator_determined.specs.state.Steps.{MayPop, Pushed, Exchanged}
-use Rattle.wasm_operator_validator_determined.specs.state.laws.Operands.{operand_refl, all_below_refl, all_below_trans}
+use Rattle.wasm_operators_enums.specs.declared.gc.GcOperator.{GcOperator}
+use Rattle.wasm_operator_validator_rules.specs.Operands.{ValueType, known, AllBelow, stack}
+use Rattle.wasm_operator_validator_rules.specs.Aggregates.{heap_named, is_castable}
+use Rattle.wasm_operator_validator_rules.specs.Objects.{IsCast, difference, null_left}
+use Rattle.wasm_operator_validator_rules.specs.Taken.{Takes}
+use Rattle.wasm_operator_validator_resources.specs.Meaning.{Meaning, type_in, heap_in, reference_in}
+use Rattle.wasm_operator_validator_state.specs.Refusals.{Does}
+use Rattle.wasm_operator_validator_state.specs.State.{State, label, types_in}
+use Rattle.wasm_operator_validator_state.specs.Steps.{MayPop, Pushed, Exchanged}
+use Rattle.wasm_operator_validator_state.specs.laws.Operands.{operand_refl, all_below_refl, all_below_trans}
 use Rattle.wasm_operator_validator_control.specs.laws.Jumping.{stack_last}
-use Rattle.wasm_operator_validator_determined.specs.laws.Types.{reference_is}
-use Rattle.wasm_operator_validator_determined.specs.laws.Same.{same_trans}
-use Rattle.wasm_operator_validator_determined.specs.laws.Usable.{fails}
+use Rattle.wasm_operator_validator_stacks.specs.determined.laws.Types.{reference_is}
+use Rattle.wasm_operator_validator_stacks.specs.determined.laws.Same.{same_trans}
+use Rattle.wasm_operator_validator_stacks.specs.determined.laws.Usable.{fails}
 use Rattle.wasm_operator_validator_objects.specs.Rows.{here, IsRow, HasNoRow, IsCastBranch, taken_by, left_by}
 use Rattle.wasm_operator_validator_objects.specs.Casts.{IsCastable, IsNotCastable, IsCastOf, IsNoCast, left_over, AreTaken}
 

@@ -3,7 +3,7 @@ use Rattle.std.proofs.Common.{◌≡◌, ◌↔◌, ◌∙◌, ⊎_elim, ℕ, Bo
 use Rattle.std.proofs.lemmas.List.{get_or_past}
 use Rattle.std.proofs.lemmas.List.Elements.{All-get_or}
 use Rattle.std.proofs.lemmas.Option.{slice_get_cases}
-use Rattle.wasm_types.specs.indices.declared.index.UnpackedIndex.TheVariants as index
+use Rattle.wasm_types.specs.trees.declared.index.UnpackedIndex.TheVariants as index
 use Rattle.wasm_types.specs.trees.Types.{abstract}
 use Rattle.wasm_types.specs.trees.Trees.{TypeTree, opened, group_tree}
 use Rattle.wasm_types.specs.trees.Each.{EachHeap}
@@ -20,10 +20,10 @@ use Rattle.wasm_types.specs.values.declared.value.ValType.TheVariants as vals
 use Rattle.wasm_types.specs.values.Reference.{Reference}
 use Rattle.wasm_types.specs.values.Trees.{abstract_of}
 use Rattle.wasm_types.specs.values.ValueKinds.{reference_in}
-use Rattle.wasm_operator_validator_determined.specs.rules.Operands.{known}
-use Rattle.wasm_operator_validator_determined.specs.resources.Meaning.{Meaning, type_in, heap_in}
-use Rattle.wasm_operator_validator_determined.specs.state.declared.operand.MaybeType.TheVariants as maybe
-use Rattle.wasm_operator_validator_determined.specs.state.State.{Stands}
+use Rattle.wasm_operator_validator_rules.specs.Operands.{known}
+use Rattle.wasm_operator_validator_resources.specs.Meaning.{Meaning, type_in, heap_in}
+use Rattle.wasm_operator_validator_state.specs.declared.operand.MaybeType.TheVariants as maybe
+use Rattle.wasm_operator_validator_state.specs.State.{Stands}
 use Rattle.wasm_operator_validator_objects.specs.Rows.{nullable_to}
 use Rattle.wasm_operator_validator_objects.specs.Either.{reference_of, IsConverted, IsUnconvertible}
 

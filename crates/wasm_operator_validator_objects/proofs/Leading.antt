@@ -1,15 +1,15 @@
 -- Operands of many fields and elements taken off.
 use Rattle.std.proofs.Common.{◌≡◌, ◌↔◌, ◌∙◌, ℕ, zero, suc, List, [], ◌∷◌, ◌++◌, length, replicate, reverse, refl, sym, ap, subst}
 use Rattle.std.proofs.lemmas.List.{reverse-append, map-append}
-use Rattle.wasm_types.specs.error.declared.error.ErrorKind.{ErrorKind}
-use Rattle.wasm_types.specs.error.Denials.{Denies}
-use Rattle.wasm_types.specs.error.DenialLaws.{denies_from}
+use Rattle.wasm_types.specs.decoding.declared.error.ErrorKind.{ErrorKind}
+use Rattle.wasm_types.specs.decoding.Denials.{Denies}
+use Rattle.wasm_types.specs.decoding.DenialLaws.{denies_from}
 use Rattle.wasm_types.specs.fields.declared.field.FieldType.{FieldType}
-use Rattle.wasm_operator_validator_determined.specs.rules.Operands.{ValueType, Operand, known, all_known, stack}
-use Rattle.wasm_operator_validator_determined.specs.resources.Meaning.{Meaning, type_in}
-use Rattle.wasm_operator_validator_determined.specs.state.State.{Open, State, types_in}
-use Rattle.wasm_operator_validator_determined.specs.state.Steps.{StacksOf, Stacks, IsOpen, Same, MayPop, Popped}
-use Rattle.wasm_operator_validator_determined.specs.laws.Same.{same_refl, same_trans}
+use Rattle.wasm_operator_validator_rules.specs.Operands.{ValueType, Operand, known, all_known, stack}
+use Rattle.wasm_operator_validator_resources.specs.Meaning.{Meaning, type_in}
+use Rattle.wasm_operator_validator_state.specs.State.{Open, State, types_in}
+use Rattle.wasm_operator_validator_state.specs.Steps.{StacksOf, Stacks, IsOpen, Same, MayPop, Popped}
+use Rattle.wasm_operator_validator_stacks.specs.determined.laws.Same.{same_refl, same_trans}
 use Rattle.wasm_operator_validator_objects.specs.Found.{unpacked_field, unpacked_fields, LiesOnAnything}
 
 -- what was taken off so far leaves these operands to take off

@@ -5,32 +5,32 @@ use Rattle.wasm_types.specs.trees.Types.{FieldOf, EntryOf, HeapOf, ref, abstract
 use Rattle.wasm_types.specs.trees.Each.{EachHeap}
 use Rattle.wasm_types.specs.trees.Trees.{TypeTree, opened}
 use Rattle.wasm_types.specs.trees.Below.{is_shared, heap_is_shared, expanded}
-use Rattle.wasm_types.specs.error.declared.error.ErrorKind.{ErrorKind}
-use Rattle.wasm_types.specs.error.declared.error.ErrorKind.TheVariants as kinds
-use Rattle.wasm_types.specs.error.Denials.{Denies}
-use Rattle.wasm_types.specs.indices.declared.index.UnpackedIndex.{UnpackedIndex}
-use Rattle.wasm_types.specs.indices.declared.index.UnpackedIndex.TheVariants as index
+use Rattle.wasm_types.specs.decoding.declared.error.ErrorKind.{ErrorKind}
+use Rattle.wasm_types.specs.decoding.declared.error.ErrorKind.TheVariants as kinds
+use Rattle.wasm_types.specs.decoding.Denials.{Denies}
+use Rattle.wasm_types.specs.trees.declared.index.UnpackedIndex.{UnpackedIndex}
+use Rattle.wasm_types.specs.trees.declared.index.UnpackedIndex.TheVariants as index
 use Rattle.wasm_types.specs.values.Trees.{heap_of}
 use Rattle.wasm_types.specs.values.declared.heap.HeapType.{HeapType}
 use Rattle.wasm_types.specs.values.declared.value.ValType.{ValType}
 use Rattle.wasm_types.specs.values.declared.value.ValType.TheVariants as vals
 use Rattle.wasm_types.specs.values.Reference.{Reference}
 use Rattle.wasm_types.specs.fields.declared.field.FieldType.{FieldType}
-use Rattle.wasm_types.specs.groups.declared.composite.CompositeInnerType.{CompositeInnerType}
-use Rattle.wasm_types.specs.groups.declared.composite.CompositeInnerType.TheVariants as composite
-use Rattle.wasm_types.specs.groups.declared.sub_type.SubType.{SubType}
-use Rattle.wasm_operator_validator_determined.specs.rules.Context.{Context, may_use, IsTypeIndex, written_type}
-use Rattle.wasm_operator_validator_determined.specs.rules.Named.{used_type}
-use Rattle.wasm_operator_validator_determined.specs.rules.Aggregates.{as_struct, as_array, Struct, Array, struct_named, array_named, index_named, heap_meant, heap_named}
-use Rattle.wasm_operator_validator_determined.specs.rules.Places.{Place, field_place, element_place}
-use Rattle.wasm_operator_validator_determined.specs.rules.InstructionTypes.{i32_type}
-use Rattle.wasm_operator_validator_determined.specs.rules.Operands.{ValueType}
-use Rattle.wasm_operator_validator_determined.specs.resources.Meaning.{Meaning, entry_in, named_type, type_in, heap_in, reference_in}
-use Rattle.wasm_operator_validator_determined.specs.resources.Answers.{IsNamed, IsWritten}
-use Rattle.wasm_operator_validator_determined.specs.state.State.{State}
-use Rattle.wasm_operator_validator_determined.specs.Operators.{MayUseIn}
-use Rattle.wasm_operator_validator_determined.specs.laws.Usable.{may, may_not, fails}
-use Rattle.wasm_operator_validator_determined.specs.laws.Types.{i32_in, reference_is}
+use Rattle.wasm_types.specs.declared.composite.CompositeInnerType.{CompositeInnerType}
+use Rattle.wasm_types.specs.declared.composite.CompositeInnerType.TheVariants as composite
+use Rattle.wasm_types.specs.declared.sub_type.SubType.{SubType}
+use Rattle.wasm_operator_validator_rules.specs.Context.{Context, may_use, IsTypeIndex, written_type}
+use Rattle.wasm_operator_validator_rules.specs.Named.{used_type}
+use Rattle.wasm_operator_validator_rules.specs.Aggregates.{as_struct, as_array, Struct, Array, struct_named, array_named, index_named, heap_meant, heap_named}
+use Rattle.wasm_operator_validator_rules.specs.Places.{Place, field_place, element_place}
+use Rattle.wasm_operator_validator_rules.specs.InstructionTypes.{i32_type}
+use Rattle.wasm_operator_validator_rules.specs.Operands.{ValueType}
+use Rattle.wasm_operator_validator_resources.specs.Meaning.{Meaning, entry_in, named_type, type_in, heap_in, reference_in}
+use Rattle.wasm_operator_validator_resources.specs.Answers.{IsNamed, IsWritten}
+use Rattle.wasm_operator_validator_state.specs.State.{State}
+use Rattle.wasm_operator_validator_stacks.specs.determined.Operators.{MayUseIn}
+use Rattle.wasm_operator_validator_stacks.specs.determined.laws.Usable.{may, may_not, fails}
+use Rattle.wasm_operator_validator_stacks.specs.determined.laws.Types.{i32_in, reference_is}
 use Rattle.wasm_operator_validator_objects.specs.Rows.{here}
 use Rattle.wasm_operator_validator_objects.specs.Found.{TypeAt, array_element, IsUsed, IsStruct, IsArray, fields_in, field_in, struct_fields, struct_with, array_with, place_in, written_heap, heap_to}
 

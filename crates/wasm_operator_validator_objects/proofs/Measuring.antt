@@ -1,36 +1,36 @@
 -- Operators on references of one kind, in either sharedness, and conversions.
 use Rattle.std.proofs.Common.{◌≡◌, ◌↔◌, ◌∙◌, List, [], ◌∷◌, ◌++◌, Bool, true, false, IsTrue, Option, Some, None, refl, sym, subst}
-use Rattle.wasm_types.specs.error.declared.error.ErrorKind.{ErrorKind}
-use Rattle.wasm_types.specs.error.Denials.{Denies}
-use Rattle.wasm_types.specs.error.DenialLaws.{denies, denies_from}
+use Rattle.wasm_types.specs.decoding.declared.error.ErrorKind.{ErrorKind}
+use Rattle.wasm_types.specs.decoding.Denials.{Denies}
+use Rattle.wasm_types.specs.decoding.DenialLaws.{denies, denies_from}
 use Rattle.wasm_types.specs.values.declared.heap.AbstractHeapType.{AbstractHeapType}
 use Rattle.wasm_types.specs.values.declared.heap.AbstractHeapType.TheVariants.{Eq}
 use Rattle.wasm_types.specs.values.declared.value.ValType.TheVariants as vals
 use Rattle.wasm_types.specs.values.declared.value.ValType.{ValType}
 use Rattle.wasm_types.specs.values.declared.heap.HeapType.TheVariants as heap
-use Rattle.wasm_operators_visit.specs.groups.declared.gc.GcOperator.{GcOperator}
-use Rattle.wasm_operators_visit.specs.groups.declared.gc.GcOperator.TheVariants as gc
-use Rattle.wasm_operator_validator_determined.specs.expression.info.declared.proposal.Proposal.TheVariants.{Gc}
-use Rattle.wasm_operator_validator_determined.specs.expression.operator.Op as op
-use Rattle.wasm_operator_validator_determined.specs.expression.operator.Op.{Op}
-use Rattle.wasm_operator_validator_determined.specs.rules.Operands.{ValueType, Operand, known, all_known, stack}
-use Rattle.wasm_operator_validator_determined.specs.rules.InstructionTypes.{i32_type}
-use Rattle.wasm_operator_validator_determined.specs.rules.Objects.{GcRow}
-use Rattle.wasm_operator_validator_determined.specs.rules.Taken.{Takes}
-use Rattle.wasm_operator_validator_determined.specs.resources.Meaning.{Meaning, type_in}
-use Rattle.wasm_operator_validator_determined.specs.state.Refusals.{Does}
-use Rattle.wasm_operator_validator_determined.specs.state.declared.operand.MaybeType.{MaybeType}
-use Rattle.wasm_operator_validator_determined.specs.state.State.{State, Stands, Accepts, Decides, Checks, types_in}
-use Rattle.wasm_operator_validator_determined.specs.state.Steps.{Stacks, Same, MayPopAny, PoppedAny, PushedAny, Pushed}
-use Rattle.wasm_operator_validator_determined.specs.state.laws.Operands.{all_below_refl}
-use Rattle.wasm_operator_validator_determined.specs.state.laws.Rows.{Reached, by_row, some_row}
-use Rattle.wasm_operator_validator_determined.specs.state.Entering.{MayBegin}
-use Rattle.wasm_operator_validator_determined.specs.state.laws.Entering.{enabled}
-use Rattle.wasm_operator_validator_determined.specs.state.laws.Checks.{checks_going}
-use Rattle.wasm_operator_validator_determined.specs.Operators.{Stays}
-use Rattle.wasm_operator_validator_determined.specs.laws.Types.{i32_in}
-use Rattle.wasm_operator_validator_determined.specs.laws.Same.{same_trans, stays_same, stays_trans}
-use Rattle.wasm_operator_validator_determined.specs.laws.Determined.{refused_then}
+use Rattle.wasm_operators_enums.specs.declared.gc.GcOperator.{GcOperator}
+use Rattle.wasm_operators_enums.specs.declared.gc.GcOperator.TheVariants as gc
+use Rattle.wasm_operators_immediates.specs.declared.proposal.Proposal.TheVariants.{Gc}
+use Rattle.wasm_operators_enums.specs.Op as op
+use Rattle.wasm_operators_enums.specs.Op.{Op}
+use Rattle.wasm_operator_validator_rules.specs.Operands.{ValueType, Operand, known, all_known, stack}
+use Rattle.wasm_operator_validator_rules.specs.InstructionTypes.{i32_type}
+use Rattle.wasm_operator_validator_rules.specs.Objects.{GcRow}
+use Rattle.wasm_operator_validator_rules.specs.Taken.{Takes}
+use Rattle.wasm_operator_validator_resources.specs.Meaning.{Meaning, type_in}
+use Rattle.wasm_operator_validator_state.specs.Refusals.{Does}
+use Rattle.wasm_operator_validator_state.specs.declared.operand.MaybeType.{MaybeType}
+use Rattle.wasm_operator_validator_state.specs.State.{State, Stands, Accepts, Decides, Checks, types_in}
+use Rattle.wasm_operator_validator_state.specs.Steps.{Stacks, Same, MayPopAny, PoppedAny, PushedAny, Pushed}
+use Rattle.wasm_operator_validator_state.specs.laws.Operands.{all_below_refl}
+use Rattle.wasm_operator_validator_state.specs.laws.Rows.{Reached, by_row, some_row}
+use Rattle.wasm_operator_validator_state.specs.Entering.{MayBegin}
+use Rattle.wasm_operator_validator_state.specs.laws.Entering.{enabled}
+use Rattle.wasm_operator_validator_state.specs.laws.Checks.{checks_going}
+use Rattle.wasm_operator_validator_stacks.specs.determined.Operators.{Stays}
+use Rattle.wasm_operator_validator_stacks.specs.determined.laws.Types.{i32_in}
+use Rattle.wasm_operator_validator_stacks.specs.determined.laws.Same.{same_trans, stays_same, stays_trans}
+use Rattle.wasm_operator_validator_stacks.specs.determined.laws.Determined.{refused_then}
 use Rattle.wasm_operator_validator_objects.specs.Rows.{here, nullable_to, TakesEither, Converts}
 use Rattle.wasm_operator_validator_objects.specs.Either.{AreOf, reference_of, IsConverted, IsUnconvertible}
 use Rattle.wasm_operator_validator_objects.proofs.Tables.{gc_is}

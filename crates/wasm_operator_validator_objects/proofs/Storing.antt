@@ -16,18 +16,18 @@ use Rattle.wasm_types.specs.values.declared.value.ValType.{ValType}
 use Rattle.wasm_types.specs.values.declared.value.ValType.TheVariants as vals
 use Rattle.wasm_types.specs.values.ValueKinds.{is_packed_type, unpacked_type, is_defaultable_type}
 use Rattle.wasm_types.specs.fields.declared.field.FieldType.{FieldType}
-use Rattle.wasm_operators_visit.specs.groups.declared.gc.GcOperator.TheVariants as gc
-use Rattle.wasm_operator_validator_determined.specs.rules.Operands.{ValueType}
-use Rattle.wasm_operator_validator_determined.specs.rules.Context.{defaultable}
-use Rattle.wasm_operator_validator_determined.specs.rules.Aggregates.{Struct, Array, array_named, heap_named, top_above, top_heap, is_cont, is_castable}
-use Rattle.wasm_operator_validator_determined.specs.rules.Places.{Place, unpacked, is_of_bytes, have_defaults, operands_for}
-use Rattle.wasm_operator_validator_determined.specs.rules.InstructionTypes.{InstructionType, ◌⟶◌, named, provided, i32_type, reference_to, allocated, is_described, element_of, written, names_data, cast_at, gc_type_of}
-use Rattle.wasm_operator_validator_determined.specs.rules.Taken.{Takes}
-use Rattle.wasm_operator_validator_determined.specs.rules.Objects.{MayHold}
-use Rattle.wasm_operator_validator_determined.specs.laws.Usable.{fails}
-use Rattle.wasm_operator_validator_determined.specs.resources.Meaning.{Meaning, type_in, heap_in, reference_in}
-use Rattle.wasm_operator_validator_determined.specs.state.State.{State, types_in}
-use Rattle.wasm_operator_validator_determined.specs.laws.Types.{i32_in, reference_is}
+use Rattle.wasm_operators_enums.specs.declared.gc.GcOperator.TheVariants as gc
+use Rattle.wasm_operator_validator_rules.specs.Operands.{ValueType}
+use Rattle.wasm_operator_validator_rules.specs.Context.{defaultable}
+use Rattle.wasm_operator_validator_rules.specs.Aggregates.{Struct, Array, array_named, heap_named, top_above, top_heap, is_cont, is_castable}
+use Rattle.wasm_operator_validator_rules.specs.Places.{Place, unpacked, is_of_bytes, have_defaults, operands_for}
+use Rattle.wasm_operator_validator_rules.specs.InstructionTypes.{InstructionType, ◌⟶◌, named, provided, i32_type, reference_to, allocated, is_described, element_of, written, names_data, cast_at, gc_type_of}
+use Rattle.wasm_operator_validator_rules.specs.Taken.{Takes}
+use Rattle.wasm_operator_validator_rules.specs.Objects.{MayHold}
+use Rattle.wasm_operator_validator_stacks.specs.determined.laws.Usable.{fails}
+use Rattle.wasm_operator_validator_resources.specs.Meaning.{Meaning, type_in, heap_in, reference_in}
+use Rattle.wasm_operator_validator_state.specs.State.{State, types_in}
+use Rattle.wasm_operator_validator_stacks.specs.determined.laws.Types.{i32_in, reference_is}
 use Rattle.wasm_operator_validator_objects.specs.Rows.{here, reading, IsRow, HasNoRow}
 use Rattle.wasm_operator_validator_objects.specs.Found.{TypeAt, IsStruct, IsArray, storage_in, fields_in, array_with, place_in, unpacked_field, unpacked_fields, is_defaultable_field, are_defaultable, is_of_references, MayStore}
 

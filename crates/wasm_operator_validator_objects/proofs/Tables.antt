@@ -1,25 +1,25 @@
 -- How the checks of operators on structs, arrays and references follow from their rows.
 use Rattle.std.proofs.Common.{◌≡◌, ◌↔◌, ◌∙◌, List, Option, Some, None, false, refl, sym, subst}
-use Rattle.wasm_types.specs.error.declared.error.ErrorKind.{ErrorKind}
-use Rattle.wasm_types.specs.error.DenialLaws.{denies_from}
-use Rattle.wasm_operators_visit.specs.groups.declared.gc.GcOperator.{GcOperator}
-use Rattle.wasm_operators_visit.specs.groups.declared.gc.GcOperator.TheVariants as gc
-use Rattle.wasm_operator_validator_determined.specs.expression.info.declared.proposal.Proposal.TheVariants.{Gc}
-use Rattle.wasm_operator_validator_determined.specs.expression.groups.gc.Table.{gc_info}
-use Rattle.wasm_operator_validator_determined.specs.expression.operator.Op as op
-use Rattle.wasm_operator_validator_determined.specs.rules.Operands.{ValueType, Operand, stack}
-use Rattle.wasm_operator_validator_determined.specs.rules.Context.{Context}
-use Rattle.wasm_operator_validator_determined.specs.rules.InstructionTypes.{InstructionType, ◌⟶◌, gc_type_of}
-use Rattle.wasm_operator_validator_determined.specs.rules.Objects.{GcRow}
-use Rattle.wasm_operator_validator_determined.specs.rules.Taken.{Takes, TableRow}
-use Rattle.wasm_operator_validator_determined.specs.resources.Meaning.{Meaning}
-use Rattle.wasm_operator_validator_determined.specs.state.Refusals.{Does}
-use Rattle.wasm_operator_validator_determined.specs.state.State.{State, Checks}
-use Rattle.wasm_operator_validator_determined.specs.state.Steps.{MayPop, Popped, Pushed, Exchanged}
-use Rattle.wasm_operator_validator_determined.specs.state.Entering.{MayBegin}
-use Rattle.wasm_operator_validator_determined.specs.Operators.{IsPlain, Stays}
-use Rattle.wasm_operator_validator_determined.specs.laws.Same.{same_trans}
-use Rattle.wasm_operator_validator_determined.specs.laws.Determined.{refused_here, no_row, by_types}
+use Rattle.wasm_types.specs.decoding.declared.error.ErrorKind.{ErrorKind}
+use Rattle.wasm_types.specs.decoding.DenialLaws.{denies_from}
+use Rattle.wasm_operators_enums.specs.declared.gc.GcOperator.{GcOperator}
+use Rattle.wasm_operators_enums.specs.declared.gc.GcOperator.TheVariants as gc
+use Rattle.wasm_operators_immediates.specs.declared.proposal.Proposal.TheVariants.{Gc}
+use Rattle.wasm_operators_enums.specs.gc.Table.{gc_info}
+use Rattle.wasm_operators_enums.specs.Op as op
+use Rattle.wasm_operator_validator_rules.specs.Operands.{ValueType, Operand, stack}
+use Rattle.wasm_operator_validator_rules.specs.Context.{Context}
+use Rattle.wasm_operator_validator_rules.specs.InstructionTypes.{InstructionType, ◌⟶◌, gc_type_of}
+use Rattle.wasm_operator_validator_rules.specs.Objects.{GcRow}
+use Rattle.wasm_operator_validator_rules.specs.Taken.{Takes, TableRow}
+use Rattle.wasm_operator_validator_resources.specs.Meaning.{Meaning}
+use Rattle.wasm_operator_validator_state.specs.Refusals.{Does}
+use Rattle.wasm_operator_validator_state.specs.State.{State, Checks}
+use Rattle.wasm_operator_validator_state.specs.Steps.{MayPop, Popped, Pushed, Exchanged}
+use Rattle.wasm_operator_validator_state.specs.Entering.{MayBegin}
+use Rattle.wasm_operator_validator_stacks.specs.determined.Operators.{IsPlain, Stays}
+use Rattle.wasm_operator_validator_stacks.specs.determined.laws.Same.{same_trans}
+use Rattle.wasm_operator_validator_stacks.specs.determined.laws.Determined.{refused_here, no_row, by_types}
 use Rattle.wasm_operator_validator_objects.specs.Rows.{here, IsRow, HasNoRow, IsTyped}
 
 gc_is_of : (o : GcOperator) → (gc_info o).proposal ≡ Gc

@@ -5,10 +5,10 @@ use Rattle.wasm_types.specs.trees.Trees.{TypeTree}
 use Rattle.wasm_types.specs.values.declared.value.ValType.{ValType}
 use Rattle.wasm_types.specs.values.declared.value.ValType.TheVariants as vals
 use Rattle.wasm_types.specs.values.Reference.{Reference}
-use Rattle.wasm_operator_validator_determined.specs.rules.Aggregates.{heap_named, is_castable}
-use Rattle.wasm_operator_validator_determined.specs.rules.Objects.{IsCast}
-use Rattle.wasm_operator_validator_determined.specs.resources.Meaning.{Meaning, heap_in}
-use Rattle.wasm_operator_validator_determined.specs.state.State.{State}
+use Rattle.wasm_operator_validator_rules.specs.Aggregates.{heap_named, is_castable}
+use Rattle.wasm_operator_validator_rules.specs.Objects.{IsCast}
+use Rattle.wasm_operator_validator_resources.specs.Meaning.{Meaning, heap_in}
+use Rattle.wasm_operator_validator_state.specs.State.{State}
 use Rattle.wasm_operator_validator_objects.specs.Rows.{here}
 
 -- a written type is this one, and not of continuations

@@ -4,10 +4,10 @@ use Rattle.wasm_types.specs.trees.Types.{ref, abstract}
 use Rattle.wasm_types.specs.values.declared.heap.AbstractHeapType.{AbstractHeapType}
 use Rattle.wasm_types.specs.values.declared.heap.AbstractHeapType.TheVariants.{Eq}
 use Rattle.wasm_types.specs.values.Trees.{abstract_of}
-use Rattle.wasm_operator_validator_determined.specs.rules.Operands.{Operand, known, OperandBelow}
-use Rattle.wasm_operator_validator_determined.specs.resources.Meaning.{Meaning}
-use Rattle.wasm_operator_validator_determined.specs.state.declared.operand.MaybeType.{MaybeType}
-use Rattle.wasm_operator_validator_determined.specs.state.State.{Stands}
+use Rattle.wasm_operator_validator_rules.specs.Operands.{Operand, known, OperandBelow}
+use Rattle.wasm_operator_validator_resources.specs.Meaning.{Meaning}
+use Rattle.wasm_operator_validator_state.specs.declared.operand.MaybeType.{MaybeType}
+use Rattle.wasm_operator_validator_state.specs.State.{Stands}
 use Rattle.wasm_operator_validator_objects.specs.Rows.{nullable_to}
 
 -- both may be taken for references that can be compared

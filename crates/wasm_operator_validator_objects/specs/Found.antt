@@ -1,6 +1,6 @@
 -- What checks look up: types of the module, their fields and elements, and heap types that code writes.
 use Rattle.std.specs.Prelude.{◌≡◌, ℕ, Bool, true, false, List, [], ◌∷◌, ◌&&◌, map, Option, Some, option_map}
-use Rattle.wasm_types.specs.indices.declared.index.UnpackedIndex.TheVariants as index
+use Rattle.wasm_types.specs.trees.declared.index.UnpackedIndex.TheVariants as index
 use Rattle.wasm_types.specs.trees.Types.{HeapOf, concrete, exact, StorageOf, storage_map, FieldOf, field_map, EntryOf}
 use Rattle.wasm_types.specs.trees.Trees.{TypeTree, opened}
 use Rattle.wasm_types.specs.trees.Below.{Below}
@@ -18,14 +18,14 @@ use Rattle.wasm_types.specs.fields.declared.field.FieldType.{FieldType}
 use Rattle.wasm_types.specs.fields.declared.field.StructType.{StructType}
 use Rattle.wasm_types.specs.fields.declared.field.ArrayType.{ArrayType}
 use Rattle.wasm_types.specs.fields.Fields.{field_of}
-use Rattle.wasm_types.specs.groups.declared.composite.CompositeInnerType.{CompositeInnerType}
-use Rattle.wasm_types.specs.groups.Kinds.{struct_in, array_in}
-use Rattle.wasm_operator_validator_determined.specs.rules.Named.{used_type}
-use Rattle.wasm_operator_validator_determined.specs.rules.Aggregates.{Struct, Array, struct_named, array_named}
-use Rattle.wasm_operator_validator_determined.specs.rules.Places.{Place}
-use Rattle.wasm_operator_validator_determined.specs.rules.InstructionTypes.{is_described}
-use Rattle.wasm_operator_validator_determined.specs.resources.Meaning.{Meaning, named_type, type_in}
-use Rattle.wasm_operator_validator_determined.specs.state.State.{Open, State, types_in}
+use Rattle.wasm_types.specs.declared.composite.CompositeInnerType.{CompositeInnerType}
+use Rattle.wasm_types.specs.Kinds.{struct_in, array_in}
+use Rattle.wasm_operator_validator_rules.specs.Named.{used_type}
+use Rattle.wasm_operator_validator_rules.specs.Aggregates.{Struct, Array, struct_named, array_named}
+use Rattle.wasm_operator_validator_rules.specs.Places.{Place}
+use Rattle.wasm_operator_validator_rules.specs.InstructionTypes.{is_described}
+use Rattle.wasm_operator_validator_resources.specs.Meaning.{Meaning, named_type, type_in}
+use Rattle.wasm_operator_validator_state.specs.State.{Open, State, types_in}
 use Rattle.wasm_operator_validator_objects.specs.Rows.{here}
 
 -- ---- types of the module

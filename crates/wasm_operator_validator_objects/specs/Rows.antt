@@ -7,16 +7,16 @@ use Rattle.wasm_types.specs.values.declared.heap.AbstractHeapType.{AbstractHeapT
 use Rattle.wasm_types.specs.values.declared.heap.HeapType.{HeapType}
 use Rattle.wasm_types.specs.values.Reference.{Reference}
 use Rattle.wasm_types.specs.values.Trees.{abstract_of}
-use Rattle.wasm_operators_visit.specs.groups.declared.gc.GcOperator.{GcOperator}
-use Rattle.wasm_operator_validator_determined.specs.expression.operator.Op as op
-use Rattle.wasm_operator_validator_determined.specs.rules.Operands.{ValueType, Operand}
-use Rattle.wasm_operator_validator_determined.specs.rules.Context.{Context}
-use Rattle.wasm_operator_validator_determined.specs.rules.Places.{Place, field_place, element_place}
-use Rattle.wasm_operator_validator_determined.specs.rules.InstructionTypes.{InstructionType, named, read, read_packed, cast_at, i32_type, gc_type_of}
-use Rattle.wasm_operator_validator_determined.specs.rules.Taken.{Takes, TableRow}
-use Rattle.wasm_operator_validator_determined.specs.rules.Objects.{GcRow, IsCast, Branches, difference}
-use Rattle.wasm_operator_validator_determined.specs.resources.Meaning.{Meaning}
-use Rattle.wasm_operator_validator_determined.specs.state.State.{State, context}
+use Rattle.wasm_operators_enums.specs.declared.gc.GcOperator.{GcOperator}
+use Rattle.wasm_operators_enums.specs.Op as op
+use Rattle.wasm_operator_validator_rules.specs.Operands.{ValueType, Operand}
+use Rattle.wasm_operator_validator_rules.specs.Context.{Context}
+use Rattle.wasm_operator_validator_rules.specs.Places.{Place, field_place, element_place}
+use Rattle.wasm_operator_validator_rules.specs.InstructionTypes.{InstructionType, named, read, read_packed, cast_at, i32_type, gc_type_of}
+use Rattle.wasm_operator_validator_rules.specs.Taken.{Takes, TableRow}
+use Rattle.wasm_operator_validator_rules.specs.Objects.{GcRow, IsCast, Branches, difference}
+use Rattle.wasm_operator_validator_resources.specs.Meaning.{Meaning}
+use Rattle.wasm_operator_validator_state.specs.State.{State, context}
 
 -- the context of a state
 abbrev pub here : Meaning → State → Context

@@ -1,19 +1,21 @@
 //! Arrays.
 
 ghost use Rattle.std.specs.Prelude.{◌∷◌, [], false, replicate};
-ghost use Rattle.wasm_operator_validator_determined.specs.expression.info.declared.proposal.Proposal.TheVariants.{Gc};
-ghost use Rattle.wasm_operator_validator_determined.specs.expression.operator.Op.{Op};
-ghost use Rattle.wasm_operator_validator_determined.specs.resources.Meaning.{type_in};
-ghost use Rattle.wasm_operator_validator_determined.specs.state.Entering.{MayBegin};
-ghost use Rattle.wasm_operator_validator_determined.specs.state.Refusals.{refused};
-ghost use Rattle.wasm_operator_validator_determined.specs.state.State.{Checks, types_in};
+ghost use Rattle.wasm_operators_immediates.specs.declared.proposal.Proposal.TheVariants.{Gc};
+ghost use Rattle.wasm_operators_enums.specs.Op.{Op};
+ghost use Rattle.wasm_operator_validator_resources.specs.Meaning.{type_in};
+ghost use Rattle.wasm_operator_validator_state.specs.Entering.{MayBegin};
+ghost use Rattle.wasm_operator_validator_state.specs.Refusals.{refused};
+ghost use Rattle.wasm_operator_validator_state.specs.State.{Checks, types_in};
 ghost use Rattle.wasm_operator_validator_objects.specs.Rows.{IsRow, ReadsElement};
 
 use crate::naming::{allocated, array_at, element_at, reference_at};
 use crate::popping::pop_same;
 use crate::steps::{begin, exchange};
 use crate::storage::{is_defaultable, is_read_so, unread};
-use wasm_operator_validator_determined::{OperatorValidator, Reason, Refusal, WasmModuleResources};
+use wasm_operator_validator_stacks::determined::{
+    OperatorValidator, Reason, Refusal, WasmModuleResources,
+};
 use wasm_operators_visit::GcOperator;
 use wasm_types::ValType;
 

@@ -1,13 +1,13 @@
 //! Branches on casts.
 
 ghost use Rattle.std.specs.Prelude.{◌≡◌, ◌++◌, ◌∷◌, [], MatchOption, MatchResult, false};
-ghost use Rattle.wasm_operator_validator_determined.specs.expression.info.declared.proposal.Proposal.TheVariants.{Gc};
-ghost use Rattle.wasm_operator_validator_determined.specs.expression.operator.Op.{Op};
-ghost use Rattle.wasm_operator_validator_determined.specs.state.Refusals.{refused};
-ghost use Rattle.wasm_operator_validator_determined.specs.state.State.{Checks};
-ghost use Rattle.wasm_operator_validator_determined.specs.resources.Meaning.{type_in};
-ghost use Rattle.wasm_operator_validator_determined.specs.state.Entering.{MayBegin};
-ghost use Rattle.wasm_operator_validator_determined.specs.state.State.{types_in};
+ghost use Rattle.wasm_operators_immediates.specs.declared.proposal.Proposal.TheVariants.{Gc};
+ghost use Rattle.wasm_operators_enums.specs.Op.{Op};
+ghost use Rattle.wasm_operator_validator_state.specs.Refusals.{refused};
+ghost use Rattle.wasm_operator_validator_state.specs.State.{Checks};
+ghost use Rattle.wasm_operator_validator_resources.specs.Meaning.{type_in};
+ghost use Rattle.wasm_operator_validator_state.specs.Entering.{MayBegin};
+ghost use Rattle.wasm_operator_validator_state.specs.State.{types_in};
 ghost use Rattle.wasm_operator_validator_objects.specs.Rows.{IsCastBranch, IsRow};
 ghost use Rattle.wasm_operator_validator_objects.specs.Casts.{AreTaken, IsCastOf, IsNoCast, IsCastable, IsNotCastable};
 
@@ -15,7 +15,9 @@ use crate::naming::heap_at;
 use crate::steps::begin;
 use crate::tests::castable_top;
 use wasm_operator_validator_control::label_types;
-use wasm_operator_validator_determined::{OperatorValidator, Reason, Refusal, WasmModuleResources};
+use wasm_operator_validator_stacks::determined::{
+    OperatorValidator, Reason, Refusal, WasmModuleResources,
+};
 use wasm_operators_visit::GcOperator;
 use wasm_types::{RefType, ValType};
 

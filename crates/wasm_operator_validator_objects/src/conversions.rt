@@ -1,19 +1,19 @@
 //! Conversions between references of the module and references of the host.
 
 ghost use Rattle.std.specs.Prelude.{MatchOption};
-ghost use Rattle.wasm_operator_validator_determined.specs.expression.operator.Op.{Op};
-ghost use Rattle.wasm_operator_validator_determined.specs.state.Refusals.{refused};
-ghost use Rattle.wasm_operator_validator_determined.specs.state.State.{Checks};
+ghost use Rattle.wasm_operators_enums.specs.Op.{Op};
+ghost use Rattle.wasm_operator_validator_state.specs.Refusals.{refused};
+ghost use Rattle.wasm_operator_validator_state.specs.State.{Checks};
 ghost use Rattle.wasm_operator_validator_objects.specs.Rows.{Converts};
 ghost use Rattle.wasm_operator_validator_objects.specs.Either.{IsConverted, IsUnconvertible};
 
 use crate::either::is_of_kind;
 use crate::naming::abstract_reference;
 use crate::steps::begin;
-use wasm_operator_validator_determined::{
+use wasm_operator_validator_resources::laws::types_are_sound;
+use wasm_operator_validator_stacks::determined::{
     MaybeType, OperatorValidator, Refusal, WasmModuleResources,
 };
-use wasm_operator_validator_resources::laws::types_are_sound;
 use wasm_operators_visit::GcOperator;
 use wasm_types::{AbstractHeapType, ValType};
 

@@ -2,17 +2,17 @@
 
 ghost use Rattle.std.specs.Prelude.{◌↔◌, Bool, IsTrue};
 ghost use Rattle.wasm_types.specs.values.declared.heap.AbstractHeapType.TheVariants.{I31};
-ghost use Rattle.wasm_operator_validator_determined.specs.rules.Operands.{known};
-ghost use Rattle.wasm_operator_validator_determined.specs.expression.operator.Op.{Op};
-ghost use Rattle.wasm_operator_validator_determined.specs.state.Refusals.{refused};
-ghost use Rattle.wasm_operator_validator_determined.specs.state.State.{Checks};
-ghost use Rattle.wasm_operator_validator_determined.specs.state.State.{Stands};
+ghost use Rattle.wasm_operator_validator_rules.specs.Operands.{known};
+ghost use Rattle.wasm_operators_enums.specs.Op.{Op};
+ghost use Rattle.wasm_operator_validator_state.specs.Refusals.{refused};
+ghost use Rattle.wasm_operator_validator_state.specs.State.{Checks};
+ghost use Rattle.wasm_operator_validator_state.specs.State.{Stands};
 ghost use Rattle.wasm_operator_validator_objects.specs.Rows.{TakesEither, nullable_to};
 ghost use Rattle.wasm_operator_validator_objects.specs.Either.{AreOf};
 
 use crate::naming::abstract_reference;
 use crate::steps::begin;
-use wasm_operator_validator_determined::{
+use wasm_operator_validator_stacks::determined::{
     MaybeType, OperatorValidator, Refusal, WasmModuleResources, is_fit,
 };
 use wasm_operators_visit::GcOperator;

@@ -3,15 +3,15 @@
 ghost use Rattle.std.specs.Prelude.{◌≡◌, ◌∷◌, ◌<◌, [], MatchResult, None, Some, is_some, length, option_map, slice_get};
 ghost use Rattle.wasm_types.specs.trees.Types.{ref};
 ghost use Rattle.wasm_types.specs.values.declared.value.ValType.TheVariants.{I32, Ref};
-ghost use Rattle.wasm_operator_validator_determined.specs.rules.Aggregates.{struct_named, array_named, heap_named};
-ghost use Rattle.wasm_operator_validator_determined.specs.rules.InstructionTypes.{allocated};
-ghost use Rattle.wasm_operator_validator_determined.specs.rules.Named.{used_type};
-ghost use Rattle.wasm_operator_validator_determined.specs.rules.Places.{field_place, element_place};
-ghost use Rattle.wasm_operator_validator_determined.specs.resources.Meaning.{entry_in, heap_in, type_in};
+ghost use Rattle.wasm_operator_validator_rules.specs.Aggregates.{struct_named, array_named, heap_named};
+ghost use Rattle.wasm_operator_validator_rules.specs.InstructionTypes.{allocated};
+ghost use Rattle.wasm_operator_validator_rules.specs.Named.{used_type};
+ghost use Rattle.wasm_operator_validator_rules.specs.Places.{field_place, element_place};
+ghost use Rattle.wasm_operator_validator_resources.specs.Meaning.{entry_in, heap_in, type_in};
 ghost use Rattle.wasm_operator_validator_objects.specs.Rows.{here};
 ghost use Rattle.wasm_operator_validator_objects.specs.Found.{IsUsed, IsStruct, IsArray, TypeAt, struct_fields, array_element, place_in, written_heap, heap_to};
 
-use wasm_operator_validator_determined::{
+use wasm_operator_validator_stacks::determined::{
     OperatorValidator, Reason, Refusal, Space, WasmModuleResources, may_use,
 };
 use wasm_types::{

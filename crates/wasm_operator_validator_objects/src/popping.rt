@@ -1,14 +1,14 @@
 //! Operands of many fields and elements taken off, with no list of their types made.
 
 ghost use Rattle.std.specs.Prelude.{◌≡◌, ◌↔◌, IsTrue, replicate};
-ghost use Rattle.wasm_operator_validator_determined.specs.rules.Operands.{stack};
-ghost use Rattle.wasm_operator_validator_determined.specs.resources.Meaning.{type_in};
-ghost use Rattle.wasm_operator_validator_determined.specs.state.Refusals.{Does, refused};
-ghost use Rattle.wasm_operator_validator_determined.specs.state.State.{types_in};
-ghost use Rattle.wasm_operator_validator_determined.specs.state.Steps.{IsOpen, MayPop, Popped};
+ghost use Rattle.wasm_operator_validator_rules.specs.Operands.{stack};
+ghost use Rattle.wasm_operator_validator_resources.specs.Meaning.{type_in};
+ghost use Rattle.wasm_operator_validator_state.specs.Refusals.{Does, refused};
+ghost use Rattle.wasm_operator_validator_state.specs.State.{types_in};
+ghost use Rattle.wasm_operator_validator_state.specs.Steps.{IsOpen, MayPop, Popped};
 ghost use Rattle.wasm_operator_validator_objects.specs.Found.{unpacked_fields, LiesOnAnything};
 
-use wasm_operator_validator_determined::{OperatorValidator, Refusal, WasmModuleResources};
+use wasm_operator_validator_stacks::determined::{OperatorValidator, Refusal, WasmModuleResources};
 use wasm_types::{FieldType, ValType};
 
 /// Takes an operand off for each field, the last first.

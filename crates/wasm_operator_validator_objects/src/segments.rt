@@ -1,17 +1,17 @@
 //! Arrays of what segments hold, and copies into arrays.
 
 ghost use Rattle.std.specs.Prelude.{◌≡◌, ◌↔◌, IsTrue, MatchResult, None, Some, slice_get, true, false};
-ghost use Rattle.wasm_operator_validator_determined.specs.expression.operator.Op.{Op};
-ghost use Rattle.wasm_operator_validator_determined.specs.resources.Meaning.{reference_in};
-ghost use Rattle.wasm_operator_validator_determined.specs.rules.InstructionTypes.{names_data};
-ghost use Rattle.wasm_operator_validator_determined.specs.state.Refusals.{refused};
-ghost use Rattle.wasm_operator_validator_determined.specs.state.State.{Checks};
+ghost use Rattle.wasm_operators_enums.specs.Op.{Op};
+ghost use Rattle.wasm_operator_validator_resources.specs.Meaning.{reference_in};
+ghost use Rattle.wasm_operator_validator_rules.specs.InstructionTypes.{names_data};
+ghost use Rattle.wasm_operator_validator_state.specs.Refusals.{refused};
+ghost use Rattle.wasm_operator_validator_state.specs.State.{Checks};
 ghost use Rattle.wasm_operator_validator_objects.specs.Found.{MayStore};
 
 use crate::naming::{allocated, array_at, reference_at};
 use crate::steps::{begin, exchange};
 use crate::storage::{is_of_references, storage_fits};
-use wasm_operator_validator_determined::{
+use wasm_operator_validator_stacks::determined::{
     OperatorValidator, Reason, Refusal, Space, WasmModuleResources,
 };
 use wasm_operators_visit::GcOperator;

@@ -1,14 +1,14 @@
 //! What the checks share.
 
 ghost use Rattle.std.specs.Prelude.{MatchResult, Some, false};
-ghost use Rattle.wasm_operator_validator_determined.specs.expression.info.declared.proposal.Proposal.TheVariants.{Gc};
-ghost use Rattle.wasm_operator_validator_determined.specs.expression.operator.Op.{Op};
-ghost use Rattle.wasm_operator_validator_determined.specs.state.Entering.{MayBegin};
-ghost use Rattle.wasm_operator_validator_determined.specs.state.Refusals.{kind_of, refused};
-ghost use Rattle.wasm_operator_validator_determined.specs.state.State.{Checks, types_in};
+ghost use Rattle.wasm_operators_immediates.specs.declared.proposal.Proposal.TheVariants.{Gc};
+ghost use Rattle.wasm_operators_enums.specs.Op.{Op};
+ghost use Rattle.wasm_operator_validator_state.specs.Entering.{MayBegin};
+ghost use Rattle.wasm_operator_validator_state.specs.Refusals.{kind_of, refused};
+ghost use Rattle.wasm_operator_validator_state.specs.State.{Checks, types_in};
 ghost use Rattle.wasm_operator_validator_objects.specs.Rows.{IsRow};
 
-use wasm_operator_validator_determined::{
+use wasm_operator_validator_stacks::determined::{
     OperatorValidator, Proposal, Refusal, WasmModuleResources,
 };
 use wasm_operators_visit::GcOperator;

@@ -5,7 +5,7 @@ ghost use Rattle.wasm_types.specs.trees.Matches.{StorageMatches};
 ghost use Rattle.wasm_types.specs.values.ValueKinds.{is_packed_type};
 ghost use Rattle.wasm_operator_validator_objects.specs.Found.{are_defaultable, is_defaultable_field, is_of_references, storage_in};
 
-use wasm_operator_validator_determined::{Reason, WasmModuleResources};
+use wasm_operator_validator_stacks::determined::{Reason, WasmModuleResources};
 use wasm_types::{FieldType, StorageType};
 
 /// Whether it has a default value.

@@ -1,12 +1,12 @@
 //! Structs.
 
-ghost use Rattle.wasm_operator_validator_determined.specs.expression.info.declared.proposal.Proposal.TheVariants.{Gc};
-ghost use Rattle.wasm_operator_validator_determined.specs.expression.operator.Op.{Op};
-ghost use Rattle.wasm_operator_validator_determined.specs.state.Refusals.{refused};
-ghost use Rattle.wasm_operator_validator_determined.specs.state.State.{Checks};
+ghost use Rattle.wasm_operators_immediates.specs.declared.proposal.Proposal.TheVariants.{Gc};
+ghost use Rattle.wasm_operators_enums.specs.Op.{Op};
+ghost use Rattle.wasm_operator_validator_state.specs.Refusals.{refused};
+ghost use Rattle.wasm_operator_validator_state.specs.State.{Checks};
 ghost use Rattle.std.specs.Prelude.{◌∷◌, [], false};
-ghost use Rattle.wasm_operator_validator_determined.specs.state.Entering.{MayBegin};
-ghost use Rattle.wasm_operator_validator_determined.specs.state.State.{types_in};
+ghost use Rattle.wasm_operator_validator_state.specs.Entering.{MayBegin};
+ghost use Rattle.wasm_operator_validator_state.specs.State.{types_in};
 ghost use Rattle.wasm_operator_validator_objects.specs.Found.{unpacked_fields};
 ghost use Rattle.wasm_operator_validator_objects.specs.Rows.{IsRow, ReadsField};
 
@@ -14,7 +14,9 @@ use crate::naming::{allocated, field_at, struct_at};
 use crate::popping::pop_fields;
 use crate::steps::{begin, exchange};
 use crate::storage::{are_defaultable, is_read_so, unread};
-use wasm_operator_validator_determined::{OperatorValidator, Reason, Refusal, WasmModuleResources};
+use wasm_operator_validator_stacks::determined::{
+    OperatorValidator, Reason, Refusal, WasmModuleResources,
+};
 use wasm_operators_visit::GcOperator;
 use wasm_types::{FieldType, ValType};
 

@@ -3,16 +3,18 @@
 ghost use Rattle.std.specs.Prelude.{◌≡◌, MatchOption, true, false};
 ghost use Rattle.wasm_types.specs.trees.Types.{ref};
 ghost use Rattle.wasm_types.specs.values.Trees.{abstract_of};
-ghost use Rattle.wasm_operator_validator_determined.specs.rules.Aggregates.{is_castable, is_cont, top_heap};
-ghost use Rattle.wasm_operator_validator_determined.specs.resources.Meaning.{heap_in, type_in};
-ghost use Rattle.wasm_operator_validator_determined.specs.expression.operator.Op.{Op};
-ghost use Rattle.wasm_operator_validator_determined.specs.state.Refusals.{refused};
-ghost use Rattle.wasm_operator_validator_determined.specs.state.State.{Checks};
+ghost use Rattle.wasm_operator_validator_rules.specs.Aggregates.{is_castable, is_cont, top_heap};
+ghost use Rattle.wasm_operator_validator_resources.specs.Meaning.{heap_in, type_in};
+ghost use Rattle.wasm_operators_enums.specs.Op.{Op};
+ghost use Rattle.wasm_operator_validator_state.specs.Refusals.{refused};
+ghost use Rattle.wasm_operator_validator_state.specs.State.{Checks};
 ghost use Rattle.wasm_operator_validator_objects.specs.Rows.{TestsReference, CastsReference};
 
 use crate::naming::{abstract_reference, heap_at};
 use crate::steps::{begin, exchange};
-use wasm_operator_validator_determined::{OperatorValidator, Reason, Refusal, WasmModuleResources};
+use wasm_operator_validator_stacks::determined::{
+    OperatorValidator, Reason, Refusal, WasmModuleResources,
+};
 use wasm_operators_visit::GcOperator;
 use wasm_types::{AbstractHeapType, HeapType, RefType, ValType};
 

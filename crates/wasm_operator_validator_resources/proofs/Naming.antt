@@ -1,8 +1,8 @@
 -- A value type of which the features are checked, and then its reference.
 use Rattle.std.proofs.Common.{◌≡◌, ℕ, refl, Result, Ok, Err, OnOk}
-use Rattle.wasm_types.specs.error.ErrorValue.{ErrorValue}
-use Rattle.wasm_types.specs.error.Denials.{Tells}
-use Rattle.wasm_types.specs.error.DenialLaws.{denies_from}
+use Rattle.wasm_types.specs.decoding.ErrorValue.{ErrorValue}
+use Rattle.wasm_types.specs.decoding.Denials.{Tells}
+use Rattle.wasm_types.specs.decoding.DenialLaws.{denies_from}
 use Rattle.wasm_types.specs.trees.Gates.{ValueIsAllowed}
 use Rattle.wasm_types.specs.values.declared.value.ValType.{ValType}
 use Rattle.wasm_types.specs.values.declared.value.ValType.TheVariants.{I32, I64, F32, F64, V128, Ref}

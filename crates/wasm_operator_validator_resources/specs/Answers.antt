@@ -1,9 +1,9 @@
 -- What look-ups answer.
 use Rattle.std.specs.Prelude.{◌≡◌, ℕ, Option, Some, None, slice_get, false, ◌==◌, bit_and}
-use Rattle.wasm_types.specs.error.declared.error.ErrorKind.{ErrorKind}
-use Rattle.wasm_types.specs.error.declared.error.ErrorKind.TheVariants as kinds
+use Rattle.wasm_types.specs.decoding.declared.error.ErrorKind.{ErrorKind}
+use Rattle.wasm_types.specs.decoding.declared.error.ErrorKind.TheVariants as kinds
 -- for attributes that unfold it
-unfoldable pub use Rattle.wasm_types.specs.features.Features.{has}
+unfoldable pub use Rattle.wasm_types.specs.settings.Features.{has}
 use Rattle.wasm_types.specs.trees.Types.{heap_map}
 use Rattle.wasm_types.specs.trees.Trees.{TypeTree}
 use Rattle.wasm_types.specs.trees.Each.{EachHeap}

@@ -1,8 +1,8 @@
 -- What code's names of types stand for: indices of the module, and ids of types that are known once and for all.
 use Rattle.std.specs.Prelude.{◌<◌, List, length}
-use Rattle.wasm_types.specs.indices.declared.index.CoreTypeId.{CoreTypeId}
-use Rattle.wasm_types.specs.indices.declared.index.UnpackedIndex.{UnpackedIndex}
-use Rattle.wasm_types.specs.indices.declared.index.UnpackedIndex.TheVariants as index
+use Rattle.wasm_types.specs.trees.declared.index.CoreTypeId.{CoreTypeId}
+use Rattle.wasm_types.specs.trees.declared.index.UnpackedIndex.{UnpackedIndex}
+use Rattle.wasm_types.specs.trees.declared.index.UnpackedIndex.TheVariants as index
 use Rattle.wasm_types.specs.trees.Types as tree
 use Rattle.wasm_types.specs.trees.Types.{HeapOf, heap_map, value_map, InnerOf, inner_map, EntryOf, entry_map}
 use Rattle.wasm_types.specs.trees.Trees.{TypeTree}
@@ -14,8 +14,8 @@ use Rattle.wasm_types.specs.values.Trees.{heap_of}
 use Rattle.wasm_types.specs.values.Values.{value_of}
 use Rattle.wasm_types.specs.fields.declared.func.FuncType.{FuncType}
 use Rattle.wasm_types.specs.fields.Fields.{function_tree}
-use Rattle.wasm_types.specs.groups.declared.sub_type.SubType.{SubType}
-use Rattle.wasm_types.specs.groups.Entries.{entry_of}
+use Rattle.wasm_types.specs.declared.sub_type.SubType.{SubType}
+use Rattle.wasm_types.specs.Entries.{entry_of}
 use Rattle.wasm_types.specs.externs.declared.global.GlobalType.{GlobalType}
 use Rattle.wasm_types.specs.externs.declared.table.TableType.{TableType}
 use Rattle.wasm_operator_validator_rules.specs.Operands.{ValueType}

@@ -1,12 +1,12 @@
 //! Which features a value type needs.
 
 ghost use Rattle.std.specs.Prelude.{◌≡◌, ◌⊎◌, IsTrue, IfErr, Bool, false};
-ghost use Rattle.wasm_types.specs.error.Denials.{Tells, RefusedAt};
-ghost use Rattle.wasm_types.specs.error.declared.error.ErrorKind.TheVariants.{MissingFeature};
-ghost use Rattle.wasm_types.specs.features.Features.{ReferenceTypes, FunctionReferences, Gc};
+ghost use Rattle.wasm_types.specs.decoding.Denials.{Tells, RefusedAt};
+ghost use Rattle.wasm_types.specs.decoding.declared.error.ErrorKind.TheVariants.{MissingFeature};
+ghost use Rattle.wasm_types.specs.settings.Features.{ReferenceTypes, FunctionReferences, Gc};
 ghost use Rattle.wasm_types.specs.trees.Gates.{Has, ValueIsAllowed, HeapIsAllowed, AbstractIsAllowed, CollectorIsAllowed};
 ghost use Rattle.wasm_types.specs.trees.Types.{abstract};
-ghost use Rattle.wasm_types.specs.indices.declared.index.UnpackedIndex.{UnpackedIndex};
+ghost use Rattle.wasm_types.specs.trees.declared.index.UnpackedIndex.{UnpackedIndex};
 ghost use Rattle.wasm_types.specs.values.Values.{value_of};
 ghost use Rattle.wasm_types.specs.values.Trees.{heap_of, abstract_of};
 ghost use Rattle.wasm_operator_validator_resources.specs.Answers.{IsMissing};

@@ -1,8 +1,8 @@
 //! What a validator of operators asks of a module.
 
 ghost use Rattle.std.specs.Prelude.{◌≡◌, ◌↔◌, ◌<◌, IsTrue, All, IfSome, IfErr, OnOk, option_map, slice_get, length};
-ghost use Rattle.wasm_types.specs.error.Denials.{Tells, RefusedAt};
-ghost use Rattle.wasm_types.specs.error.declared.error.ErrorKind.TheVariants.{Other};
+ghost use Rattle.wasm_types.specs.decoding.Denials.{Tells, RefusedAt};
+ghost use Rattle.wasm_types.specs.decoding.declared.error.ErrorKind.TheVariants.{Other};
 ghost use Rattle.wasm_types.specs.trees.Below.{Below, heap_is_shared, expanded};
 ghost use Rattle.wasm_types.specs.trees.Trees.{opened};
 ghost use Rattle.wasm_types.specs.trees.Chains.{IsSound};

@@ -1,12 +1,12 @@
 -- The worked rows of code with clauses.
 use Rattle.std.specs.Prelude.{ℤ}
 use Rattle.std.proofs.Common.{◌≡◌, ◌∙◌, Bool, List, [], ◌∷◌, true, false, refl, sym, ap, subst, rules}
-use Rattle.wasm_operators_expression.specs.types.features.Features.{has}
-use Rattle.wasm_operators_expression.specs.types.trees.Types.{i32, func, number, ref, abstract, InnerOf, function}
-use Rattle.wasm_operators_expression.specs.types.trees.Trees.{TypeTree, opened}
-use Rattle.wasm_operators_expression.specs.types.trees.Below.{expanded}
-use Rattle.wasm_operators_expression.specs.types.trees.AbstractOrder.{same}
-use Rattle.wasm_operators_expression.specs.immediates.declared.frames.FrameKind.TheVariants as frames
+use Rattle.wasm_types.specs.settings.Features.{has}
+use Rattle.wasm_types.specs.trees.Types.{i32, func, number, ref, abstract, InnerOf, function}
+use Rattle.wasm_types.specs.trees.Trees.{TypeTree, opened}
+use Rattle.wasm_types.specs.trees.Below.{expanded}
+use Rattle.wasm_types.specs.trees.AbstractOrder.{same}
+use Rattle.wasm_operators_immediates.specs.declared.frames.FrameKind.TheVariants as frames
 use Rattle.wasm_operator_validator_rules.specs.Operands.{ValueType, Operand, AllBelow, known, stack}
 use Rattle.wasm_operator_validator_rules.specs.Context.{Context, Initialised, Signature}
 use Rattle.wasm_operator_validator_rules.specs.Exceptions.{IsExceptionTag, exception}

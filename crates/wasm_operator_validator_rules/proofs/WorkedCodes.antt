@@ -1,12 +1,12 @@
 -- The worked rows of code.
 use Rattle.std.specs.Prelude.{ℤ}
 use Rattle.std.proofs.Common.{Bool, List, [], ◌∷◌, false, refl, rules}
-use Rattle.wasm_operators_expression.specs.types.features.Features.{has}
-use Rattle.wasm_operators_expression.specs.types.trees.Types.{i32, i64, number, ref, abstract, func}
-use Rattle.wasm_operators_expression.specs.types.trees.Trees.{opened}
-use Rattle.wasm_operators_expression.specs.types.trees.AbstractOrder.{same}
-use Rattle.wasm_operators_expression.specs.immediates.declared.frames.FrameKind.TheVariants as frames
-use Rattle.wasm_operators_expression.specs.Code.{plain}
+use Rattle.wasm_types.specs.settings.Features.{has}
+use Rattle.wasm_types.specs.trees.Types.{i32, i64, number, ref, abstract, func}
+use Rattle.wasm_types.specs.trees.Trees.{opened}
+use Rattle.wasm_types.specs.trees.AbstractOrder.{same}
+use Rattle.wasm_operators_immediates.specs.declared.frames.FrameKind.TheVariants as frames
+use Rattle.wasm_operators_encoding.specs.expressions.Code.{plain}
 use Rattle.wasm_operator_validator_rules.specs.Operands.{ValueType, Operand, known, AllBelow}
 use Rattle.wasm_operator_validator_rules.specs.Context.{Initialised}
 use Rattle.wasm_operator_validator_rules.specs.InstructionTypes.{◌⟶◌}

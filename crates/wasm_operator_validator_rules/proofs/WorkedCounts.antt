@@ -1,6 +1,6 @@
 -- The worked rows of the table.
 use Rattle.std.proofs.Common.{refl}
-use Rattle.wasm_operator_validator_rules.specs.expression.types.trees.Trees.{opened}
+use Rattle.wasm_types.specs.trees.Trees.{opened}
 use Rattle.wasm_operator_validator_rules.specs.arity.Worked.{CountsWorked}
 
 pub counts_worked : CountsWorked

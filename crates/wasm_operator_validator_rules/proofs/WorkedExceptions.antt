@@ -1,10 +1,10 @@
 -- The worked rows of exceptions, and of clauses of `try_table`.
 use Rattle.std.proofs.Common.{◌≡◌, ◌∙◌, List, [], ◌∷◌, ◌++◌, true, false, refl, sym, ap, subst, rules}
-use Rattle.wasm_operators_expression.specs.types.features.Features.{has}
-use Rattle.wasm_operators_expression.specs.types.trees.Types.{i32, i64, func, exn, number, InnerOf, function}
-use Rattle.wasm_operators_expression.specs.types.trees.Trees.{TypeTree, opened}
-use Rattle.wasm_operators_expression.specs.types.trees.AbstractOrder.{same}
-use Rattle.wasm_operators_expression.specs.types.trees.Below.{expanded}
+use Rattle.wasm_types.specs.settings.Features.{has}
+use Rattle.wasm_types.specs.trees.Types.{i32, i64, func, exn, number, InnerOf, function}
+use Rattle.wasm_types.specs.trees.Trees.{TypeTree, opened}
+use Rattle.wasm_types.specs.trees.AbstractOrder.{same}
+use Rattle.wasm_types.specs.trees.Below.{expanded}
 use Rattle.wasm_operator_validator_rules.specs.Operands.{ValueType, Operand, AllBelow, known, all_known}
 use Rattle.wasm_operator_validator_rules.specs.Exceptions.{exception}
 use Rattle.wasm_operator_validator_rules.specs.worked.Contexts.{any_function}

@@ -1,10 +1,10 @@
 -- The worked rows of operators on structs, arrays and references.
 use Rattle.std.proofs.Common.{◌≡◌, List, [], ◌∷◌, ◌++◌, true, false, refl, sym, subst, rules}
-use Rattle.wasm_operators_expression.specs.types.features.Features.{has}
-use Rattle.wasm_operators_expression.specs.types.trees.Types.{any, eq, extern, array, HeapOf, ref, concrete}
-use Rattle.wasm_operators_expression.specs.types.trees.Trees.{TypeTree, opened}
-use Rattle.wasm_operators_expression.specs.types.trees.AbstractOrder.{i31_eq}
-use Rattle.wasm_operators_expression.specs.types.trees.Below.{Below, DeclaredBelow, itself, declared}
+use Rattle.wasm_types.specs.settings.Features.{has}
+use Rattle.wasm_types.specs.trees.Types.{any, eq, extern, array, HeapOf, ref, concrete}
+use Rattle.wasm_types.specs.trees.Trees.{TypeTree, opened}
+use Rattle.wasm_types.specs.trees.AbstractOrder.{i31_eq}
+use Rattle.wasm_types.specs.trees.Below.{Below, DeclaredBelow, itself, declared}
 use Rattle.wasm_operator_validator_rules.specs.Operands.{ValueType, Operand, known, all_known}
 use Rattle.wasm_operator_validator_rules.specs.worked.Operators.{i32_known}
 use Rattle.wasm_operator_validator_rules.specs.worked.References.{null_to, to, cell}

@@ -1,9 +1,9 @@
 -- The worked rows of operators.
 use Rattle.std.proofs.Common.{◌≡◌, List, [], ◌∷◌, ◌++◌, true, false, refl, sym, inl, rules}
-use Rattle.wasm_operators_expression.specs.types.features.Features.{has}
-use Rattle.wasm_operators_expression.specs.types.trees.Types.{i32, i64, number, concrete}
-use Rattle.wasm_operators_expression.specs.types.trees.Trees.{opened}
-use Rattle.wasm_operators_expression.specs.types.trees.AbstractOrder.{same}
+use Rattle.wasm_types.specs.settings.Features.{has}
+use Rattle.wasm_types.specs.trees.Types.{i32, i64, number, concrete}
+use Rattle.wasm_types.specs.trees.Trees.{opened}
+use Rattle.wasm_types.specs.trees.AbstractOrder.{same}
 use Rattle.wasm_operator_validator_rules.specs.Operands.{Operand, AllBelow, all_known}
 use Rattle.wasm_operator_validator_rules.specs.Row.{of_type}
 use Rattle.wasm_operator_validator_rules.specs.worked.Contexts.{any_function, widening, table_of}

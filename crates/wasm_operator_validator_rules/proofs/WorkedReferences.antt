@@ -1,9 +1,9 @@
 -- The worked rows of references to functions and of null.
 use Rattle.std.proofs.Common.{◌≡◌, List, [], ◌∷◌, ◌++◌, Some, true, false, refl, sym, subst, rules}
-use Rattle.wasm_operators_expression.specs.types.features.Features.{has}
-use Rattle.wasm_operators_expression.specs.types.trees.Types.{i32, i64, func, InnerOf, function, number, ref, abstract, concrete}
-use Rattle.wasm_operators_expression.specs.types.trees.Trees.{TypeTree, opened}
-use Rattle.wasm_operators_expression.specs.types.trees.Below.{expanded}
+use Rattle.wasm_types.specs.settings.Features.{has}
+use Rattle.wasm_types.specs.trees.Types.{i32, i64, func, InnerOf, function, number, ref, abstract, concrete}
+use Rattle.wasm_types.specs.trees.Trees.{TypeTree, opened}
+use Rattle.wasm_types.specs.trees.Below.{expanded}
 use Rattle.wasm_operator_validator_rules.specs.Operands.{ValueType, Operand, some_reference, known, all_known}
 use Rattle.wasm_operator_validator_rules.specs.Context.{Signature, IsFunctionType}
 use Rattle.wasm_operator_validator_rules.specs.Named.{used_type}

@@ -1,14 +1,14 @@
 -- What operators on structs, arrays and references name: types of the module by an index, and heap types that code writes (WebAssembly
 -- 3.0, validation, conventions, contexts; types, expansion).
 use Rattle.std.specs.Prelude.{ℕ, Bool, true, false, not, List, Option, Some, None, option_map, option_and_then, if◌then◌else◌}
-use Rattle.wasm_operators_expression.specs.types.indices.declared.index.UnpackedIndex.{UnpackedIndex}
-use Rattle.wasm_operators_expression.specs.types.indices.declared.index.UnpackedIndex.TheVariants as index
-use Rattle.wasm_operators_expression.specs.types.trees.Types.{Abstract, cont, HeapOf, abstract, concrete, exact, FieldOf, InnerOf, array_of, struct_of}
-use Rattle.wasm_operators_expression.specs.types.trees.Trees.{TypeTree}
-use Rattle.wasm_operators_expression.specs.types.trees.AbstractOrder.{top_of}
-use Rattle.wasm_operators_expression.specs.types.trees.Below.{expanded, heap_is_shared, abstract_above}
-use Rattle.wasm_operators_expression.specs.types.values.declared.heap.HeapType.{HeapType}
-use Rattle.wasm_operators_expression.specs.types.values.Trees.{heap_of}
+use Rattle.wasm_types.specs.trees.declared.index.UnpackedIndex.{UnpackedIndex}
+use Rattle.wasm_types.specs.trees.declared.index.UnpackedIndex.TheVariants as index
+use Rattle.wasm_types.specs.trees.Types.{Abstract, cont, HeapOf, abstract, concrete, exact, FieldOf, InnerOf, array_of, struct_of}
+use Rattle.wasm_types.specs.trees.Trees.{TypeTree}
+use Rattle.wasm_types.specs.trees.AbstractOrder.{top_of}
+use Rattle.wasm_types.specs.trees.Below.{expanded, heap_is_shared, abstract_above}
+use Rattle.wasm_types.specs.values.declared.heap.HeapType.{HeapType}
+use Rattle.wasm_types.specs.values.Trees.{heap_of}
 use Rattle.wasm_operator_validator_rules.specs.Context.{Context, may_use}
 use Rattle.wasm_operator_validator_rules.specs.Named.{used_type}
 

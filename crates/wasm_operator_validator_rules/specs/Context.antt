@@ -1,21 +1,21 @@
 -- What the rules know at a place in a body (WebAssembly 3.0, validation, conventions, contexts).
 use Rattle.std.specs.Prelude.{◌≡◌, ◌<◌, ℕ, Bool, true, false, IsTrue, List, [], ◌∷◌, length, Option, Some, None, slice_get, nat_lt, if◌then◌else◌}
-use Rattle.wasm_operators_expression.specs.types.features.Features.{MultiValue}
-use Rattle.wasm_operators_expression.specs.types.indices.declared.index.UnpackedIndex.{UnpackedIndex}
-use Rattle.wasm_operators_expression.specs.types.indices.declared.index.UnpackedIndex.TheVariants as index
-use Rattle.wasm_operators_expression.specs.types.trees.Types.{i32, i64, number, ref, function, value_map}
-use Rattle.wasm_operators_expression.specs.types.trees.Each.{EachValue}
-use Rattle.wasm_operators_expression.specs.types.trees.Gates.{Has, ValueIsAllowed}
-use Rattle.wasm_operators_expression.specs.types.trees.Trees.{TypeTree}
-use Rattle.wasm_operators_expression.specs.types.trees.Below.{expanded}
-use Rattle.wasm_operators_expression.specs.types.trees.ValidGroup.{type_at}
-use Rattle.wasm_operators_expression.specs.types.values.declared.value.ValType.{ValType}
-use Rattle.wasm_operators_expression.specs.types.values.Values.{value_of}
-use Rattle.wasm_operators_expression.specs.types.externs.declared.memory.MemoryType.{MemoryType}
-use Rattle.wasm_operators_expression.specs.immediates.declared.block.BlockType.{BlockType}
-use Rattle.wasm_operators_expression.specs.immediates.declared.block.BlockType.TheVariants as block
-use Rattle.wasm_operators_expression.specs.immediates.declared.frames.FrameKind.{FrameKind}
-use Rattle.wasm_operators_expression.specs.immediates.declared.frames.FrameKind.TheVariants as frames
+use Rattle.wasm_types.specs.settings.Features.{MultiValue}
+use Rattle.wasm_types.specs.trees.declared.index.UnpackedIndex.{UnpackedIndex}
+use Rattle.wasm_types.specs.trees.declared.index.UnpackedIndex.TheVariants as index
+use Rattle.wasm_types.specs.trees.Types.{i32, i64, number, ref, function, value_map}
+use Rattle.wasm_types.specs.trees.Each.{EachValue}
+use Rattle.wasm_types.specs.trees.Gates.{Has, ValueIsAllowed}
+use Rattle.wasm_types.specs.trees.Trees.{TypeTree}
+use Rattle.wasm_types.specs.trees.Below.{expanded}
+use Rattle.wasm_types.specs.trees.ValidGroup.{type_at}
+use Rattle.wasm_types.specs.values.declared.value.ValType.{ValType}
+use Rattle.wasm_types.specs.values.Values.{value_of}
+use Rattle.wasm_types.specs.externs.declared.memory.MemoryType.{MemoryType}
+use Rattle.wasm_operators_immediates.specs.declared.block.BlockType.{BlockType}
+use Rattle.wasm_operators_immediates.specs.declared.block.BlockType.TheVariants as block
+use Rattle.wasm_operators_immediates.specs.declared.frames.FrameKind.{FrameKind}
+use Rattle.wasm_operators_immediates.specs.declared.frames.FrameKind.TheVariants as frames
 use Rattle.wasm_operator_validator_rules.specs.Operands.{ValueType}
 
 -- ---- the module

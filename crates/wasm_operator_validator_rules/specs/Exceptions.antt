@@ -1,12 +1,12 @@
 -- Rows of exceptions (WebAssembly 3.0, validation, control instructions; `try` and its clauses by the older form of the proposal on
 -- exceptions), and what the clauses of `try_table` ask.
 use Rattle.std.specs.Prelude.{◌≡◌, ℕ, Bool, true, false, List, [], ◌∷◌, ◌++◌, Some, slice_get}
-use Rattle.wasm_operators_expression.specs.types.trees.Types.{ref, abstract, exn}
-use Rattle.wasm_operators_expression.specs.types.trees.Trees.{TypeTree}
-use Rattle.wasm_operators_expression.specs.immediates.declared.handlers.Catch.{Catch}
-use Rattle.wasm_operators_expression.specs.immediates.declared.handlers.Catch.TheVariants as clause
-use Rattle.wasm_operators_expression.specs.operator.Op as op
-use Rattle.wasm_operators_expression.specs.operator.Op.{ExceptionTree}
+use Rattle.wasm_types.specs.trees.Types.{ref, abstract, exn}
+use Rattle.wasm_types.specs.trees.Trees.{TypeTree}
+use Rattle.wasm_operators_immediates.specs.declared.handlers.Catch.{Catch}
+use Rattle.wasm_operators_immediates.specs.declared.handlers.Catch.TheVariants as clause
+use Rattle.wasm_operators_enums.specs.Op as op
+use Rattle.wasm_operators_enums.specs.Op.{ExceptionTree}
 use Rattle.wasm_operator_validator_rules.specs.Operands.{ValueType, Operand, AllBelow, known, all_known}
 use Rattle.wasm_operator_validator_rules.specs.Context.{Context, IsFunctionType}
 use Rattle.wasm_operator_validator_rules.specs.Taken.{IsLabel}

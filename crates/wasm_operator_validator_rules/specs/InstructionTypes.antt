@@ -2,24 +2,24 @@
 -- constants, globals, memories, tables, atomic accesses and calls of references. An operator whose type is free in something has a row of its own
 -- (`Row.antt`), and none here.
 use Rattle.std.specs.Prelude.{ℕ, Bool, true, false, not, List, [], ◌∷◌, ◌++◌, ◌&&◌, replicate, is_some, Option, Some, None, slice_get, nat_lt, if◌then◌else◌}
-use Rattle.wasm_operators_expression.specs.types.features.Features.{CustomDescriptors, has}
-use Rattle.wasm_operators_expression.specs.types.trees.Types.{i32, i31, number, ref, HeapOf, abstract, concrete, exact}
-use Rattle.wasm_operators_expression.specs.types.trees.Trees.{TypeTree, opened}
-use Rattle.wasm_operators_expression.specs.types.trees.Below.{expanded}
-use Rattle.wasm_operators_expression.specs.types.values.declared.heap.HeapType.{HeapType}
-use Rattle.wasm_operators_expression.specs.types.externs.declared.memory.MemoryType.{MemoryType}
-use Rattle.wasm_operators_expression.specs.groups.declared.control.ControlOperator.{ControlOperator}
-use Rattle.wasm_operators_expression.specs.groups.declared.control.ControlOperator.TheVariants as control
-use Rattle.wasm_operators_expression.specs.groups.declared.memory.MemoryOperator.{MemoryOperator}
-use Rattle.wasm_operators_expression.specs.groups.declared.memory.MemoryOperator.TheVariants as memory
-use Rattle.wasm_operators_expression.specs.groups.declared.bulk.BulkOperator.{BulkOperator}
-use Rattle.wasm_operators_expression.specs.groups.declared.bulk.BulkOperator.TheVariants as bulk
-use Rattle.wasm_operators_expression.specs.groups.declared.atomic.AtomicOperator.{AtomicOperator}
-use Rattle.wasm_operators_expression.specs.groups.declared.atomic.AtomicOperator.TheVariants as atomic
-use Rattle.wasm_operators_expression.specs.groups.declared.gc.GcOperator.{GcOperator}
-use Rattle.wasm_operators_expression.specs.groups.declared.gc.GcOperator.TheVariants as gc
-use Rattle.wasm_operators_expression.specs.operator.Op as op
-use Rattle.wasm_operators_expression.specs.operator.Op.{Op}
+use Rattle.wasm_types.specs.settings.Features.{CustomDescriptors, has}
+use Rattle.wasm_types.specs.trees.Types.{i32, i31, number, ref, HeapOf, abstract, concrete, exact}
+use Rattle.wasm_types.specs.trees.Trees.{TypeTree, opened}
+use Rattle.wasm_types.specs.trees.Below.{expanded}
+use Rattle.wasm_types.specs.values.declared.heap.HeapType.{HeapType}
+use Rattle.wasm_types.specs.externs.declared.memory.MemoryType.{MemoryType}
+use Rattle.wasm_operators_enums.specs.declared.control.ControlOperator.{ControlOperator}
+use Rattle.wasm_operators_enums.specs.declared.control.ControlOperator.TheVariants as control
+use Rattle.wasm_operators_enums.specs.declared.memory.MemoryOperator.{MemoryOperator}
+use Rattle.wasm_operators_enums.specs.declared.memory.MemoryOperator.TheVariants as memory
+use Rattle.wasm_operators_enums.specs.declared.bulk.BulkOperator.{BulkOperator}
+use Rattle.wasm_operators_enums.specs.declared.bulk.BulkOperator.TheVariants as bulk
+use Rattle.wasm_operators_enums.specs.declared.atomic.AtomicOperator.{AtomicOperator}
+use Rattle.wasm_operators_enums.specs.declared.atomic.AtomicOperator.TheVariants as atomic
+use Rattle.wasm_operators_enums.specs.declared.gc.GcOperator.{GcOperator}
+use Rattle.wasm_operators_enums.specs.declared.gc.GcOperator.TheVariants as gc
+use Rattle.wasm_operators_enums.specs.Op as op
+use Rattle.wasm_operators_enums.specs.Op.{Op}
 use Rattle.wasm_operator_validator_rules.specs.Operands.{ValueType}
 use Rattle.wasm_operator_validator_rules.specs.Context.{Context, Table, Global, Signature, may_use, address_type}
 use Rattle.wasm_operator_validator_rules.specs.Named.{used_type, as_function}

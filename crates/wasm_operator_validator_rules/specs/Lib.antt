@@ -14,8 +14,6 @@ pub mod Row
 pub mod Typed
 -- Worked operators: rows that hold and rows that do not, a pair at least for each kind.
 pub mod worked
--- The rules and laws of the crates below, under their names: crates above cite them here.
-pub use Rattle.wasm_operators_expression.specs as expression
 -- Rules, laws and worked rows: how many operands each operator takes and gives.
 pub mod arity
 -- Rules and worked rows: which operators and expressions are constant.

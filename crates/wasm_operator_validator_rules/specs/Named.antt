@@ -2,9 +2,9 @@
 -- validation, conventions, contexts; types, expansion). A shared function may name shared types alone (the proposal on shared
 -- everything).
 use Rattle.std.specs.Prelude.{ℕ, Option, Some, None, option_and_then, slice_get, if◌then◌else◌}
-use Rattle.wasm_operators_expression.specs.types.trees.Types.{InnerOf, function}
-use Rattle.wasm_operators_expression.specs.types.trees.Trees.{TypeTree}
-use Rattle.wasm_operators_expression.specs.types.trees.Below.{is_shared}
+use Rattle.wasm_types.specs.trees.Types.{InnerOf, function}
+use Rattle.wasm_types.specs.trees.Trees.{TypeTree}
+use Rattle.wasm_types.specs.trees.Below.{is_shared}
 use Rattle.wasm_operator_validator_rules.specs.Context.{Context, Signature, may_use}
 
 -- a type of the module that the function may use

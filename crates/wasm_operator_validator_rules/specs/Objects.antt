@@ -1,14 +1,14 @@
 -- Rows of operators on structs, arrays and references that the table of instruction types does not have (WebAssembly 3.0, validation,
 -- aggregate and reference instructions).
 use Rattle.std.specs.Prelude.{◌≡◌, ℕ, Bool, true, false, IsTrue, List, [], ◌∷◌, ◌++◌, Some, slice_get}
-use Rattle.wasm_operators_expression.specs.types.trees.Types.{eq, any, extern, i31, array, ref, HeapOf, abstract, value}
-use Rattle.wasm_operators_expression.specs.types.trees.Trees.{TypeTree}
-use Rattle.wasm_operators_expression.specs.types.trees.Below.{Below}
-use Rattle.wasm_operators_expression.specs.types.trees.Matches.{StorageMatches}
-use Rattle.wasm_operators_expression.specs.types.values.Reference.{Reference}
-use Rattle.wasm_operators_expression.specs.groups.declared.gc.GcOperator.{GcOperator}
-use Rattle.wasm_operators_expression.specs.groups.declared.gc.GcOperator.TheVariants as gc
-use Rattle.wasm_operators_expression.specs.operator.Op as op
+use Rattle.wasm_types.specs.trees.Types.{eq, any, extern, i31, array, ref, HeapOf, abstract, value}
+use Rattle.wasm_types.specs.trees.Trees.{TypeTree}
+use Rattle.wasm_types.specs.trees.Below.{Below}
+use Rattle.wasm_types.specs.trees.Matches.{StorageMatches}
+use Rattle.wasm_types.specs.values.Reference.{Reference}
+use Rattle.wasm_operators_enums.specs.declared.gc.GcOperator.{GcOperator}
+use Rattle.wasm_operators_enums.specs.declared.gc.GcOperator.TheVariants as gc
+use Rattle.wasm_operators_enums.specs.Op as op
 use Rattle.wasm_operator_validator_rules.specs.Operands.{ValueType, Operand}
 use Rattle.wasm_operator_validator_rules.specs.Context.{Context}
 use Rattle.wasm_operator_validator_rules.specs.Aggregates.{Array, array_named, heap_named, is_castable}

@@ -1,8 +1,8 @@
 -- Places that operators on structs and arrays read and write: fields and elements (WebAssembly 3.0, validation, aggregate
 -- instructions).
 use Rattle.std.specs.Prelude.{ℕ, Bool, true, false, List, [], ◌∷◌, ◌&&◌, Option, option_map, option_and_then, slice_get}
-use Rattle.wasm_operators_expression.specs.types.trees.Types.{i32, number, ref, concrete, StorageOf, i8, i16, value, FieldOf}
-use Rattle.wasm_operators_expression.specs.types.trees.Trees.{TypeTree}
+use Rattle.wasm_types.specs.trees.Types.{i32, number, ref, concrete, StorageOf, i8, i16, value, FieldOf}
+use Rattle.wasm_types.specs.trees.Trees.{TypeTree}
 use Rattle.wasm_operator_validator_rules.specs.Operands.{ValueType}
 use Rattle.wasm_operator_validator_rules.specs.Context.{Context, defaultable}
 use Rattle.wasm_operator_validator_rules.specs.Aggregates.{struct_named, array_named}

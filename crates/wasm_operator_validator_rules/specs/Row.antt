@@ -2,22 +2,22 @@
 -- that is merely not supported yet has no row.
 use Rattle.std.specs.Prelude.{◌≡◌, ℕ, Bool, true, false, IsTrue, List, [], ◌∷◌, ◌++◌, Option, Some, None, slice_get, if◌then◌else◌, ◌==◌, ◌⊎◌}
 use Rattle.std.specs.Int.RustNames.{bit_and}
-use Rattle.wasm_operators_expression.specs.types.features.Features.{Floats, CustomDescriptors}
-use Rattle.wasm_operators_expression.specs.types.trees.Types.{number, ref, HeapOf, abstract, concrete, exact, func}
-use Rattle.wasm_operators_expression.specs.types.trees.Trees.{TypeTree}
-use Rattle.wasm_operators_expression.specs.types.trees.Below.{Below, is_shared, value_is_shared}
-use Rattle.wasm_operators_expression.specs.types.trees.Gates.{Has}
-use Rattle.wasm_operators_expression.specs.types.values.declared.value.ValType.TheVariants as value
-use Rattle.wasm_operators_expression.specs.info.Info.{features_of}
-use Rattle.wasm_operators_expression.specs.groups.declared.control.ControlOperator.{ControlOperator}
-use Rattle.wasm_operators_expression.specs.groups.declared.control.ControlOperator.TheVariants as control
-use Rattle.wasm_operators_expression.specs.groups.declared.memory.MemoryOperator.{MemoryOperator}
-use Rattle.wasm_operators_expression.specs.groups.declared.memory.MemoryOperator.TheVariants as memory
-use Rattle.wasm_operators_expression.specs.groups.declared.bulk.BulkOperator.{BulkOperator}
-use Rattle.wasm_operators_expression.specs.groups.declared.bulk.BulkOperator.TheVariants as bulk
-use Rattle.wasm_operators_expression.specs.operator.Op as op
-use Rattle.wasm_operators_expression.specs.operator.Op.{Op, ParametricTree}
-use Rattle.wasm_operators_expression.specs.operator.Table.{info_of}
+use Rattle.wasm_types.specs.settings.Features.{Floats, CustomDescriptors}
+use Rattle.wasm_types.specs.trees.Types.{number, ref, HeapOf, abstract, concrete, exact, func}
+use Rattle.wasm_types.specs.trees.Trees.{TypeTree}
+use Rattle.wasm_types.specs.trees.Below.{Below, is_shared, value_is_shared}
+use Rattle.wasm_types.specs.trees.Gates.{Has}
+use Rattle.wasm_types.specs.values.declared.value.ValType.TheVariants as value
+use Rattle.wasm_operators_immediates.specs.Info.{features_of}
+use Rattle.wasm_operators_enums.specs.declared.control.ControlOperator.{ControlOperator}
+use Rattle.wasm_operators_enums.specs.declared.control.ControlOperator.TheVariants as control
+use Rattle.wasm_operators_enums.specs.declared.memory.MemoryOperator.{MemoryOperator}
+use Rattle.wasm_operators_enums.specs.declared.memory.MemoryOperator.TheVariants as memory
+use Rattle.wasm_operators_enums.specs.declared.bulk.BulkOperator.{BulkOperator}
+use Rattle.wasm_operators_enums.specs.declared.bulk.BulkOperator.TheVariants as bulk
+use Rattle.wasm_operators_enums.specs.Op as op
+use Rattle.wasm_operators_enums.specs.Op.{Op, ParametricTree}
+use Rattle.wasm_operators_enums.specs.Table.{info_of}
 use Rattle.wasm_operator_validator_rules.specs.Operands.{ValueType, Operand, bottom, some_reference, known, IsReference, AllBelow, all_known}
 use Rattle.wasm_operator_validator_rules.specs.Context.{Context, Table, Initialised, Signature, IsFunctionType, IsType, MayUse, address_type}
 use Rattle.wasm_operator_validator_rules.specs.Numbers.{class_of, has_float, constant_type, is_float}

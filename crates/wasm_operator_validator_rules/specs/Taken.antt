@@ -1,7 +1,7 @@
 -- What rows are made of: operands that are taken and given, what the table says, and labels (WebAssembly 3.0, validation,
 -- instructions).
 use Rattle.std.specs.Prelude.{◌≡◌, ℕ, List, Some, slice_get}
-use Rattle.wasm_operators_expression.specs.operator.Op.{Op}
+use Rattle.wasm_operators_enums.specs.Op.{Op}
 use Rattle.wasm_operator_validator_rules.specs.Operands.{ValueType, Operand, all_known}
 use Rattle.wasm_operator_validator_rules.specs.Context.{Context}
 use Rattle.wasm_operator_validator_rules.specs.InstructionTypes.{InstructionType, instruction_type}

@@ -1,14 +1,14 @@
 -- Typing of instructions (WebAssembly 3.0, validation, instructions): one operator, and code.
 use Rattle.std.specs.Prelude.{◌≡◌, ℕ, suc, List, [], ◌∷◌, ◌++◌, Option, Some, None, reverse}
-use Rattle.wasm_operators_expression.specs.immediates.declared.frames.FrameKind.{FrameKind}
-use Rattle.wasm_operators_expression.specs.immediates.declared.frames.FrameKind.TheVariants as frames
-use Rattle.wasm_operators_expression.specs.immediates.declared.block.BlockType.{BlockType}
-use Rattle.wasm_operators_expression.specs.groups.declared.control.ControlOperator.TheVariants as control
-use Rattle.wasm_operators_expression.specs.operator.Op as op
-use Rattle.wasm_operators_expression.specs.operator.Op.{Op}
-use Rattle.wasm_operators_expression.specs.operator.declared.role.Role.TheVariants.{Opens}
-use Rattle.wasm_operators_expression.specs.operator.Roles.{role_of}
-use Rattle.wasm_operators_expression.specs.Code.{Code, close, plain, nested, turn, IsExpression}
+use Rattle.wasm_operators_immediates.specs.declared.frames.FrameKind.{FrameKind}
+use Rattle.wasm_operators_immediates.specs.declared.frames.FrameKind.TheVariants as frames
+use Rattle.wasm_operators_immediates.specs.declared.block.BlockType.{BlockType}
+use Rattle.wasm_operators_enums.specs.declared.control.ControlOperator.TheVariants as control
+use Rattle.wasm_operators_enums.specs.Op as op
+use Rattle.wasm_operators_enums.specs.Op.{Op}
+use Rattle.wasm_operators_enums.specs.declared.role.Role.TheVariants.{Opens}
+use Rattle.wasm_operators_enums.specs.Roles.{role_of}
+use Rattle.wasm_operators_encoding.specs.expressions.Code.{Code, close, plain, nested, turn, IsExpression}
 use Rattle.wasm_operator_validator_rules.specs.Operands.{ValueType, Operand, AllBelow, stack}
 use Rattle.wasm_operator_validator_rules.specs.Context.{Context, Initialised, Signature, Frame, IsBlockType, label_of, inside, in_clause, initialised_at_first}
 use Rattle.wasm_operator_validator_rules.specs.InstructionTypes.{i32_type}

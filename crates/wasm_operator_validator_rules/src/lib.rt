@@ -11,7 +11,7 @@ pub mod arity;
 pub mod constants;
 mod worked;
 
-pub use wasm_operators_expression::{
+pub use wasm_operators_encoding::expressions::{
     BlockType, BrTable, BrTableTargets, BulkOperator, ConstOperator, FrameKind, MemArg,
     MemArgTarget, MemoryOperator, Proposal,
 };

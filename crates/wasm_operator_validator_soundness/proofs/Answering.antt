@@ -1,27 +1,27 @@
 -- Some answer fits at each configuration that typed code reaches: a trap, or the null of a type.
 use Rattle.std.proofs.Common.{ℕ, false, List, [], ◌∷◌, get_or, Option, Some, None, slice_get}
 use Rattle.std.specs.Prelude.{All}
-use Rattle.wasm_types.specs.indices.declared.index.UnpackedIndex.{UnpackedIndex}
-use Rattle.wasm_types.specs.indices.declared.index.UnpackedIndex.TheVariants as index
+use Rattle.wasm_types.specs.trees.declared.index.UnpackedIndex.{UnpackedIndex}
+use Rattle.wasm_types.specs.trees.declared.index.UnpackedIndex.TheVariants as index
 use Rattle.wasm_types.specs.trees.Types.{HeapOf, abstract, concrete, exact, heap_map}
 use Rattle.wasm_types.specs.trees.Trees.{TypeTree}
 use Rattle.wasm_types.specs.trees.Each.{EachHeap}
 use Rattle.wasm_types.specs.trees.Chains.{IsSound}
 use Rattle.wasm_types.specs.values.Trees.{heap_of}
-use Rattle.wasm_operator_validator_rules.specs.expression.groups.declared.control.ControlOperator.{ControlOperator}
-use Rattle.wasm_operator_validator_rules.specs.expression.groups.declared.control.ControlOperator.TheVariants as control
-use Rattle.wasm_operator_validator_rules.specs.expression.groups.declared.memory.MemoryOperator.{MemoryOperator}
-use Rattle.wasm_operator_validator_rules.specs.expression.groups.declared.memory.MemoryOperator.TheVariants as memory
-use Rattle.wasm_operator_validator_rules.specs.expression.groups.declared.bulk.BulkOperator.{BulkOperator}
-use Rattle.wasm_operator_validator_rules.specs.expression.groups.declared.bulk.BulkOperator.TheVariants as bulk
-use Rattle.wasm_operator_validator_rules.specs.expression.immediates.declared.frames.FrameKind.{FrameKind}
-use Rattle.wasm_operator_validator_rules.specs.expression.immediates.declared.frames.FrameKind.TheVariants as frames
-use Rattle.wasm_operator_validator_rules.specs.expression.operator.declared.role.Role.{Role}
-use Rattle.wasm_operator_validator_rules.specs.expression.operator.declared.role.Role.TheVariants.{Opens}
-use Rattle.wasm_operator_validator_rules.specs.expression.operator.Roles.{role_of}
-use Rattle.wasm_operator_validator_rules.specs.expression.operator.Op as op
-use Rattle.wasm_operator_validator_rules.specs.expression.operator.Op.{Op, ParametricTree}
-use Rattle.wasm_operator_validator_rules.specs.expression.Code.{Code, close, plain, nested, turn}
+use Rattle.wasm_operators_enums.specs.declared.control.ControlOperator.{ControlOperator}
+use Rattle.wasm_operators_enums.specs.declared.control.ControlOperator.TheVariants as control
+use Rattle.wasm_operators_enums.specs.declared.memory.MemoryOperator.{MemoryOperator}
+use Rattle.wasm_operators_enums.specs.declared.memory.MemoryOperator.TheVariants as memory
+use Rattle.wasm_operators_enums.specs.declared.bulk.BulkOperator.{BulkOperator}
+use Rattle.wasm_operators_enums.specs.declared.bulk.BulkOperator.TheVariants as bulk
+use Rattle.wasm_operators_immediates.specs.declared.frames.FrameKind.{FrameKind}
+use Rattle.wasm_operators_immediates.specs.declared.frames.FrameKind.TheVariants as frames
+use Rattle.wasm_operators_enums.specs.declared.role.Role.{Role}
+use Rattle.wasm_operators_enums.specs.declared.role.Role.TheVariants.{Opens}
+use Rattle.wasm_operators_enums.specs.Roles.{role_of}
+use Rattle.wasm_operators_enums.specs.Op as op
+use Rattle.wasm_operators_enums.specs.Op.{Op, ParametricTree}
+use Rattle.wasm_operators_encoding.specs.expressions.Code.{Code, close, plain, nested, turn}
 use Rattle.wasm_operator_validator_rules.specs.Operands.{ValueType, Operand}
 use Rattle.wasm_operator_validator_rules.specs.Context.{Context, Module, Table, Initialised, Signature, Frame, written_type, IsTypeIndex}
 use Rattle.wasm_operator_validator_rules.specs.Row.{BulkRow}

@@ -1,9 +1,9 @@
 -- What holds of each configuration that typed code reaches: each label awaits values of some types, and its instructions are
 -- typed over these and the values that are there.
 use Rattle.std.proofs.Common.{◌≡◌, ℕ, zero, suc, List, [], ◌∷◌, ◌++◌, map, Option, Some, None, Bool, false, IsTrue, refl, sym, subst, slice_get, slice_set}
-use Rattle.wasm_operator_validator_rules.specs.expression.immediates.declared.frames.FrameKind.{FrameKind}
-use Rattle.wasm_operator_validator_rules.specs.expression.immediates.declared.frames.FrameKind.TheVariants as frames
-use Rattle.wasm_operator_validator_rules.specs.expression.Code.{IsIn}
+use Rattle.wasm_operators_immediates.specs.declared.frames.FrameKind.{FrameKind}
+use Rattle.wasm_operators_immediates.specs.declared.frames.FrameKind.TheVariants as frames
+use Rattle.wasm_operators_encoding.specs.expressions.Code.{IsIn}
 use Rattle.wasm_operator_validator_rules.specs.Operands.{ValueType, Operand, AllBelow, all_known, stack}
 use Rattle.wasm_operator_validator_rules.specs.Context.{Context, Initialised, Signature, Frame}
 use Rattle.wasm_operator_validator_rules.specs.Typed.{Typed}

@@ -1,12 +1,12 @@
 -- The second part of an `if`.
 use Rattle.std.proofs.Common.{◌≡◌, List, ◌++◌, Some, sym, subst}
-use Rattle.wasm_operator_validator_rules.specs.expression.immediates.declared.frames.FrameKind.{FrameKind}
-use Rattle.wasm_operator_validator_rules.specs.expression.immediates.declared.frames.FrameKind.TheVariants as frames
-use Rattle.wasm_operator_validator_rules.specs.expression.groups.declared.control.ControlOperator.TheVariants as control
-use Rattle.wasm_operator_validator_rules.specs.expression.operator.declared.role.Effect.TheVariants as effects
-use Rattle.wasm_operator_validator_rules.specs.expression.operator.Roles.{role_of, effect}
-use Rattle.wasm_operator_validator_rules.specs.expression.operator.Op as op
-use Rattle.wasm_operator_validator_rules.specs.expression.Code.{Code, close, plain, nested, turn, IsIn}
+use Rattle.wasm_operators_immediates.specs.declared.frames.FrameKind.{FrameKind}
+use Rattle.wasm_operators_immediates.specs.declared.frames.FrameKind.TheVariants as frames
+use Rattle.wasm_operators_enums.specs.declared.control.ControlOperator.TheVariants as control
+use Rattle.wasm_operators_enums.specs.declared.role.Effect.TheVariants as effects
+use Rattle.wasm_operators_enums.specs.Roles.{role_of, effect}
+use Rattle.wasm_operators_enums.specs.Op as op
+use Rattle.wasm_operators_encoding.specs.expressions.Code.{Code, close, plain, nested, turn, IsIn}
 use Rattle.wasm_operator_validator_rules.specs.Operands.{ValueType, Operand, stack}
 use Rattle.wasm_operator_validator_rules.specs.Context.{Context, Initialised, Signature}
 use Rattle.wasm_operator_validator_rules.specs.Row.{after}

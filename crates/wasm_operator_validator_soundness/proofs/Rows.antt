@@ -1,7 +1,7 @@
 -- What rows of the table of instruction types take and give, and by what they are answered.
 use Rattle.std.proofs.Common.{◌≡◌, refl, List, length, reverse, Some, sym, ap, subst, ◌∙◌}
 use Rattle.std.proofs.lemmas.List.{length-map}
-use Rattle.wasm_operator_validator_rules.specs.expression.operator.Op.{Op}
+use Rattle.wasm_operators_enums.specs.Op.{Op}
 use Rattle.wasm_operator_validator_rules.specs.Operands.{Operand, known, all_known, stack}
 use Rattle.wasm_operator_validator_rules.specs.Context.{Context}
 use Rattle.wasm_operator_validator_rules.specs.InstructionTypes.{InstructionType, instruction_type}

@@ -4,22 +4,22 @@ use Rattle.std.proofs.Common.{slice_get, slice_set, get_or, if◌then◌else◌,
 use Rattle.wasm_types.specs.trees.Types.{Number, HeapOf, ref, number}
 use Rattle.wasm_types.specs.trees.Trees.{TypeTree}
 use Rattle.wasm_types.specs.trees.Below.{Below, itself}
-use Rattle.wasm_operator_validator_rules.specs.expression.immediates.declared.block.BlockType.{BlockType}
-use Rattle.wasm_operator_validator_rules.specs.expression.immediates.declared.block.BlockType.TheVariants as block
-use Rattle.wasm_operator_validator_rules.specs.expression.immediates.declared.frames.FrameKind.{FrameKind}
-use Rattle.wasm_operator_validator_rules.specs.expression.immediates.declared.frames.FrameKind.TheVariants as frames
-use Rattle.wasm_operator_validator_rules.specs.expression.groups.declared.control.ControlOperator.{ControlOperator}
-use Rattle.wasm_operator_validator_rules.specs.expression.groups.declared.control.ControlOperator.TheVariants as control
-use Rattle.wasm_operator_validator_rules.specs.expression.groups.declared.memory.MemoryOperator.{MemoryOperator}
-use Rattle.wasm_operator_validator_rules.specs.expression.groups.declared.memory.MemoryOperator.TheVariants as memory
-use Rattle.wasm_operator_validator_rules.specs.expression.groups.declared.bulk.BulkOperator.{BulkOperator}
-use Rattle.wasm_operator_validator_rules.specs.expression.groups.declared.bulk.BulkOperator.TheVariants as bulk
-use Rattle.wasm_operator_validator_rules.specs.expression.operator.Op as op
-use Rattle.wasm_operator_validator_rules.specs.expression.operator.Op.{Op, ParametricTree}
-use Rattle.wasm_operator_validator_rules.specs.expression.operator.declared.role.Role.{Role}
-use Rattle.wasm_operator_validator_rules.specs.expression.operator.declared.role.Effect.TheVariants as effects
-use Rattle.wasm_operator_validator_rules.specs.expression.operator.Roles.{role_of, effect}
-use Rattle.wasm_operator_validator_rules.specs.expression.Code.{Code, close, plain, nested, turn, IsIn}
+use Rattle.wasm_operators_immediates.specs.declared.block.BlockType.{BlockType}
+use Rattle.wasm_operators_immediates.specs.declared.block.BlockType.TheVariants as block
+use Rattle.wasm_operators_immediates.specs.declared.frames.FrameKind.{FrameKind}
+use Rattle.wasm_operators_immediates.specs.declared.frames.FrameKind.TheVariants as frames
+use Rattle.wasm_operators_enums.specs.declared.control.ControlOperator.{ControlOperator}
+use Rattle.wasm_operators_enums.specs.declared.control.ControlOperator.TheVariants as control
+use Rattle.wasm_operators_enums.specs.declared.memory.MemoryOperator.{MemoryOperator}
+use Rattle.wasm_operators_enums.specs.declared.memory.MemoryOperator.TheVariants as memory
+use Rattle.wasm_operators_enums.specs.declared.bulk.BulkOperator.{BulkOperator}
+use Rattle.wasm_operators_enums.specs.declared.bulk.BulkOperator.TheVariants as bulk
+use Rattle.wasm_operators_enums.specs.Op as op
+use Rattle.wasm_operators_enums.specs.Op.{Op, ParametricTree}
+use Rattle.wasm_operators_enums.specs.declared.role.Role.{Role}
+use Rattle.wasm_operators_enums.specs.declared.role.Effect.TheVariants as effects
+use Rattle.wasm_operators_enums.specs.Roles.{role_of, effect}
+use Rattle.wasm_operators_encoding.specs.expressions.Code.{Code, close, plain, nested, turn, IsIn}
 use Rattle.wasm_operator_validator_rules.specs.Operands.{ValueType, Operand, bottom, some_reference, known, IsReference, AllBelow, all_known, stack}
 use Rattle.wasm_operator_validator_rules.specs.Context.{Context, Table, Initialised, Signature, Frame, IsFunctionType, IsBlockType, label_of, inside, is_catch, initialised_at_first, address_type}
 use Rattle.wasm_operator_validator_rules.specs.InstructionTypes.{i32_type, shorter}

@@ -1,13 +1,13 @@
 -- The worked answers.
 use Rattle.std.specs.Prelude.{ℤ}
 use Rattle.std.proofs.Common.{◌≡◌, List, [], ◌∷◌, ◌++◌, true, Some, length, reverse, rules, refl, sym, ap, subst, inl, ⊎_elim}
-use Rattle.wasm_types.specs.features.Features.{has}
+use Rattle.wasm_types.specs.settings.Features.{has}
 use Rattle.wasm_types.specs.trees.Types.{Abstract, i32, i64, InnerOf, function, array_of, struct_of, continuation, number, ref, func, nofunc, concrete}
 use Rattle.wasm_types.specs.trees.Trees.{TypeTree, opened}
 use Rattle.wasm_types.specs.trees.AbstractOrder.{AbstractBelow, same, nofunc_func}
 use Rattle.wasm_types.specs.trees.Below.{itself, abstract_above}
-use Rattle.wasm_operator_validator_rules.specs.expression.groups.declared.bulk.BulkOperator.TheVariants as bulk
-use Rattle.wasm_operator_validator_rules.specs.expression.operator.Op as op
+use Rattle.wasm_operators_enums.specs.declared.bulk.BulkOperator.TheVariants as bulk
+use Rattle.wasm_operators_enums.specs.Op as op
 use Rattle.wasm_operator_validator_rules.specs.Operands.{ValueType, Operand, bottom, some_reference, known, IsReference, all_known}
 use Rattle.wasm_operator_validator_rules.specs.Context.{Context, Signature}
 use Rattle.wasm_operator_validator_rules.specs.InstructionTypes.{◌⟶◌, reference_to}

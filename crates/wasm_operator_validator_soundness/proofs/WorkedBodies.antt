@@ -1,10 +1,10 @@
 -- A body that is typed, whose run is worked, and a body that is not.
 use Rattle.std.specs.Prelude.{ℤ}
 use Rattle.std.proofs.Common.{List, [], ◌∷◌, refl, rules}
-use Rattle.wasm_types.specs.features.Features.{has}
+use Rattle.wasm_types.specs.settings.Features.{has}
 use Rattle.wasm_types.specs.trees.Types.{i32, number}
-use Rattle.wasm_operator_validator_rules.specs.expression.immediates.declared.frames.FrameKind.TheVariants as frames
-use Rattle.wasm_operator_validator_rules.specs.expression.Code.{plain}
+use Rattle.wasm_operators_immediates.specs.declared.frames.FrameKind.TheVariants as frames
+use Rattle.wasm_operators_encoding.specs.expressions.Code.{plain}
 use Rattle.wasm_operator_validator_rules.specs.Operands.{Operand, known, AllBelow}
 use Rattle.wasm_operator_validator_rules.specs.Context.{Context, Frame, Initialised, inside, initialised_at_first}
 use Rattle.wasm_operator_validator_rules.specs.InstructionTypes.{◌⟶◌}

@@ -1,13 +1,13 @@
 -- The worked configurations.
 use Rattle.std.specs.Prelude.{ℤ}
 use Rattle.std.proofs.Common.{◌≡◌, List, [], ◌∷◌, length, reverse, false, rules, refl, sym, subst, inl, inr, ⊎_elim}
-use Rattle.wasm_types.specs.features.Features.{has}
+use Rattle.wasm_types.specs.settings.Features.{has}
 use Rattle.wasm_types.specs.trees.Types.{i32, i64, number, extern}
 use Rattle.wasm_types.specs.trees.Trees.{opened}
 use Rattle.wasm_types.specs.trees.AbstractOrder.{same, nofunc_func}
 use Rattle.wasm_types.specs.trees.Below.{Below, itself}
-use Rattle.wasm_operator_validator_rules.specs.expression.groups.declared.bulk.BulkOperator.TheVariants as bulk
-use Rattle.wasm_operator_validator_rules.specs.expression.Code.{plain}
+use Rattle.wasm_operators_enums.specs.declared.bulk.BulkOperator.TheVariants as bulk
+use Rattle.wasm_operators_encoding.specs.expressions.Code.{plain}
 use Rattle.wasm_operator_validator_rules.specs.Operands.{ValueType, Operand, known}
 use Rattle.wasm_operator_validator_rules.specs.Context.{Context, Table}
 use Rattle.wasm_operator_validator_rules.specs.InstructionTypes.{InstructionType, ◌⟶◌}

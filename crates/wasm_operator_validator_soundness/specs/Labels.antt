@@ -2,15 +2,15 @@
 -- instructions): what an operator may branch to. All operators are here, those without a row too, so that a row that comes has
 -- its label already.
 use Rattle.std.specs.Prelude.{ℕ, List, [], ◌∷◌, map, flat_map}
-use Rattle.wasm_operator_validator_rules.specs.expression.immediates.declared.handlers.Catch.{Catch}
-use Rattle.wasm_operator_validator_rules.specs.expression.immediates.declared.handlers.Catch.TheVariants as catch
-use Rattle.wasm_operator_validator_rules.specs.expression.immediates.declared.handlers.Handle.{Handle}
-use Rattle.wasm_operator_validator_rules.specs.expression.immediates.declared.handlers.Handle.TheVariants as handler
-use Rattle.wasm_operator_validator_rules.specs.expression.groups.declared.control.ControlOperator.TheVariants as control
-use Rattle.wasm_operator_validator_rules.specs.expression.groups.declared.gc.GcOperator.TheVariants as gc
-use Rattle.wasm_operator_validator_rules.specs.expression.groups.declared.gc.DescriptorOperator.TheVariants as descriptor
-use Rattle.wasm_operator_validator_rules.specs.expression.operator.Op as op
-use Rattle.wasm_operator_validator_rules.specs.expression.operator.Op.{Op}
+use Rattle.wasm_operators_immediates.specs.declared.handlers.Catch.{Catch}
+use Rattle.wasm_operators_immediates.specs.declared.handlers.Catch.TheVariants as catch
+use Rattle.wasm_operators_immediates.specs.declared.handlers.Handle.{Handle}
+use Rattle.wasm_operators_immediates.specs.declared.handlers.Handle.TheVariants as handler
+use Rattle.wasm_operators_enums.specs.declared.control.ControlOperator.TheVariants as control
+use Rattle.wasm_operators_enums.specs.declared.gc.GcOperator.TheVariants as gc
+use Rattle.wasm_operators_enums.specs.declared.gc.DescriptorOperator.TheVariants as descriptor
+use Rattle.wasm_operators_enums.specs.Op as op
+use Rattle.wasm_operators_enums.specs.Op.{Op}
 
 -- the label of a clause of `try_table`, and those of a handler of continuations
 abbrev pub label_of_clause : Catch → ℕ

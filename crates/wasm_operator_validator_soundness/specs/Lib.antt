@@ -9,3 +9,5 @@ pub mod Beginning
 pub mod worked
 -- Rules: what is accepted as a body is never stuck.
 pub mod accepted
+-- Rules and laws: no run of a valid program is stuck.
+pub mod runs

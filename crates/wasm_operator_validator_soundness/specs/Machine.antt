@@ -14,22 +14,22 @@ use Rattle.wasm_types.specs.trees.Below.{expanded}
 use Rattle.wasm_types.specs.values.declared.value.ValType.{ValType}
 use Rattle.wasm_types.specs.values.declared.value.ValType.TheVariants as value
 use Rattle.wasm_types.specs.values.Values.{value_of}
-use Rattle.wasm_operator_validator_rules.specs.expression.immediates.declared.block.BlockType.{BlockType}
-use Rattle.wasm_operator_validator_rules.specs.expression.immediates.declared.block.BlockType.TheVariants as block
-use Rattle.wasm_operator_validator_rules.specs.expression.immediates.declared.frames.FrameKind.{FrameKind}
-use Rattle.wasm_operator_validator_rules.specs.expression.immediates.declared.frames.FrameKind.TheVariants as frames
-use Rattle.wasm_operator_validator_rules.specs.expression.groups.declared.control.ControlOperator.{ControlOperator}
-use Rattle.wasm_operator_validator_rules.specs.expression.groups.declared.control.ControlOperator.TheVariants as control
-use Rattle.wasm_operator_validator_rules.specs.expression.groups.declared.memory.MemoryOperator.{MemoryOperator}
-use Rattle.wasm_operator_validator_rules.specs.expression.groups.declared.memory.MemoryOperator.TheVariants as memory
-use Rattle.wasm_operator_validator_rules.specs.expression.groups.declared.bulk.BulkOperator.{BulkOperator}
-use Rattle.wasm_operator_validator_rules.specs.expression.groups.declared.bulk.BulkOperator.TheVariants as bulk
-use Rattle.wasm_operator_validator_rules.specs.expression.operator.declared.role.Role.{Role}
-use Rattle.wasm_operator_validator_rules.specs.expression.operator.declared.role.Role.TheVariants.{Opens}
-use Rattle.wasm_operator_validator_rules.specs.expression.operator.Roles.{role_of}
-use Rattle.wasm_operator_validator_rules.specs.expression.operator.Op as op
-use Rattle.wasm_operator_validator_rules.specs.expression.operator.Op.{Op, ParametricTree}
-use Rattle.wasm_operator_validator_rules.specs.expression.Code.{Code, close, plain, nested, turn}
+use Rattle.wasm_operators_immediates.specs.declared.block.BlockType.{BlockType}
+use Rattle.wasm_operators_immediates.specs.declared.block.BlockType.TheVariants as block
+use Rattle.wasm_operators_immediates.specs.declared.frames.FrameKind.{FrameKind}
+use Rattle.wasm_operators_immediates.specs.declared.frames.FrameKind.TheVariants as frames
+use Rattle.wasm_operators_enums.specs.declared.control.ControlOperator.{ControlOperator}
+use Rattle.wasm_operators_enums.specs.declared.control.ControlOperator.TheVariants as control
+use Rattle.wasm_operators_enums.specs.declared.memory.MemoryOperator.{MemoryOperator}
+use Rattle.wasm_operators_enums.specs.declared.memory.MemoryOperator.TheVariants as memory
+use Rattle.wasm_operators_enums.specs.declared.bulk.BulkOperator.{BulkOperator}
+use Rattle.wasm_operators_enums.specs.declared.bulk.BulkOperator.TheVariants as bulk
+use Rattle.wasm_operators_enums.specs.declared.role.Role.{Role}
+use Rattle.wasm_operators_enums.specs.declared.role.Role.TheVariants.{Opens}
+use Rattle.wasm_operators_enums.specs.Roles.{role_of}
+use Rattle.wasm_operators_enums.specs.Op as op
+use Rattle.wasm_operators_enums.specs.Op.{Op, ParametricTree}
+use Rattle.wasm_operators_encoding.specs.expressions.Code.{Code, close, plain, nested, turn}
 use Rattle.wasm_operator_validator_rules.specs.Operands.{ValueType, Operand, known, IsReference, stack}
 use Rattle.wasm_operator_validator_rules.specs.Context.{Context, Table, Initialised, Signature, is_catch, inside, written_type, address_type}
 use Rattle.wasm_operator_validator_rules.specs.InstructionTypes.{i32_type, shorter}

@@ -2,7 +2,7 @@
 -- values of the types that answers are said to have, each configuration that it reaches has what its reduction asks for, and
 -- that reduction leads on, or ends the activation by a trap or by values of the types that the caller was promised.
 use Rattle.std.specs.Prelude.{◌≡◌, ℕ, false, IsTrue, List, [], Option, Some, None, slice_get, ◌⊎◌, ◌∷◌}
-use Rattle.wasm_operator_validator_rules.specs.expression.Code.{Code}
+use Rattle.wasm_operators_encoding.specs.expressions.Code.{Code}
 use Rattle.wasm_operator_validator_rules.specs.Operands.{ValueType, AllBelow, all_known, stack}
 use Rattle.wasm_operator_validator_rules.specs.Context.{Context, initialised_at_first}
 use Rattle.wasm_operator_validator_rules.specs.Typed.{IsBody}

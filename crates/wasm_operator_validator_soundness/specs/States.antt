@@ -1,7 +1,7 @@
 -- The configurations of one activation (WebAssembly 3.0, execution, runtime structure), what a reduction takes from outside, and
 -- what it may come to.
 use Rattle.std.specs.Prelude.{ℕ, Bool, List, [], ◌∷◌, map, Option}
-use Rattle.wasm_operator_validator_rules.specs.expression.Code.{Code}
+use Rattle.wasm_operators_encoding.specs.expressions.Code.{Code}
 use Rattle.wasm_operator_validator_rules.specs.Operands.{ValueType, stack}
 use Rattle.wasm_operator_validator_rules.specs.Context.{Context, Signature}
 use Rattle.wasm_operator_validator_soundness.specs.Values.{Value, AllFit}

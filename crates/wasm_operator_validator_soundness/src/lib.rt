@@ -3,9 +3,14 @@
 //! There is no code here but the laws, each on the contract of a function that does nothing. `specs/` is read in the order of
 //! its `Lib.antt`: values and their types, how instructions run, and what it means that they are never stuck.
 //! [`accepted`] says the same of a body that the validator accepts.
+//!
+//! Its parts beside these:
+//!
+//! - [`runs`]: no run of a valid program is stuck.
 #![tactic(auto)]
 
 pub mod accepted;
+pub mod runs;
 mod worked;
 
 ghost use Rattle.wasm_operator_validator_soundness.specs.Beginning.{CallsMayBegin, NullsAreGiven, NullsAreOne, AnswersExist, TableAnswered};

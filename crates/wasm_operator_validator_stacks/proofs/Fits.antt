@@ -7,7 +7,7 @@ use Rattle.wasm_types.specs.values.declared.value.ValType.TheVariants as vals
 use Rattle.wasm_types.specs.values.Reference.{Reference}
 use Rattle.wasm_types.specs.values.ValueKinds.{is_reference}
 use Rattle.wasm_types.specs.trees.Below.{Below}
-use Rattle.wasm_operator_validator_state.specs.rules.Operands.{known, some_reference, OperandBelow}
+use Rattle.wasm_operator_validator_rules.specs.Operands.{known, some_reference, OperandBelow}
 use Rattle.wasm_operator_validator_state.specs.resources.Meaning.{Meaning, type_in}
 use Rattle.wasm_operator_validator_stacks.specs.Layout.{IsAbstractFit}
 

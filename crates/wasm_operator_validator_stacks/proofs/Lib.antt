@@ -9,3 +9,7 @@ pub mod Peeks
 pub mod Lying
 pub mod Combining
 pub mod Runs
+pub mod Sharing
+pub mod NumberTypes
+-- The parameters of a function as its locals.
+pub mod Params

@@ -1,13 +1,13 @@
 -- More locals at the end, and those again that there were.
 use Rattle.std.proofs.Common.{◌≡◌, ◌∙◌, ◌≤◌, ◌++◌, ◌∷◌, [], ℕ, zero, suc, Bool, true, List, length, replicate, refl, sym, ap, subst, arith}
 use Rattle.std.proofs.lemmas.List.{length-append}
-use Rattle.wasm_types.specs.error.Denials.{Denies}
-use Rattle.wasm_types.specs.error.DenialLaws.{denies_from}
-use Rattle.wasm_types.specs.error.declared.error.ErrorKind.{ErrorKind}
+use Rattle.wasm_types.specs.decoding.Denials.{Denies}
+use Rattle.wasm_types.specs.decoding.DenialLaws.{denies_from}
+use Rattle.wasm_types.specs.decoding.declared.error.ErrorKind.{ErrorKind}
 use Rattle.wasm_types.specs.values.declared.value.ValType.{ValType}
 use Rattle.wasm_types.specs.values.ValueKinds.{is_defaultable_type}
-use Rattle.wasm_operator_validator_state.specs.rules.Operands.{ValueType}
-use Rattle.wasm_operator_validator_state.specs.rules.Context.{IsType}
+use Rattle.wasm_operator_validator_rules.specs.Operands.{ValueType}
+use Rattle.wasm_operator_validator_rules.specs.Context.{IsType}
 use Rattle.wasm_operator_validator_state.specs.resources.Meaning.{Meaning, type_in}
 use Rattle.wasm_operator_validator_stacks.specs.Layout.{first_of, AreFirst}
 use Rattle.wasm_operator_validator_stacks.specs.laws.Written.{is_written}

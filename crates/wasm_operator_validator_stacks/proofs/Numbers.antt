@@ -1,9 +1,9 @@
 -- Types of numbers, which a module may write whatever types it has.
 use Rattle.std.proofs.Common.{◌≡◌, ◌∙◌, ℕ, Bool, true, refl, sym, subst}
-use Rattle.wasm_types.specs.features.Features.{Floats, has}
+use Rattle.wasm_types.specs.settings.Features.{Floats, has}
 use Rattle.wasm_types.specs.values.declared.value.ValType.{ValType}
 use Rattle.wasm_types.specs.values.declared.value.ValType.TheVariants as vals
-use Rattle.wasm_operator_validator_state.specs.rules.Context.{IsType}
+use Rattle.wasm_operator_validator_rules.specs.Context.{IsType}
 use Rattle.wasm_operator_validator_state.specs.resources.Meaning.{Meaning, type_in}
 
 module _ (bits : ℕ) (t : ValType) where

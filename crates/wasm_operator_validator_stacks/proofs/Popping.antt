@@ -1,14 +1,14 @@
 -- Several operands taken off and put on.
 use Rattle.std.proofs.Common.{arith, ◌≡◌, ◌↔◌, ◌<◌, ◌+◌, ◌-◌, ℕ, List, [], ◌∷◌, ◌++◌, Bool, true, false, refl, sym, ◌∙◌, ap, subst, take, length, get_or, slice_get, Result, Ok, Err, Option, Some, None, IsTrue, MatchOption}
 use Rattle.std.proofs.lemmas.List.{reverse-append, map-append, take_more, length_push}
-use Rattle.wasm_types.specs.error.Denials.{Denies}
+use Rattle.wasm_types.specs.decoding.Denials.{Denies}
 use Rattle.wasm_operator_validator_state.specs.Refusals.{Does, kind_of, refused}
 use Rattle.wasm_operator_validator_state.specs.declared.refusal.Refusal.{Refusal}
 use Rattle.wasm_types.specs.values.declared.value.ValType.{ValType}
-use Rattle.wasm_operator_validator_state.specs.rules.Operands.{ValueType, Operand, known, AllBelow, stack}
+use Rattle.wasm_operator_validator_rules.specs.Operands.{ValueType, Operand, known, AllBelow, stack}
 use Rattle.wasm_operator_validator_state.specs.laws.Operands.{operand_refl, all_below_refl, all_below_trans, all_below_under}
 use Rattle.wasm_operator_validator_state.specs.resources.Meaning.{Meaning, type_in}
-use Rattle.wasm_types.specs.error.DenialLaws.{denies_from}
+use Rattle.wasm_types.specs.decoding.DenialLaws.{denies_from}
 use Rattle.wasm_operator_validator_state.specs.declared.operand.MaybeType.{MaybeType}
 use Rattle.wasm_operator_validator_state.specs.declared.operand.MaybeType.TheVariants as maybe
 use Rattle.wasm_operator_validator_state.specs.State.{Open, State, Stands, types_in}

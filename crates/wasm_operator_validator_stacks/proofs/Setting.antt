@@ -5,7 +5,7 @@ use Rattle.std.proofs.lemmas.Bool.{lt-ltb, le-ltb, cases_lt}
 use Rattle.wasm_types.specs.values.declared.value.ValType.{ValType}
 use Rattle.wasm_types.specs.values.declared.value.ValType.TheVariants as vals
 use Rattle.wasm_types.specs.values.ValueKinds.{is_defaultable_type}
-use Rattle.wasm_operator_validator_state.specs.rules.Context.{defaultable, is_defaulted, initialised_at_first}
+use Rattle.wasm_operator_validator_rules.specs.Context.{defaultable, is_defaulted, initialised_at_first}
 use Rattle.wasm_operator_validator_state.specs.resources.Meaning.{Meaning, type_in}
 use Rattle.wasm_operator_validator_locals.specs.inits.Inits.{is_among}
 use Rattle.wasm_operator_validator_state.specs.declared.operand.MaybeType.{MaybeType}

@@ -5,7 +5,7 @@ use Rattle.wasm_types.specs.values.declared.heap.AbstractHeapType.{AbstractHeapT
 use Rattle.wasm_types.specs.values.declared.value.ValType.{ValType}
 use Rattle.wasm_types.specs.values.ValueKinds.{is_defaultable_type}
 use Rattle.wasm_types.specs.values.Trees.{abstract_of}
-use Rattle.wasm_operator_validator_state.specs.rules.Operands.{known, OperandBelow}
+use Rattle.wasm_operator_validator_rules.specs.Operands.{known, OperandBelow}
 use Rattle.wasm_operator_validator_state.specs.resources.Meaning.{Meaning, type_in}
 use Rattle.wasm_operator_validator_state.specs.declared.operand.MaybeType.{MaybeType}
 use Rattle.wasm_operator_validator_state.specs.State.{Given, Open, Saved, State}

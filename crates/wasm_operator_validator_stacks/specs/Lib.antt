@@ -13,10 +13,10 @@ pub mod Running
 pub mod Defining
 -- Laws, with the proofs: what a type that a module writes stands for, and what an attempt leaves.
 pub mod laws
--- The rules and laws of the crates below, under their names: crates above cite them here.
-pub use Rattle.wasm_operator_validator_state.specs.expression as expression
-pub use Rattle.wasm_operator_validator_state.specs.rules as rules
-pub use Rattle.wasm_operator_validator_state.specs.resources as resources
+-- Rules and laws: how a check is proved where the module determines the operator's type, and what checks share.
+pub mod determined
+-- Definitions: where the body of a function begins.
+pub mod Functions
+-- The rules of crates below, under their names: crates above cite them here.
 pub use Rattle.wasm_operator_validator_locals.specs as locals
-pub use Rattle.wasm_operator_validator_locals.specs.inits as inits
-pub use Rattle.wasm_operator_validator_state.specs as state
+pub use Rattle.wasm_operator_validator_state.specs.resources as resources

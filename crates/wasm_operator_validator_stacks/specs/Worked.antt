@@ -1,8 +1,8 @@
 -- Two open frames worked by hand: a loop with one operand over a body with two, one of them unknown.
 use Rattle.std.specs.Prelude.{◌≡◌, true, false, [], ◌∷◌, Some, None}
 use Rattle.wasm_types.specs.values.declared.value.ValType.TheVariants.{I32, I64}
-use Rattle.wasm_operator_validator_state.specs.expression.immediates.declared.block.BlockType.TheVariants as block
-use Rattle.wasm_operator_validator_state.specs.expression.immediates.declared.frames.FrameKind.TheVariants as frames
+use Rattle.wasm_operators_immediates.specs.declared.block.BlockType.TheVariants as block
+use Rattle.wasm_operators_immediates.specs.declared.frames.FrameKind.TheVariants as frames
 use Rattle.wasm_operator_validator_state.specs.declared.operand.MaybeType.TheVariants as maybe
 use Rattle.wasm_operator_validator_state.specs.State.{Open}
 use Rattle.wasm_operator_validator_stacks.specs.Heights.{operands_in, frame_at, known_type}

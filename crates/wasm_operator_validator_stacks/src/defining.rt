@@ -1,9 +1,9 @@
 //! Locals that a body declares.
 
 ghost use Rattle.std.specs.Prelude.{◌≡◌, ◌<◌, true, false, OnOk, IfErr, MatchResult};
-ghost use Rattle.wasm_types.specs.limits.Limits.{IsWithinCeilings};
-ghost use Rattle.wasm_types.specs.error.Denials.{Denies, RefusedAt};
-ghost use Rattle.wasm_operator_validator_state.specs.rules.Context.{IsType};
+ghost use Rattle.wasm_types.specs.settings.Limits.{IsWithinCeilings};
+ghost use Rattle.wasm_types.specs.decoding.Denials.{Denies, RefusedAt};
+ghost use Rattle.wasm_operator_validator_rules.specs.Context.{IsType};
 ghost use Rattle.wasm_operator_validator_state.specs.resources.Meaning.{Meaning, type_in};
 ghost use Rattle.wasm_operator_validator_stacks.specs.Defining.{with_locals, HasRoomFor, MayWrite, DefinesLocals, RefusesCount, RefusesLocals};
 

@@ -1,7 +1,7 @@
 //! The test at the entry of each operator, and what a refusal leaves.
 
 ghost use Rattle.std.specs.Prelude.{◌≡◌, ◌==◌, true, bit_and, IfErr};
-ghost use Rattle.wasm_operator_validator_state.specs.expression.info.Info.{features_of};
+ghost use Rattle.wasm_operators_immediates.specs.Info.{features_of};
 ghost use Rattle.wasm_operator_validator_state.specs.Refusals.{Does, refused};
 ghost use Rattle.wasm_operator_validator_state.specs.Entering.{MayBegin, StopsWith};
 

@@ -1,9 +1,9 @@
 //! Whether an operand fits a type.
 
 ghost use Rattle.std.specs.Prelude.{◌≡◌, ◌↔◌, IsTrue, true};
-ghost use Rattle.wasm_types.specs.error.declared.error.ErrorKind.TheVariants.{Other};
+ghost use Rattle.wasm_types.specs.decoding.declared.error.ErrorKind.TheVariants.{Other};
 ghost use Rattle.wasm_operator_validator_state.specs.Refusals.{kind_of};
-ghost use Rattle.wasm_operator_validator_state.specs.rules.Operands.{known};
+ghost use Rattle.wasm_operator_validator_rules.specs.Operands.{known};
 ghost use Rattle.wasm_operator_validator_state.specs.resources.Meaning.{type_in};
 ghost use Rattle.wasm_operator_validator_state.specs.State.{Stands};
 ghost use Rattle.wasm_operator_validator_state.specs.declared.operand.MaybeType.{MaybeType};

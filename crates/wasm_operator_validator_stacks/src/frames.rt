@@ -2,7 +2,7 @@
 
 ghost use Rattle.std.specs.Prelude.{◌≡◌, ◌∷◌, ◌<◌, ◌-◌, not, OnOk, IfErr, MatchResult, option_map, slice_get, length};
 ghost use Rattle.wasm_operator_validator_state.specs.resources.Meaning.{Meaning};
-ghost use Rattle.wasm_types.specs.error.Denials.{Denies};
+ghost use Rattle.wasm_types.specs.decoding.Denials.{Denies};
 ghost use Rattle.wasm_operator_validator_state.specs.Refusals.{kind_of};
 ghost use Rattle.wasm_operator_validator_state.specs.State.{Open, initialised};
 ghost use Rattle.wasm_operator_validator_state.specs.Steps.{IsOpen, begun, Leaves, IsBare, with_init};

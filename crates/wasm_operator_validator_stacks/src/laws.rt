@@ -1,8 +1,8 @@
 //! Laws of attempts, on the contract of a function that does nothing.
 
 ghost use Rattle.std.specs.Prelude.{◌≡◌, Option};
-ghost use Rattle.wasm_types.specs.error.declared.error.ErrorKind.{ErrorKind};
-ghost use Rattle.wasm_operator_validator_state.specs.expression.operator.Op.{Op};
+ghost use Rattle.wasm_types.specs.decoding.declared.error.ErrorKind.{ErrorKind};
+ghost use Rattle.wasm_operators_enums.specs.Op.{Op};
 ghost use Rattle.wasm_operator_validator_state.specs.resources.Meaning.{Meaning};
 ghost use Rattle.wasm_operator_validator_state.specs.State.{State, Checks, Visits};
 ghost use Rattle.wasm_operator_validator_stacks.specs.Layout.{none_saved, rolled_back, Begins};

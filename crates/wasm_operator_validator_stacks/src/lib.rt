@@ -2,14 +2,26 @@
 //!
 //! A contract sees the state of `wasm_operator_validator_state`: each open frame with operands of its own. In memory all operands lie
 //! in one place, and a frame knows how many lay below it where it began (`specs/Layout.antt`).
+//!
+//! The validator of a function, as its body begins: [`new_func`]. [`begin_func`] does the same in place of all that a validator knew,
+//! and does not say why it could not.
+//!
+//! `specs/Functions.antt` says what it knows then. From there exactly the operators of well-typed bodies may come
+//! (`bodies_are_accepted` of `wasm_operator_validator_state`).
+//!
+//! Its parts beside these:
+//!
+//! - [`determined`]: how a check is proved where the module determines the operator's type, and what checks share.
 #![tactic(auto)]
 
 mod allocations;
 mod attempts;
 mod defining;
+pub mod determined;
 mod entering;
 mod fitting;
 mod frames;
+mod functions;
 mod heights;
 pub mod laws;
 mod peeking;
@@ -18,6 +30,7 @@ mod validator;
 
 pub use allocations::OperatorValidatorAllocations;
 pub use fitting::{is_abstract_fit, is_fit};
+pub use functions::{begin_func, new_func};
 pub use heights::heights_are_worked;
 pub use running::{Run, RunBody, RunOperands};
 pub use validator::OperatorValidator;

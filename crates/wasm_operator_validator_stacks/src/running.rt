@@ -2,7 +2,7 @@
 
 ghost use Rattle.std.specs.Prelude.{◌≡◌, ◌≤◌, ◌∷◌, [], true, false, length, IfSome};
 ghost use Rattle.wasm_operator_validator_state.specs.resources.Meaning.{Meaning};
-ghost use Rattle.wasm_operator_validator_state.specs.rules.Context.{label_of};
+ghost use Rattle.wasm_operator_validator_rules.specs.Context.{label_of};
 ghost use Rattle.wasm_operator_validator_state.specs.State.{State, signature_of};
 ghost use Rattle.wasm_operator_validator_stacks.specs.Running.{Swaps, Drops, Surrounds, HasLocal, HasBareLabel, Runs, over, own_of};
 

@@ -1,8 +1,8 @@
 //! The stacks of a validator of operators, and what is done to them (WebAssembly 3.0, appendix, validation algorithm).
 
 ghost use Rattle.std.specs.Prelude.{◌≡◌, ◌↔◌, ◌∷◌, [], IsTrue, MatchResult, Some, length, true, false};
-ghost use Rattle.wasm_types.specs.error.Denials.{Denies};
-ghost use Rattle.wasm_operator_validator_state.specs.rules.Operands.{known, stack};
+ghost use Rattle.wasm_types.specs.decoding.Denials.{Denies};
+ghost use Rattle.wasm_operator_validator_rules.specs.Operands.{known, stack};
 ghost use Rattle.wasm_operator_validator_state.specs.declared.operand.MaybeType.TheVariants.{Known};
 ghost use Rattle.wasm_operator_validator_state.specs.resources.Meaning.{Meaning, type_in};
 ghost use Rattle.wasm_operator_validator_state.specs.Refusals.{Does, kind_of, refused};

@@ -1,1 +1,4 @@
 pub mod Noting
+pub mod Signing
+pub mod Naming
+pub mod Each

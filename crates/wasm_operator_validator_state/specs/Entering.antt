@@ -1,11 +1,11 @@
 -- The test at the entry of each operator: nothing was refused before, a frame is open, and the features allow the operator.
 use Rattle.std.specs.Prelude.{◌≡◌, ◌==◌, Bool, false, true, [], IsTrue, ◌⊎◌}
 use Rattle.std.specs.Int.RustNames.{bit_and}
-use Rattle.wasm_types.specs.features.Features.{Floats, mask}
-use Rattle.wasm_types.specs.features.declared.WasmFeatures.{WasmFeatures}
+use Rattle.wasm_types.specs.settings.Features.{Floats, mask}
+use Rattle.wasm_types.specs.settings.declared.WasmFeatures.{WasmFeatures}
 use Rattle.wasm_types.specs.trees.Gates.{Has}
-use Rattle.wasm_operator_validator_resources.specs.expression.info.Info.{features_of}
-use Rattle.wasm_operator_validator_resources.specs.expression.info.declared.proposal.Proposal.{Proposal}
+use Rattle.wasm_operators_immediates.specs.Info.{features_of}
+use Rattle.wasm_operators_immediates.specs.declared.proposal.Proposal.{Proposal}
 use Rattle.wasm_operator_validator_state.specs.declared.refusal.Refusal.{Refusal}
 use Rattle.wasm_operator_validator_state.specs.declared.refusal.Refusal.TheVariants as refusals
 use Rattle.wasm_operator_validator_state.specs.State.{State}

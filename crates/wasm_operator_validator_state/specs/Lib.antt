@@ -12,9 +12,9 @@ pub mod PackedLaws
 pub mod worked
 -- Laws, with the proofs: how a visit's promise follows from its steps. `Rows` there has laws of rows of the rules, and no worked ones.
 pub mod laws
--- The rules and laws of the crates below, under their names: crates above cite them here.
-pub use Rattle.wasm_operator_validator_resources.specs.expression as expression
-pub use Rattle.wasm_operator_validator_resources.specs.rules as rules
-pub use Rattle.wasm_operator_validator_resources.specs as resources
 -- Definitions and worked rows: what an attempt did to the stacks, so that it can be taken back.
 pub mod attempts
+-- Rules and laws: the types of blocks and functions in a module, as slices of what the module has.
+pub mod blocks
+-- The rules of crates below, under their names: crates above cite them here.
+pub use Rattle.wasm_operator_validator_resources.specs as resources

@@ -5,9 +5,14 @@
 //! promise follows from what its steps did.
 //!
 //! [`attempts`] keeps what one attempt did to the stacks, so that it can be taken back.
+//!
+//! Its parts beside these:
+//!
+//! - [`blocks`]: the types of blocks and functions in a module, as slices of what the module has.
 #![tactic(auto)]
 
 pub mod attempts;
+pub mod blocks;
 mod frame;
 pub mod laws;
 mod operand;

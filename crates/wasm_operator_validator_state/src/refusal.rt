@@ -1,7 +1,7 @@
 //! Why an operator is refused, in few bytes.
 
 ghost use Rattle.std.specs.Prelude.{◌≡◌};
-ghost use Rattle.wasm_types.specs.error.declared.error.ErrorKind.TheVariants.{Other};
+ghost use Rattle.wasm_types.specs.decoding.declared.error.ErrorKind.TheVariants.{Other};
 ghost use Rattle.wasm_operator_validator_state.specs.Refusals.{kind_of, OfContent};
 
 use crate::texts::{

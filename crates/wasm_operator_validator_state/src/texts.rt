@@ -1,7 +1,7 @@
 //! The texts of refusals, in the words of `wasmparser`.
 
 ghost use Rattle.std.specs.Prelude.{◌≡◌};
-ghost use Rattle.wasm_types.specs.error.declared.error.ErrorKind.TheVariants.{Other};
+ghost use Rattle.wasm_types.specs.decoding.declared.error.ErrorKind.TheVariants.{Other};
 
 use crate::{MaybeType, Reason, Space, ty_to_str};
 use wasm_types::{AbstractHeapType, Error, HeapType, RefType, ValType, WasmFeatures};

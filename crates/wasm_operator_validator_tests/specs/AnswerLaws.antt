@@ -2,12 +2,12 @@
 use Rattle.std.proofs.Common.{◌≡◌, Option, Some, None, refl, sym, ap, arith, lit<}
 use Rattle.wasm_types.specs.trees.Trees.{TypeTree, opened}
 use Rattle.wasm_types.specs.trees.Below.{expanded}
-use Rattle.wasm_operator_validator_determined.specs.expression.operator.Op as op
-use Rattle.wasm_operator_validator_determined.specs.expression.operator.Op.{Op}
-use Rattle.wasm_operator_validator_determined.specs.resources.Meaning.{type_in}
-use Rattle.wasm_operator_validator_determined.specs.rules.arity.Arity.{Counts}
-use Rattle.wasm_operator_validator_determined.specs.rules.arity.Worked.{splitting, pair}
-use Rattle.wasm_operator_validator_arity.specs.Knowing.{AnswersFor}
+use Rattle.wasm_operators_enums.specs.Op as op
+use Rattle.wasm_operators_enums.specs.Op.{Op}
+use Rattle.wasm_operator_validator_state.specs.resources.Meaning.{type_in}
+use Rattle.wasm_operator_validator_rules.specs.arity.Arity.{Counts}
+use Rattle.wasm_operator_validator_rules.specs.arity.Worked.{splitting, pair}
+use Rattle.wasm_operator_validator_constants.specs.arity.Knowing.{AnswersFor}
 use Rattle.wasm_operator_validator_tests.specs.Answers.{CountsEnd, NamesAnswered, NamesMean, FunctionTypes, KnowsModule, AnswersAreOfTheTable}
 
 pub counts_end : CountsEnd

@@ -1,21 +1,21 @@
 -- What is answered of numbers of operands: they end at 32 bits; a type by its id, or none; and of operators on continuations nothing may be
 -- answered.
 use Rattle.std.specs.Prelude.{◌≡◌, ℕ, Bool, true, false, [], ◌∷◌, Option, Some, None}
-use Rattle.wasm_types.specs.indices.declared.index.UnpackedIndex.{UnpackedIndex}
-use Rattle.wasm_types.specs.indices.declared.index.UnpackedIndex.TheVariants.{Module, RecGroup, Id}
+use Rattle.wasm_types.specs.trees.declared.index.UnpackedIndex.{UnpackedIndex}
+use Rattle.wasm_types.specs.trees.declared.index.UnpackedIndex.TheVariants.{Module, RecGroup, Id}
 use Rattle.wasm_types.specs.trees.Types.{i32, i64, number, ref, abstract, concrete, exact, func, any, none, function}
 use Rattle.wasm_types.specs.values.declared.heap.HeapType.TheVariants as heap
 use Rattle.wasm_types.specs.values.declared.heap.AbstractHeapType.TheVariants as abstract_heap
 use Rattle.wasm_types.specs.values.declared.value.ValType.TheVariants as value_type
-use Rattle.wasm_operator_validator_determined.specs.resources.Meaning.{Meaning, IsKnownIndex, named_type, heap_in, type_in, reference_in, function_in, global_in, table_in, top_heap}
-use Rattle.wasm_operator_validator_determined.specs.resources.Answers.{IsTypeOf}
-use Rattle.wasm_operator_validator_determined.specs.expression.operator.Op as op
-use Rattle.wasm_operator_validator_determined.specs.expression.operator.Op.{Op}
-use Rattle.wasm_operator_validator_determined.specs.expression.immediates.declared.block.BlockType.TheVariants as block
-use Rattle.wasm_operator_validator_determined.specs.expression.immediates.declared.frames.FrameKind.TheVariants as frames
-use Rattle.wasm_operator_validator_determined.specs.rules.arity.Arity.{Counts, in_u32}
-use Rattle.wasm_operator_validator_determined.specs.rules.arity.Worked.{small_module, splitting, pair, within}
-use Rattle.wasm_operator_validator_arity.specs.Knowing.{ended, type_by_id, type_of_heap, function_by_id, known_by, AnswersFor}
+use Rattle.wasm_operator_validator_state.specs.resources.Meaning.{Meaning, IsKnownIndex, named_type, heap_in, type_in, reference_in, function_in, global_in, table_in, top_heap}
+use Rattle.wasm_operator_validator_state.specs.resources.Answers.{IsTypeOf}
+use Rattle.wasm_operators_enums.specs.Op as op
+use Rattle.wasm_operators_enums.specs.Op.{Op}
+use Rattle.wasm_operators_immediates.specs.declared.block.BlockType.TheVariants as block
+use Rattle.wasm_operators_immediates.specs.declared.frames.FrameKind.TheVariants as frames
+use Rattle.wasm_operator_validator_rules.specs.arity.Arity.{Counts, in_u32}
+use Rattle.wasm_operator_validator_rules.specs.arity.Worked.{small_module, splitting, pair, within}
+use Rattle.wasm_operator_validator_constants.specs.arity.Knowing.{ended, type_by_id, type_of_heap, function_by_id, known_by, AnswersFor}
 
 -- ---- numbers
 

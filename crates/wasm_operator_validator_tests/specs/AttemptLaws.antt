@@ -1,10 +1,10 @@
 -- The rows of `Attempts`.
 use Rattle.std.proofs.Common.{map, refl, ap, arith, lit<}
 use Rattle.std.specs.declared.alloc.AllocError.{AllocError}
-use Rattle.wasm_operator_validator_determined.specs.state.declared.attempts.log.RollbackLogAllocations.{RollbackLogAllocations}
-use Rattle.wasm_operator_validator_determined.specs.state.attempts.Log.{Stacks, Log, AreCounted, with_operand, with_frame, unreached}
-use Rattle.wasm_operator_validator_determined.specs.state.declared.operand.MaybeType.TheVariants as maybe
-use Rattle.wasm_operator_validator_determined.specs.state.attempts.Worked.{reached_loop}
+use Rattle.wasm_operator_validator_state.specs.declared.attempts.log.RollbackLogAllocations.{RollbackLogAllocations}
+use Rattle.wasm_operator_validator_state.specs.attempts.Log.{Stacks, Log, AreCounted, with_operand, with_frame, unreached}
+use Rattle.wasm_operator_validator_state.specs.declared.operand.MaybeType.TheVariants as maybe
+use Rattle.wasm_operator_validator_state.specs.attempts.Worked.{reached_loop}
 use Rattle.wasm_operator_validator_tests.specs.Attempts.{bare, NotesRows, AttemptsRows}
 
 one_operand : AreCounted (with_operand maybe.Bottom bare)

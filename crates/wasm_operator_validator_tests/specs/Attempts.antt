@@ -1,12 +1,12 @@
 -- What a log of an attempt is told, and whether an attempt is under way.
 use Rattle.std.specs.Prelude.{◌≡◌, ◌≤◌, ◌^◌, true, [], length, Result, Ok, Err}
 use Rattle.std.specs.declared.alloc.AllocError.{AllocError}
-use Rattle.wasm_operator_validator_determined.specs.state.declared.operand.MaybeType.TheVariants as maybe
-use Rattle.wasm_operator_validator_determined.specs.state.declared.attempts.log.RollbackLogAllocations.{RollbackLogAllocations}
-use Rattle.wasm_operator_validator_determined.specs.state.declared.attempts.transaction.Transaction.TheVariants as transaction
-use Rattle.wasm_operator_validator_determined.specs.state.attempts.Log.{Stacks, Log, AreCounted, begun, Notes, with_operand, with_frame, unreached}
-use Rattle.wasm_operator_validator_determined.specs.state.attempts.Transactions.{IsActive, IsInactive, Maps}
-use Rattle.wasm_operator_validator_determined.specs.state.attempts.Worked.{stacks, reached_loop, unreached_loop}
+use Rattle.wasm_operator_validator_state.specs.declared.operand.MaybeType.TheVariants as maybe
+use Rattle.wasm_operator_validator_state.specs.declared.attempts.log.RollbackLogAllocations.{RollbackLogAllocations}
+use Rattle.wasm_operator_validator_state.specs.declared.attempts.transaction.Transaction.TheVariants as transaction
+use Rattle.wasm_operator_validator_state.specs.attempts.Log.{Stacks, Log, AreCounted, begun, Notes, with_operand, with_frame, unreached}
+use Rattle.wasm_operator_validator_state.specs.attempts.Transactions.{IsActive, IsInactive, Maps}
+use Rattle.wasm_operator_validator_state.specs.attempts.Worked.{stacks, reached_loop, unreached_loop}
 
 -- ---- notes
 

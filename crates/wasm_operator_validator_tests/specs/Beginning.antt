@@ -5,15 +5,15 @@ use Rattle.wasm_types.specs.trees.Types.{i32, i64, number}
 use Rattle.wasm_types.specs.trees.Trees.{TypeTree}
 use Rattle.wasm_types.specs.values.declared.value.ValType.{ValType}
 use Rattle.wasm_types.specs.values.declared.value.ValType.TheVariants.{I32, I64}
-use Rattle.wasm_operator_validator_determined.specs.expression.immediates.declared.block.BlockType.TheVariants as block
-use Rattle.wasm_operator_validator_determined.specs.rules.Context.{Signature}
-use Rattle.wasm_operator_validator_determined.specs.resources.Meaning.{Meaning}
-use Rattle.wasm_operator_validator_determined.specs.state.State.{State}
-use Rattle.wasm_operator_validator_determined.specs.state.Bodies.{fresh}
-use Rattle.wasm_operator_validator_determined.specs.stacks.Layout.{none_saved}
-use Rattle.wasm_operator_validator_functions.specs.Functions.{HasFunctionType, MayBegin, Begins}
+use Rattle.wasm_operators_immediates.specs.declared.block.BlockType.TheVariants as block
+use Rattle.wasm_operator_validator_rules.specs.Context.{Signature}
+use Rattle.wasm_operator_validator_state.specs.resources.Meaning.{Meaning}
+use Rattle.wasm_operator_validator_state.specs.State.{State}
+use Rattle.wasm_operator_validator_state.specs.Bodies.{fresh}
+use Rattle.wasm_operator_validator_stacks.specs.Layout.{none_saved}
+use Rattle.wasm_operator_validator_stacks.specs.Functions.{HasFunctionType, MayBegin, Begins}
 use Rattle.wasm_operator_validator_tests.specs.Answers.{listed}
-use Rattle.wasm_operator_validator_determined.specs.rules.arity.Worked.{splitting}
+use Rattle.wasm_operator_validator_rules.specs.arity.Worked.{splitting}
 
 abbrev pub its_signature : Signature
 its_signature = record { params = number i64 ∷ []; results = number i32 ∷ number i32 ∷ [] }

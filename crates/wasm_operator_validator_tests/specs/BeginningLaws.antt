@@ -5,15 +5,15 @@ use Rattle.wasm_types.specs.trees.Trees.{TypeTree, opened}
 use Rattle.wasm_types.specs.trees.Below.{expanded, is_shared}
 use Rattle.wasm_types.specs.values.declared.value.ValType.{ValType}
 use Rattle.wasm_types.specs.values.declared.value.ValType.TheVariants.{I32, I64}
-use Rattle.wasm_operator_validator_determined.specs.expression.immediates.declared.block.BlockType.TheVariants as block
-use Rattle.wasm_operator_validator_determined.specs.rules.Operands.{ValueType}
-use Rattle.wasm_operator_validator_determined.specs.rules.Context.{Signature}
-use Rattle.wasm_operator_validator_determined.specs.resources.Meaning.{Meaning, type_in}
-use Rattle.wasm_operator_validator_determined.specs.state.State.{State, Open, types_in}
-use Rattle.wasm_operator_validator_functions.specs.Functions.{HasFunctionType, Begins}
+use Rattle.wasm_operators_immediates.specs.declared.block.BlockType.TheVariants as block
+use Rattle.wasm_operator_validator_rules.specs.Operands.{ValueType}
+use Rattle.wasm_operator_validator_rules.specs.Context.{Signature}
+use Rattle.wasm_operator_validator_state.specs.resources.Meaning.{Meaning, type_in}
+use Rattle.wasm_operator_validator_state.specs.State.{State, Open, types_in}
+use Rattle.wasm_operator_validator_stacks.specs.Functions.{HasFunctionType, Begins}
 use Rattle.wasm_operator_validator_tests.specs.Answers.{listed}
 use Rattle.wasm_operator_validator_tests.specs.Beginning.{its_signature, begun_with, BeginningRows}
-use Rattle.wasm_operator_validator_determined.specs.rules.arity.Worked.{splitting, pair}
+use Rattle.wasm_operator_validator_rules.specs.arity.Worked.{splitting, pair}
 
 -- the type and the signature at an index are one
 same_params : (m : Meaning) (x : ℕ) (t u : TypeTree) (b c : Signature) → HasFunctionType m x t b → HasFunctionType m x u c → b.params ≡ c.params

@@ -2,8 +2,8 @@
 use Rattle.std.proofs.Common.{refl}
 use Rattle.wasm_types.specs.trees.Trees.{opened}
 use Rattle.wasm_operator_validator_tests.specs.Counts.{ReferencesCounted, AggregatesCounted, DescriptorsCounted, ExceptionsCounted, SharedCounted, ContinuationsCounted}
-use Rattle.wasm_operator_validator_determined.specs.expression.immediates.declared.handlers.Handle.{Handle}
-use Rattle.wasm_operator_validator_determined.specs.expression.immediates.declared.memory.Ordering.{Ordering}
+use Rattle.wasm_operators_immediates.specs.declared.handlers.Handle.{Handle}
+use Rattle.wasm_operators_immediates.specs.declared.memory.Ordering.{Ordering}
 use Rattle.std.specs.Prelude.{ℕ}
 
 pub references_counted : ReferencesCounted

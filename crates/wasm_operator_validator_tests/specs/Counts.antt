@@ -8,17 +8,17 @@ use Rattle.wasm_types.specs.trees.Trees.{TypeTree}
 use Rattle.wasm_types.specs.trees.worked.Types.{alone, declared_entry}
 use Rattle.wasm_types.specs.values.Reference.{Reference}
 use Rattle.wasm_types.specs.values.declared.heap.HeapType.{HeapType}
-use Rattle.wasm_operator_validator_determined.specs.expression.immediates.declared.block.BlockType.TheVariants as block
-use Rattle.wasm_operator_validator_determined.specs.expression.immediates.declared.handlers.Handle.{Handle}
-use Rattle.wasm_operator_validator_determined.specs.expression.immediates.declared.memory.Ordering.{Ordering}
-use Rattle.wasm_operator_validator_determined.specs.expression.groups.declared.control.ControlOperator.TheVariants as control
-use Rattle.wasm_operator_validator_determined.specs.expression.operator.groups.declared.gc.GcOperator.TheVariants as gc
-use Rattle.wasm_operator_validator_determined.specs.expression.operator.groups.declared.gc.DescriptorOperator.TheVariants as descriptor
-use Rattle.wasm_operator_validator_determined.specs.expression.groups.declared.atomic.SharedOperator.TheVariants as shared
-use Rattle.wasm_operator_validator_determined.specs.expression.operator.Op as op
-use Rattle.wasm_operator_validator_determined.specs.expression.operator.Op.{Op}
-use Rattle.wasm_operator_validator_determined.specs.rules.arity.Arity.{Known, Counts, counts_of}
-use Rattle.wasm_operator_validator_determined.specs.rules.arity.Worked.{small_module, splitting, within, counted}
+use Rattle.wasm_operators_immediates.specs.declared.block.BlockType.TheVariants as block
+use Rattle.wasm_operators_immediates.specs.declared.handlers.Handle.{Handle}
+use Rattle.wasm_operators_immediates.specs.declared.memory.Ordering.{Ordering}
+use Rattle.wasm_operators_enums.specs.declared.control.ControlOperator.TheVariants as control
+use Rattle.wasm_operators_enums.specs.declared.gc.GcOperator.TheVariants as gc
+use Rattle.wasm_operators_enums.specs.declared.gc.DescriptorOperator.TheVariants as descriptor
+use Rattle.wasm_operators_enums.specs.declared.atomic.SharedOperator.TheVariants as shared
+use Rattle.wasm_operators_enums.specs.Op as op
+use Rattle.wasm_operators_enums.specs.Op.{Op}
+use Rattle.wasm_operator_validator_rules.specs.arity.Arity.{Known, Counts, counts_of}
+use Rattle.wasm_operator_validator_rules.specs.arity.Worked.{small_module, splitting, within, counted}
 
 -- ---- by references, and aggregates
 

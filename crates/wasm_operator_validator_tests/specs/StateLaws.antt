@@ -1,20 +1,20 @@
 -- The rows of `States`.
 use Rattle.std.proofs.Common.{◌≡◌, ℕ, true, false, List, [], ◌∷◌, Option, Some, None, refl, ap, arith}
-use Rattle.wasm_types.specs.features.declared.WasmFeatures.{WasmFeatures}
-use Rattle.wasm_types.specs.error.declared.error.ErrorKind.{ErrorKind}
-use Rattle.wasm_types.specs.error.declared.error.ErrorKind.TheVariants.{Failed, Other}
-use Rattle.wasm_operator_validator_determined.specs.expression.info.declared.proposal.Proposal.TheVariants.{Mvp}
-use Rattle.wasm_operator_validator_determined.specs.expression.operator.Op.{Op}
-use Rattle.wasm_operator_validator_determined.specs.resources.Meaning.{Meaning, type_in}
-use Rattle.wasm_operator_validator_determined.specs.state.State.{Given, Saved, Accepts, Decides, Checks}
-use Rattle.wasm_operator_validator_determined.specs.state.Entering.{MayBegin}
-use Rattle.wasm_operator_validator_determined.specs.state.worked.Bodies.{end}
-use Rattle.wasm_operator_validator_determined.specs.state.laws.Accepting.{accepts_nothing, accepts_not_failed, ends}
-use Rattle.wasm_operator_validator_determined.specs.state.laws.Checks.{visits_unrefused, visits_refused}
-use Rattle.wasm_operator_validator_determined.specs.state.laws.Entering.{nothing_asked}
-use Rattle.wasm_operator_validator_determined.specs.Operators.{IsPlain}
-use Rattle.wasm_operator_validator_determined.specs.laws.Determined.{by_types, unchanged}
-use Rattle.wasm_operator_validator_determined.specs.laws.Same.{stays_refl}
+use Rattle.wasm_types.specs.settings.declared.WasmFeatures.{WasmFeatures}
+use Rattle.wasm_types.specs.decoding.declared.error.ErrorKind.{ErrorKind}
+use Rattle.wasm_types.specs.decoding.declared.error.ErrorKind.TheVariants.{Failed, Other}
+use Rattle.wasm_operators_immediates.specs.declared.proposal.Proposal.TheVariants.{Mvp}
+use Rattle.wasm_operators_enums.specs.Op.{Op}
+use Rattle.wasm_operator_validator_state.specs.resources.Meaning.{Meaning, type_in}
+use Rattle.wasm_operator_validator_state.specs.State.{Given, Saved, Accepts, Decides, Checks}
+use Rattle.wasm_operator_validator_state.specs.Entering.{MayBegin}
+use Rattle.wasm_operator_validator_state.specs.worked.Bodies.{end}
+use Rattle.wasm_operator_validator_state.specs.laws.Accepting.{accepts_nothing, accepts_not_failed, ends}
+use Rattle.wasm_operator_validator_state.specs.laws.Checks.{visits_unrefused, visits_refused}
+use Rattle.wasm_operator_validator_state.specs.laws.Entering.{nothing_asked}
+use Rattle.wasm_operator_validator_stacks.specs.determined.Operators.{IsPlain}
+use Rattle.wasm_operator_validator_stacks.specs.determined.laws.Determined.{by_types, unchanged}
+use Rattle.wasm_operator_validator_stacks.specs.determined.laws.Same.{stays_refl}
 use Rattle.wasm_operator_validator_tests.specs.States.{RefusalsTold, AnswersDo, KindsOfRefusals, NamesOfTypes, UsesRows, nop, empty, unfinished, failed, ChecksRows, VisitsRows}
 
 -- ---- refusals, and what may be used

@@ -1,23 +1,23 @@
 -- What an answer to an operator says, and what its check and its visit promise: for `nop`, which may come where a body begins, for `end`,
 -- which may not where a result is missing, and where an operator was refused before.
 use Rattle.std.specs.Prelude.{◌≡◌, ℕ, Bool, true, false, [], Some, None, Ok, Err, codes}
-use Rattle.wasm_types.specs.features.declared.WasmFeatures.{WasmFeatures}
-use Rattle.wasm_types.specs.error.declared.error.ErrorKind.TheVariants.{EndOfData, MissingFeature, OutOfMemory, Failed, Other}
+use Rattle.wasm_types.specs.settings.declared.WasmFeatures.{WasmFeatures}
+use Rattle.wasm_types.specs.decoding.declared.error.ErrorKind.TheVariants.{EndOfData, MissingFeature, OutOfMemory, Failed, Other}
 use Rattle.wasm_types.specs.values.declared.value.ValType.TheVariants as value_type
 use Rattle.wasm_types.specs.values.declared.value.ValType.TheVariants.{I32}
 use Rattle.wasm_types.specs.values.declared.heap.HeapType.TheVariants as heap
 use Rattle.wasm_types.specs.values.declared.heap.AbstractHeapType.TheVariants as abstract_heap
-use Rattle.wasm_operator_validator_determined.specs.expression.immediates.declared.block.BlockType.TheVariants as block
-use Rattle.wasm_operator_validator_determined.specs.expression.groups.declared.control.ControlOperator.TheVariants as control
-use Rattle.wasm_operator_validator_determined.specs.expression.operator.Op as op
-use Rattle.wasm_operator_validator_determined.specs.expression.operator.Op.{Op}
-use Rattle.wasm_operator_validator_determined.specs.resources.Meaning.{Meaning}
-use Rattle.wasm_operator_validator_determined.specs.state.declared.refusal.Refusal.TheVariants as refusals
-use Rattle.wasm_operator_validator_determined.specs.state.Refusals.{OfContent, refused, refused_by, Does}
-use Rattle.wasm_operator_validator_determined.specs.state.Names.{type_name}
-use Rattle.wasm_operator_validator_determined.specs.state.State.{State, Checks, Visits}
-use Rattle.wasm_operator_validator_determined.specs.state.worked.Bodies.{body_of, end}
-use Rattle.wasm_operator_validator_determined.specs.Operators.{MayUseIn, IsUsable, IsOfContent, refusal_kind}
+use Rattle.wasm_operators_immediates.specs.declared.block.BlockType.TheVariants as block
+use Rattle.wasm_operators_enums.specs.declared.control.ControlOperator.TheVariants as control
+use Rattle.wasm_operators_enums.specs.Op as op
+use Rattle.wasm_operators_enums.specs.Op.{Op}
+use Rattle.wasm_operator_validator_state.specs.resources.Meaning.{Meaning}
+use Rattle.wasm_operator_validator_state.specs.declared.refusal.Refusal.TheVariants as refusals
+use Rattle.wasm_operator_validator_state.specs.Refusals.{OfContent, refused, refused_by, Does}
+use Rattle.wasm_operator_validator_state.specs.Names.{type_name}
+use Rattle.wasm_operator_validator_state.specs.State.{State, Checks, Visits}
+use Rattle.wasm_operator_validator_state.specs.worked.Bodies.{body_of, end}
+use Rattle.wasm_operator_validator_stacks.specs.determined.Operators.{MayUseIn, IsUsable, IsOfContent, refusal_kind}
 
 -- ---- refusals
 

@@ -1,20 +1,20 @@
 -- The rows of `Steps`.
 use Rattle.std.proofs.Common.{◌≡◌, ◌⊎◌, ◌∙◌, inl, inr, ℕ, Bool, true, false, List, [], ◌∷◌, length, Some, refl, sym, ap, arith, lit<, lit≤}
-use Rattle.wasm_types.specs.features.Features.{Floats, Simd, mask}
+use Rattle.wasm_types.specs.settings.Features.{Floats, Simd, mask}
 use Rattle.wasm_types.specs.trees.Types.{i32, i64, number, function, any, eq, concrete}
 use Rattle.wasm_types.specs.trees.Trees.{TypeTree, opened}
 use Rattle.wasm_types.specs.trees.Below.{expanded}
 use Rattle.wasm_types.specs.trees.AbstractOrder.{AbstractBelow, same, eq_any}
 use Rattle.wasm_types.specs.values.declared.value.ValType.{ValType}
 use Rattle.wasm_types.specs.values.declared.value.ValType.TheVariants.{I32, I64}
-use Rattle.wasm_operator_validator_determined.specs.rules.Operands.{bottom}
-use Rattle.wasm_operator_validator_determined.specs.rules.Context.{Signature}
-use Rattle.wasm_operator_validator_determined.specs.rules.arity.Worked.{splitting, pair}
-use Rattle.wasm_operator_validator_determined.specs.resources.Meaning.{Meaning, type_in}
-use Rattle.wasm_operator_validator_determined.specs.state.declared.operand.MaybeType.{MaybeType}
-use Rattle.wasm_operator_validator_determined.specs.state.declared.operand.MaybeType.TheVariants as maybe
-use Rattle.wasm_operator_validator_determined.specs.state.State.{State}
-use Rattle.wasm_operator_validator_determined.specs.stacks.Running.{Operands}
+use Rattle.wasm_operator_validator_rules.specs.Operands.{bottom}
+use Rattle.wasm_operator_validator_rules.specs.Context.{Signature}
+use Rattle.wasm_operator_validator_rules.specs.arity.Worked.{splitting, pair}
+use Rattle.wasm_operator_validator_state.specs.resources.Meaning.{Meaning, type_in}
+use Rattle.wasm_operator_validator_state.specs.declared.operand.MaybeType.{MaybeType}
+use Rattle.wasm_operator_validator_state.specs.declared.operand.MaybeType.TheVariants as maybe
+use Rattle.wasm_operator_validator_state.specs.State.{State}
+use Rattle.wasm_operator_validator_stacks.specs.Running.{Operands}
 use Rattle.wasm_operator_validator_tests.specs.Answers.{listed}
 use Rattle.wasm_operator_validator_tests.specs.Beginning.{its_signature}
 use Rattle.wasm_operator_validator_tests.specs.Steps.{NamesWritten, StacksChanged, OperandsExchanged, AbstractFits, BeginningsStopped, LocalsDeclared, FunctionsAt}

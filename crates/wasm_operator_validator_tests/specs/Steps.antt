@@ -1,32 +1,32 @@
 -- What names written in code become, what steps over the open frames do, why an operator may not begin, which locals are declared, and
 -- which types are those of functions (WebAssembly 3.0, validation, instructions and functions).
 use Rattle.std.specs.Prelude.{◌≡◌, Bool, true, false, List, [], ◌∷◌, Some, None}
-use Rattle.wasm_types.specs.features.Features.{Floats, Simd, mask}
+use Rattle.wasm_types.specs.settings.Features.{Floats, Simd, mask}
 use Rattle.wasm_types.specs.trees.Types.{i32, i64, number}
-use Rattle.wasm_types.specs.indices.declared.index.UnpackedIndex.{UnpackedIndex}
-use Rattle.wasm_types.specs.indices.declared.index.UnpackedIndex.TheVariants.{Module, RecGroup}
+use Rattle.wasm_types.specs.trees.declared.index.UnpackedIndex.{UnpackedIndex}
+use Rattle.wasm_types.specs.trees.declared.index.UnpackedIndex.TheVariants.{Module, RecGroup}
 use Rattle.wasm_types.specs.values.Reference.{Reference}
 use Rattle.wasm_types.specs.values.declared.heap.HeapType.TheVariants as heap
 use Rattle.wasm_types.specs.values.declared.heap.AbstractHeapType.TheVariants as abstract_heap
 use Rattle.wasm_types.specs.values.declared.value.ValType.TheVariants as value_type
 use Rattle.wasm_types.specs.values.declared.value.ValType.TheVariants.{I32, I64}
-use Rattle.wasm_operator_validator_determined.specs.expression.immediates.declared.block.BlockType.TheVariants as block
-use Rattle.wasm_operator_validator_determined.specs.expression.immediates.declared.frames.FrameKind.TheVariants as frames
-use Rattle.wasm_operator_validator_determined.specs.expression.info.declared.proposal.Proposal.TheVariants as proposal
-use Rattle.wasm_operator_validator_determined.specs.rules.Operands.{known}
-use Rattle.wasm_operator_validator_determined.specs.rules.Context.{label_of}
-use Rattle.wasm_operator_validator_determined.specs.resources.Meaning.{Meaning}
-use Rattle.wasm_operator_validator_determined.specs.resources.Answers.{IsNamedReference, IsWritten}
-use Rattle.wasm_operator_validator_determined.specs.state.declared.operand.MaybeType.{MaybeType}
-use Rattle.wasm_operator_validator_determined.specs.state.declared.operand.MaybeType.TheVariants as maybe
-use Rattle.wasm_operator_validator_determined.specs.state.declared.refusal.Refusal.TheVariants as refusals
-use Rattle.wasm_operator_validator_determined.specs.state.State.{State}
-use Rattle.wasm_operator_validator_determined.specs.state.Steps.{Popped, Jumped}
-use Rattle.wasm_operator_validator_determined.specs.state.Entering.{StopsWith}
-use Rattle.wasm_operator_validator_determined.specs.stacks.Layout.{IsAbstractFit}
-use Rattle.wasm_operator_validator_determined.specs.stacks.Defining.{with_locals, DefinesLocals}
-use Rattle.wasm_operator_validator_determined.specs.stacks.Running.{Operands, Swaps, Drops, over}
-use Rattle.wasm_operator_validator_blocks.specs.Signatures.{IsFunctionAt}
+use Rattle.wasm_operators_immediates.specs.declared.block.BlockType.TheVariants as block
+use Rattle.wasm_operators_immediates.specs.declared.frames.FrameKind.TheVariants as frames
+use Rattle.wasm_operators_immediates.specs.declared.proposal.Proposal.TheVariants as proposal
+use Rattle.wasm_operator_validator_rules.specs.Operands.{known}
+use Rattle.wasm_operator_validator_rules.specs.Context.{label_of}
+use Rattle.wasm_operator_validator_state.specs.resources.Meaning.{Meaning}
+use Rattle.wasm_operator_validator_state.specs.resources.Answers.{IsNamedReference, IsWritten}
+use Rattle.wasm_operator_validator_state.specs.declared.operand.MaybeType.{MaybeType}
+use Rattle.wasm_operator_validator_state.specs.declared.operand.MaybeType.TheVariants as maybe
+use Rattle.wasm_operator_validator_state.specs.declared.refusal.Refusal.TheVariants as refusals
+use Rattle.wasm_operator_validator_state.specs.State.{State}
+use Rattle.wasm_operator_validator_state.specs.Steps.{Popped, Jumped}
+use Rattle.wasm_operator_validator_state.specs.Entering.{StopsWith}
+use Rattle.wasm_operator_validator_stacks.specs.Layout.{IsAbstractFit}
+use Rattle.wasm_operator_validator_stacks.specs.Defining.{with_locals, DefinesLocals}
+use Rattle.wasm_operator_validator_stacks.specs.Running.{Operands, Swaps, Drops, over}
+use Rattle.wasm_operator_validator_state.specs.blocks.Signatures.{IsFunctionAt}
 use Rattle.wasm_operator_validator_tests.specs.Answers.{listed, id}
 use Rattle.wasm_operator_validator_tests.specs.States.{empty, failed}
 use Rattle.wasm_operator_validator_tests.specs.Beginning.{its_signature}

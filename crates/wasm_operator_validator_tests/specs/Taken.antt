@@ -2,11 +2,11 @@
 -- constant begins.
 use Rattle.std.specs.Prelude.{◌≡◌, ℕ, false, List, [], ◌∷◌, None}
 use Rattle.wasm_types.specs.values.declared.value.ValType.{ValType}
-use Rattle.wasm_operator_validator_determined.specs.expression.immediates.declared.block.BlockType.TheVariants as block
-use Rattle.wasm_operator_validator_determined.specs.expression.immediates.declared.frames.FrameKind.TheVariants as frames
-use Rattle.wasm_operator_validator_determined.specs.resources.Meaning.{Meaning}
+use Rattle.wasm_operators_immediates.specs.declared.block.BlockType.TheVariants as block
+use Rattle.wasm_operators_immediates.specs.declared.frames.FrameKind.TheVariants as frames
+use Rattle.wasm_operator_validator_state.specs.resources.Meaning.{Meaning}
 use Rattle.wasm_operator_validator_constants.specs.Beginning.{constant_begins}
-use Rattle.wasm_operator_validator_running.specs.Steps.{TakenAt, AreTaken}
+use Rattle.wasm_operator_validator_constants.specs.straight_line.Steps.{TakenAt, AreTaken}
 use Rattle.wasm_operator_validator_tests.specs.States.{empty, failed}
 
 abbrev pub nops : List ℕ

@@ -1,20 +1,20 @@
 -- The rows of `Taken`.
 use Rattle.std.proofs.Common.{◌≡◌, ◌∙◌, ℕ, true, false, List, [], ◌∷◌, None, refl, sym, ap, arith, lit<}
-use Rattle.wasm_types.specs.limits.Limits.{default_limits}
-use Rattle.wasm_types.specs.limits.Settings.{no_features}
+use Rattle.wasm_types.specs.settings.Limits.{default_limits}
+use Rattle.wasm_types.specs.settings.Settings.{no_features}
 use Rattle.wasm_types.specs.decoding.Decoder.{State as Bytes, Done}
 use Rattle.wasm_types.specs.decoding.ExactLaws.{state_is}
-use Rattle.wasm_operators_visit_operator.specs.operator.declared.role.Role.TheVariants.{Plain}
-use Rattle.wasm_operators_visit_operator.specs.operator.Roles.{role_of}
-use Rattle.wasm_operators_decode_encoding.specs.Opcodes.{opcode}
-use Rattle.wasm_operators_decode_encoding.specs.Groups.{numeric_kinds, simd_numeric_kinds}
-use Rattle.wasm_operators_decode_encoding.specs.Coded.{operator}
-use Rattle.wasm_operators_decode_encoding.specs.Operators.{coded_of}
-use Rattle.wasm_operators_visit_short.proofs.Reading.{told_alone}
-use Rattle.wasm_operator_validator_determined.specs.expression.operator.Op.{Op}
-use Rattle.wasm_operator_validator_determined.specs.resources.Meaning.{Meaning}
-use Rattle.wasm_operator_validator_determined.specs.state.State.{State, Visits}
-use Rattle.wasm_operator_validator_running.specs.Steps.{IsTaken, TakenAt}
+use Rattle.wasm_operators_enums.specs.declared.role.Role.TheVariants.{Plain}
+use Rattle.wasm_operators_enums.specs.Roles.{role_of}
+use Rattle.wasm_operators_encoding.specs.Opcodes.{opcode}
+use Rattle.wasm_operators_encoding.specs.Groups.{numeric_kinds, simd_numeric_kinds}
+use Rattle.wasm_operators_encoding.specs.Coded.{operator}
+use Rattle.wasm_operators_encoding.specs.Operators.{coded_of}
+use Rattle.wasm_operators_frequent.proofs.ShortReading.{told_alone}
+use Rattle.wasm_operators_enums.specs.Op.{Op}
+use Rattle.wasm_operator_validator_state.specs.resources.Meaning.{Meaning}
+use Rattle.wasm_operator_validator_state.specs.State.{State, Visits}
+use Rattle.wasm_operator_validator_constants.specs.straight_line.Steps.{IsTaken, TakenAt}
 use Rattle.wasm_operator_validator_tests.specs.States.{nop, empty, failed}
 use Rattle.wasm_operator_validator_tests.specs.StateLaws.{visits_rows}
 use Rattle.wasm_operator_validator_tests.specs.Taken.{nops, TakenRows, ConstantsBegin}

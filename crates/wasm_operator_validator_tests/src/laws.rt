@@ -2,11 +2,11 @@
 
 ghost use Rattle.std.specs.Prelude.{ℕ};
 ghost use Rattle.std.specs.declared.alloc.AllocError.{AllocError};
-ghost use Rattle.wasm_types.specs.features.declared.WasmFeatures.{WasmFeatures};
-ghost use Rattle.wasm_operator_validator_determined.specs.expression.immediates.declared.handlers.Handle.{Handle};
-ghost use Rattle.wasm_operator_validator_determined.specs.expression.immediates.declared.memory.Ordering.{Ordering};
-ghost use Rattle.wasm_operator_validator_determined.specs.resources.Meaning.{Meaning};
-ghost use Rattle.wasm_operator_validator_determined.specs.state.declared.attempts.log.RollbackLogAllocations.{RollbackLogAllocations};
+ghost use Rattle.wasm_types.specs.settings.declared.WasmFeatures.{WasmFeatures};
+ghost use Rattle.wasm_operators_immediates.specs.declared.handlers.Handle.{Handle};
+ghost use Rattle.wasm_operators_immediates.specs.declared.memory.Ordering.{Ordering};
+ghost use Rattle.wasm_operator_validator_state.specs.resources.Meaning.{Meaning};
+ghost use Rattle.wasm_operator_validator_state.specs.declared.attempts.log.RollbackLogAllocations.{RollbackLogAllocations};
 ghost use Rattle.wasm_operator_validator_tests.specs.Counts.{ReferencesCounted, AggregatesCounted, DescriptorsCounted, ExceptionsCounted, SharedCounted, ContinuationsCounted};
 ghost use Rattle.wasm_operator_validator_tests.specs.Answers.{CountsEnd, NamesAnswered, NamesMean, FunctionTypes, KnowsModule, AnswersAreOfTheTable};
 ghost use Rattle.wasm_operator_validator_tests.specs.States.{RefusalsTold, AnswersDo, KindsOfRefusals, NamesOfTypes, UsesRows, ChecksRows, VisitsRows};

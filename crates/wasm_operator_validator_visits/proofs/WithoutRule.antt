@@ -1,28 +1,28 @@
 -- Operators of these groups have no rule.
 use Rattle.std.proofs.Common.{◌≡◌, true, false, List, [], ◌∷◌, Option, Some, None, refl}
-use Rattle.wasm_types.specs.error.declared.error.ErrorKind.{ErrorKind}
-use Rattle.wasm_types.specs.error.DenialLaws.{denies}
-use Rattle.wasm_operator_validator_control.specs.expression.info.declared.proposal.Proposal.{Proposal}
-use Rattle.wasm_operator_validator_control.specs.expression.operator.Op.{Op, ContinuationTree}
-use Rattle.wasm_operator_validator_control.specs.expression.operator.Op as op
-use Rattle.wasm_operator_validator_control.specs.expression.operator.Table.{info_of}
-use Rattle.wasm_operator_validator_control.specs.expression.operator.declared.role.Role.TheVariants as role
-use Rattle.wasm_operator_validator_control.specs.expression.operator.Roles.{role_of}
-use Rattle.wasm_operators_visit.specs.groups.declared.gc.DescriptorOperator.{DescriptorOperator}
-use Rattle.wasm_operators_visit.specs.groups.declared.atomic.SharedOperator.{SharedOperator}
-use Rattle.wasm_operator_validator_control.specs.rules.Operands.{Operand}
-use Rattle.wasm_operator_validator_control.specs.rules.Context.{Context, Initialised}
-use Rattle.wasm_operator_validator_control.specs.rules.InstructionTypes.{instruction_type}
-use Rattle.wasm_operator_validator_control.specs.rules.Row.{TableRow, GroupRow}
-use Rattle.wasm_operator_validator_control.specs.resources.Meaning.{Meaning}
-use Rattle.wasm_operator_validator_control.specs.state.State.{Open, State, Accepts, Checks, Visits}
-use Rattle.wasm_operator_validator_control.specs.state.Steps.{IsOpen}
-use Rattle.wasm_operator_validator_control.specs.state.Refusals.{kind_of}
-use Rattle.wasm_operator_validator_control.specs.state.declared.refusal.Refusal.{Refusal}
-use Rattle.wasm_operator_validator_control.specs.state.Entering.{MayBegin, StopsWith}
-use Rattle.wasm_operator_validator_control.specs.state.laws.Accepting.{accepts_no_more}
-use Rattle.wasm_operator_validator_control.specs.state.laws.Rows.{by_no_row}
-use Rattle.wasm_operator_validator_control.specs.state.laws.Checks.{checks_going, stopped_so, visits_refused}
+use Rattle.wasm_types.specs.decoding.declared.error.ErrorKind.{ErrorKind}
+use Rattle.wasm_types.specs.decoding.DenialLaws.{denies}
+use Rattle.wasm_operators_immediates.specs.declared.proposal.Proposal.{Proposal}
+use Rattle.wasm_operators_enums.specs.Op.{Op, ContinuationTree}
+use Rattle.wasm_operators_enums.specs.Op as op
+use Rattle.wasm_operators_enums.specs.Table.{info_of}
+use Rattle.wasm_operators_enums.specs.declared.role.Role.TheVariants as role
+use Rattle.wasm_operators_enums.specs.Roles.{role_of}
+use Rattle.wasm_operators_enums.specs.declared.gc.DescriptorOperator.{DescriptorOperator}
+use Rattle.wasm_operators_enums.specs.declared.atomic.SharedOperator.{SharedOperator}
+use Rattle.wasm_operator_validator_rules.specs.Operands.{Operand}
+use Rattle.wasm_operator_validator_rules.specs.Context.{Context, Initialised}
+use Rattle.wasm_operator_validator_rules.specs.InstructionTypes.{instruction_type}
+use Rattle.wasm_operator_validator_rules.specs.Row.{TableRow, GroupRow}
+use Rattle.wasm_operator_validator_arity.specs.resources.Meaning.{Meaning}
+use Rattle.wasm_operator_validator_state.specs.State.{Open, State, Accepts, Checks, Visits}
+use Rattle.wasm_operator_validator_state.specs.Steps.{IsOpen}
+use Rattle.wasm_operator_validator_state.specs.Refusals.{kind_of}
+use Rattle.wasm_operator_validator_state.specs.declared.refusal.Refusal.{Refusal}
+use Rattle.wasm_operator_validator_state.specs.Entering.{MayBegin, StopsWith}
+use Rattle.wasm_operator_validator_state.specs.laws.Accepting.{accepts_no_more}
+use Rattle.wasm_operator_validator_state.specs.laws.Rows.{by_no_row}
+use Rattle.wasm_operator_validator_state.specs.laws.Checks.{checks_going, stopped_so, visits_refused}
 use Rattle.wasm_operator_validator_visits.specs.Unsupported.{IsWithoutRule}
 
 -- ---- operators that neither open nor end a frame, and have no row

@@ -1,17 +1,17 @@
 //! Visits of accesses to memories, by what they do.
 
 ghost use Rattle.std.specs.Prelude.{◌≡◌};
-ghost use Rattle.wasm_operators_visit.specs.operator.Op.{Op};
-ghost use Rattle.wasm_operator_validator_control.specs.rules.Accesses.{load, store, modify, compare_exchange, wait};
-ghost use Rattle.wasm_operator_validator_atomics.specs.memory.Reaching.{IsAccess};
-ghost use Rattle.wasm_operator_validator_atomics.specs.Atomics.{IsAtomic};
+ghost use Rattle.wasm_operators_enums.specs.Op.{Op};
+ghost use Rattle.wasm_operator_validator_rules.specs.Accesses.{load, store, modify, compare_exchange, wait};
+ghost use Rattle.wasm_operator_validator_memory.specs.Reaching.{IsAccess};
+ghost use Rattle.wasm_operator_validator_memory.specs.atomics.Atomics.{IsAtomic};
 
 use crate::{AnswerAs, ValidatingVisitor};
-use wasm_operator_validator_atomics::{
+use wasm_operator_validator_control::{MemArg, MemoryOperator, WasmModuleResources};
+use wasm_operator_validator_memory::atomics::{
     check_atomic_compare_exchange, check_atomic_load, check_atomic_modify, check_atomic_store,
     check_atomic_wait, check_load, check_store,
 };
-use wasm_operator_validator_control::{MemArg, MemoryOperator, WasmModuleResources};
 use wasm_operators_visit::AtomicOperator;
 use wasm_types::ValType;
 

@@ -1,11 +1,11 @@
 //! How a visit answers: by a refusal in few bytes, or by an error.
 
 ghost use Rattle.std.specs.Prelude.{◌≡◌, Some};
-ghost use Rattle.wasm_types.specs.error.declared.error.ErrorKind.TheVariants.{Other};
-ghost use Rattle.wasm_operators_visit.specs.operator.Op.{Op};
-ghost use Rattle.wasm_operator_validator_control.specs.resources.Meaning.{Meaning};
-ghost use Rattle.wasm_operator_validator_control.specs.state.Refusals.{refused};
-ghost use Rattle.wasm_operator_validator_control.specs.state.State.{State, Visits};
+ghost use Rattle.wasm_types.specs.decoding.declared.error.ErrorKind.TheVariants.{Other};
+ghost use Rattle.wasm_operators_enums.specs.Op.{Op};
+ghost use Rattle.wasm_operator_validator_arity.specs.resources.Meaning.{Meaning};
+ghost use Rattle.wasm_operator_validator_state.specs.Refusals.{refused};
+ghost use Rattle.wasm_operator_validator_state.specs.State.{State, Visits};
 ghost use Rattle.wasm_operator_validator_visits.specs.Told.{Tells};
 
 use wasm_operator_validator_control::{Reason, Refusal};

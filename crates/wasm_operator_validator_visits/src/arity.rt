@@ -1,7 +1,7 @@
 //! The visitor that validates knows its module and its frames.
 
 ghost use Rattle.std.specs.Prelude.{map};
-ghost use Rattle.wasm_operator_validator_control.specs.resources.Meaning.{Meaning};
+ghost use Rattle.wasm_operator_validator_arity.specs.resources.Meaning.{Meaning};
 
 use crate::{AnswerAs, ValidatingVisitor};
 use wasm_operator_validator_arity::{

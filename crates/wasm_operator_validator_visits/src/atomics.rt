@@ -1,8 +1,8 @@
 //! Visits of atomic accesses to memories.
 
 use crate::{AnswerAs, ValidatingVisitor};
-use wasm_operator_validator_atomics::{check_atomic_fence, check_atomic_notify};
 use wasm_operator_validator_control::{MemArg, WasmModuleResources};
+use wasm_operator_validator_memory::atomics::{check_atomic_fence, check_atomic_notify};
 use wasm_operators_visit::AtomicOperator;
 use wasm_operators_visit_operator::VisitAtomic;
 use wasm_types::ValType;

@@ -1,18 +1,18 @@
 //! Visits of constants, variables, memories, tables and references.
 
 use crate::{AnswerAs, ValidatingVisitor};
-use wasm_operator_validator_atomics::{
+use wasm_operator_validator_control::{ConstOperator, MemArg, MemoryOperator, WasmModuleResources};
+use wasm_operator_validator_memory::atomics::{
     check_data_drop, check_memory_copy, check_memory_discard, check_memory_fill, check_memory_grow,
     check_memory_init, check_memory_size,
 };
-use wasm_operator_validator_control::{ConstOperator, MemArg, MemoryOperator, WasmModuleResources};
-use wasm_operator_validator_determined::numbers::check_constant;
 use wasm_operator_validator_memory::{
     check_elem_drop, check_global_get, check_global_set, check_local_get, check_local_set,
     check_local_tee, check_ref_func, check_ref_is_null, check_ref_null, check_table_copy,
     check_table_fill, check_table_get, check_table_grow, check_table_init, check_table_set,
     check_table_size,
 };
+use wasm_operator_validator_stacks::determined::numbers::check_constant;
 use wasm_operators_visit_operator::VisitMemory;
 use wasm_types::{HeapType, Ieee32, Ieee64, ValType};
 

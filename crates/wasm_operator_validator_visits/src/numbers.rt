@@ -1,13 +1,13 @@
 //! Visits of operators on numbers, by what they take and give.
 
 ghost use Rattle.std.specs.Prelude.{◌≡◌, ◌∷◌, [], true, false};
-ghost use Rattle.wasm_operator_validator_control.specs.expression.info.declared.proposal.Proposal.TheVariants.{Mvp};
-ghost use Rattle.wasm_operators_visit.specs.operator.Op.{Op};
-ghost use Rattle.wasm_operator_validator_determined.specs.numbers.Numbers.{IsNumeric};
+ghost use Rattle.wasm_operators_immediates.specs.declared.proposal.Proposal.TheVariants.{Mvp};
+ghost use Rattle.wasm_operators_enums.specs.Op.{Op};
+ghost use Rattle.wasm_operator_validator_stacks.specs.determined.numbers.Numbers.{IsNumeric};
 
 use crate::{AnswerAs, ValidatingVisitor};
 use wasm_operator_validator_control::{Proposal, WasmModuleResources, copied};
-use wasm_operator_validator_determined::numbers::{check_numbers, check_two};
+use wasm_operator_validator_stacks::determined::numbers::{check_numbers, check_two};
 use wasm_operators_visit::NumericOperator;
 use wasm_types::ValType;
 

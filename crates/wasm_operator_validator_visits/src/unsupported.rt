@@ -1,7 +1,7 @@
 //! Operators that have no rule yet are refused.
 
 ghost use Rattle.std.specs.Prelude.{◌≡◌};
-ghost use Rattle.wasm_operators_visit.specs.operator.Op.{Op, continuation_of};
+ghost use Rattle.wasm_operators_enums.specs.Op.{Op, continuation_of};
 ghost use Rattle.wasm_operator_validator_visits.specs.Unsupported.{IsWithoutRule};
 
 use crate::{AnswerAs, ValidatingVisitor};

@@ -1,9 +1,9 @@
 //! The visitor that validates.
 
 ghost use Rattle.std.specs.Prelude.{◌≡◌};
-ghost use Rattle.wasm_operators_visit.specs.operator.Op.{Op};
-ghost use Rattle.wasm_operator_validator_control.specs.state.State.{Checks, State};
-ghost use Rattle.wasm_operator_validator_control.specs.state.Refusals.{refused};
+ghost use Rattle.wasm_operators_enums.specs.Op.{Op};
+ghost use Rattle.wasm_operator_validator_state.specs.State.{Checks, State};
+ghost use Rattle.wasm_operator_validator_state.specs.Refusals.{refused};
 
 use crate::answer::{AnswerAs, AsError};
 use wasm_operator_validator_control::{OperatorValidator, Refusal, WasmModuleResources};

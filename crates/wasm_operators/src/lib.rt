@@ -13,22 +13,41 @@
 //! has one.
 //!
 //! This crate has no code of its own. The rules stand in the crates below: the tables of opcodes and of immediates in
-//! `wasm_operators_operator`, which bytes spell an operator in `wasm_operators_decode_encoding`, and which spell an
-//! expression in `wasm_operators_expression`.
+//! `wasm_operators_enums`, which bytes spell an operator in `wasm_operators_encoding`, and which spell an
+//! expression in `wasm_operators_encoding::expressions`.
+//!
+//! Operators that are visited as they are read.
+//!
+//! By [`ReadToVisitor`] and [`ReadToSimdVisitor`] one operator is read and visited, where the visitor knows which frames are open
+//! (`FrameStack`); by [`VisitNext`] and [`VisitNextSimd`] a reader of operators does the same. [`visit_expression`] visits the operators
+//! of an expression, exactly if all the bytes spell one without vectors. They stand on what `wasm_operators_reader::walks` reads, and
+//! pass it on.
 #![tactic(auto)]
 
+mod expressions;
+mod read_operators;
+mod telling;
+mod visits;
+
+pub use expressions::{visit_expression, visit_expression_with_offset};
+pub use read_operators::{ReadToSimdVisitor, ReadToVisitor};
+pub use telling::{TellSimdOperator, tell_operator_in_frame_simd, tell_operator_simd};
+pub use visits::{VisitNext, VisitNextSimd};
 pub use wasm_operators_bodies::{ConstExpr, FunctionBody, LocalsIterator, LocalsReader};
-pub use wasm_operators_visiting::{
+pub use wasm_operators_frequent::reading::LentVisitor;
+pub use wasm_operators_reader::walks::{
+    ReadOperators, laws, tell_expression_with_offset, tells_whole,
+};
+pub use wasm_operators_reader::{
     AtomicOperator, BlockType, BrTable, BrTableTargets, BulkOperator, Catch, ConstOperator,
     ContinuationOperator, ControlOperator, ControlStack, DescriptorOperator, ExceptionOperator,
-    FrameKind, FrameStack, GcOperator, Handle, LentVisitor, MemArg, MemArgOrdering, MemArgTarget,
+    FrameKind, FrameStack, GcOperator, Handle, MemArg, MemArgOrdering, MemArgTarget,
     MemoryOperator, NumericOperator, Operator, OperatorInfo, OperatorsIterator,
     OperatorsIteratorWithOffsets, OperatorsReader, OperatorsReaderAllocations, Ordering,
-    ParametricOperator, Proposal, ReadOperators, ReadToSimdVisitor, ReadToVisitor, ResumeTable,
-    SharedOperator, SimdNumericOperator, SimdOperator, TellOperator, TellPlain, TellSimdOperator,
-    TryTable, V128, VisitAtomic, VisitControl, VisitFloats, VisitGc, VisitIntegers, VisitMemory,
-    VisitNext, VisitNextSimd, VisitOperator, VisitShared, VisitSimd, VisitSimdFloats,
-    VisitSimdNarrow, VisitSimdOperator, VisitSimdWide, Visitor, is_simd, read_expression,
-    tell_expression_with_offset, tell_operator_in_frame_simd, tell_operator_simd, visit_expression,
-    visit_expression_with_offset,
+    ParametricOperator, Proposal, ResumeTable, SharedOperator, SimdNumericOperator, SimdOperator,
+    TellOperator, TellPlain, TryTable, V128, Visitor, is_simd, read_expression,
+};
+pub use wasm_operators_visit_simd_operator::{
+    VisitAtomic, VisitControl, VisitFloats, VisitGc, VisitIntegers, VisitMemory, VisitOperator,
+    VisitShared, VisitSimd, VisitSimdFloats, VisitSimdNarrow, VisitSimdOperator, VisitSimdWide,
 };

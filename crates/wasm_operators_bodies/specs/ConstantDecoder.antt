@@ -1,15 +1,15 @@
 -- How constant expressions are read (WebAssembly 3.0, binary format, expressions): operators in their frames, up to the first `end`.
 use Rattle.std.specs.Prelude.{◌≡◌, ◌+◌, ℕ, Bool, true, false, List, [], ◌∷◌, Option, Some, None}
-use Rattle.wasm_types.specs.limits.Settings.{Settings}
+use Rattle.wasm_types.specs.settings.Settings.{Settings}
 use Rattle.wasm_types.specs.decoding.declared.Refusal.TheVariants.{Other}
 use Rattle.wasm_types.specs.decoding.Decoder.{Decoder, Grammar, ◌>>=◌, pure, refuse}
 use Rattle.wasm_types.specs.decoding.Lists.{refuse_at}
-use Rattle.wasm_operators_reader.specs.immediates.declared.frames.FrameKind.{FrameKind}
-use Rattle.wasm_operators_reader.specs.immediates.declared.frames.FrameKind.TheVariants.{Block}
-use Rattle.wasm_operators_reader.specs.decode_encoding.Coded.{operator}
-use Rattle.wasm_operators_reader.specs.operator.declared.role.Role.{Role}
-use Rattle.wasm_operators_reader.specs.expression.Frames.{behind}
-use Rattle.wasm_operators_decode_codes.specs.OpcodeRoles.{role_at}
+use Rattle.wasm_operators_immediates.specs.declared.frames.FrameKind.{FrameKind}
+use Rattle.wasm_operators_immediates.specs.declared.frames.FrameKind.TheVariants.{Block}
+use Rattle.wasm_operators_encoding.specs.Coded.{operator}
+use Rattle.wasm_operators_enums.specs.declared.role.Role.{Role}
+use Rattle.wasm_operators_encoding.specs.expressions.Frames.{behind}
+use Rattle.wasm_operators_encoding.specs.codes.OpcodeRoles.{role_at}
 use Rattle.wasm_operators_bodies.specs.Until.{Next, Again, Last, until, taken_by}
 use Rattle.wasm_operators_bodies.specs.Constants.{ends, IsConstantText}
 

@@ -1,27 +1,27 @@
 -- The decoder of constant expressions is lawful and exact, and refuses where reading stops.
 use Rattle.std.proofs.Common.{◌≡◌, ℕ, zero, suc, ◌+◌, ◌<◌, Bool, true, false, List, [], ◌∷◌, ◌++◌, length, Option, Some, None, refl, sym, ◌∙◌, ap, subst, append-nil}
-use Rattle.wasm_types.specs.limits.Settings.{Settings}
+use Rattle.wasm_types.specs.settings.Settings.{Settings}
 use Rattle.wasm_types.specs.decoding.declared.Refusal.TheVariants.{Other}
 use Rattle.wasm_types.specs.decoding.Decoder.{State, Done, Grammar, Then, IsLawful, Decides}
 use Rattle.wasm_types.specs.decoding.Laws.{lawful->>=, lawful-pure, lawful-refuse}
 use Rattle.wasm_types.specs.decoding.ExactLaws.{done_then, decides->>=, decides-same, decides-pure, decides-refuse}
 use Rattle.wasm_types.specs.decoding.ListLaws.{lawful-from_place, decides-from_place, lawful-refuse_at, decides-refuse_at}
-use Rattle.wasm_operators_reader.specs.immediates.declared.frames.FrameKind.{FrameKind}
-use Rattle.wasm_operators_reader.specs.immediates.declared.frames.FrameKind.TheVariants.{Block}
-use Rattle.wasm_operators_reader.specs.operator.Op.{Op}
-use Rattle.wasm_operators_reader.specs.operator.Roles.{role_of}
-use Rattle.wasm_operators_reader.specs.operator.declared.role.Role.{Role}
-use Rattle.wasm_operators_reader.specs.decode_encoding.Coded.{Coded, operator, SpelledCoded}
-use Rattle.wasm_operators_reader.specs.decode_encoding.CodedLaws.{lawful-operator, decides-operator}
-use Rattle.wasm_operators_reader.specs.decode_encoding.Operators.{opcode_of, coded_of, SpelledOperator}
-use Rattle.wasm_operators_reader.specs.decode_encoding.OperatorLaws.{spelled_to, spelled_from}
-use Rattle.wasm_operators_reader.specs.expression.Code.{walk}
-use Rattle.wasm_operators_reader.specs.expression.Frames.{Closes, after, behind}
-use Rattle.wasm_operators_reader.specs.expression.FrameLaws.{closes_step, closes_more}
-use Rattle.wasm_operators_reader.specs.expression.Spelling.{SpelledOperators}
-use Rattle.wasm_operators_decode_codes.specs.OpcodeRoles.{role_at}
-use Rattle.wasm_operators_decode_codes.specs.RoleLaws.{role_of_opcode}
-use Rattle.wasm_operators_decode_codes.specs.CodedOperators.{is_coded}
+use Rattle.wasm_operators_immediates.specs.declared.frames.FrameKind.{FrameKind}
+use Rattle.wasm_operators_immediates.specs.declared.frames.FrameKind.TheVariants.{Block}
+use Rattle.wasm_operators_enums.specs.Op.{Op}
+use Rattle.wasm_operators_enums.specs.Roles.{role_of}
+use Rattle.wasm_operators_enums.specs.declared.role.Role.{Role}
+use Rattle.wasm_operators_encoding.specs.Coded.{Coded, operator, SpelledCoded}
+use Rattle.wasm_operators_encoding.specs.CodedLaws.{lawful-operator, decides-operator}
+use Rattle.wasm_operators_encoding.specs.Operators.{opcode_of, coded_of, SpelledOperator}
+use Rattle.wasm_operators_encoding.specs.OperatorLaws.{spelled_to, spelled_from}
+use Rattle.wasm_operators_encoding.specs.expressions.Code.{walk}
+use Rattle.wasm_operators_encoding.specs.expressions.Frames.{Closes, after, behind}
+use Rattle.wasm_operators_encoding.specs.expressions.FrameLaws.{closes_step, closes_more}
+use Rattle.wasm_operators_encoding.specs.expressions.Spelling.{SpelledOperators}
+use Rattle.wasm_operators_encoding.specs.codes.OpcodeRoles.{role_at}
+use Rattle.wasm_operators_encoding.specs.codes.RoleLaws.{role_of_opcode}
+use Rattle.wasm_operators_encoding.specs.codes.CodedOperators.{is_coded}
 use Rattle.wasm_operators_bodies.specs.Until.{Again, Last, until, taken_by, GoesOn, Steps, Until, TextBy}
 use Rattle.wasm_operators_bodies.specs.UntilLaws.{TakesBytes, lawful-until, decides-until, lawful-taken_by, decides-taken_by}
 use Rattle.wasm_operators_reader.specs.StandingLaws.{fewer_left}

@@ -3,21 +3,21 @@
 use Rattle.std.specs.Cmp.{IsPartialEquivalence, IsEquivalence}
 use Rattle.std.specs.Cmp.Rules.{comparing}
 use Rattle.std.proofs.Common.{◌≡◌, inl, inr, ℕ, ◌+◌, Bool, true, false, List, [], ◌∷◌, ◌++◌, length, refl, sym, ◌∙◌, ap, subst, append-nil, append_assoc, length-append, is_some, arith, rules}
-use Rattle.wasm_types.specs.limits.Settings.{Settings}
+use Rattle.wasm_types.specs.settings.Settings.{Settings}
 use Rattle.wasm_types.specs.decoding.Decoder.{State, Takes}
 use Rattle.wasm_types.specs.decoding.Laws.{takes_none, Takes-then}
 use Rattle.wasm_types.specs.decoding.ExactLaws.{same_state}
-use Rattle.wasm_types.specs.error.ErrorValue.{ErrorValue}
+use Rattle.wasm_types.specs.decoding.ErrorValue.{ErrorValue}
 use Rattle.wasm_types.specs.reader.Reading.{IsNotMemory}
-use Rattle.wasm_operators_reader.specs.immediates.declared.frames.FrameKind.{FrameKind}
-use Rattle.wasm_operators_reader.specs.immediates.declared.frames.FrameKind.TheVariants.{Block}
-use Rattle.wasm_operators_reader.specs.operator.Op.{Op}
-use Rattle.wasm_operators_reader.specs.expression.Code.{walk}
-use Rattle.wasm_operators_reader.specs.expression.Spelling.{SpelledOperators}
-use Rattle.wasm_operators_reader.specs.expression.Frames.{Closes}
-use Rattle.wasm_operators_reader.specs.expression.FrameLaws.{closes_step, closes_more}
-use Rattle.wasm_operators_reader.specs.expression.SpellingLaws.{spelled_read, read_spelled}
-use Rattle.wasm_operators_reader.specs.expression.Stack.{innermost}
+use Rattle.wasm_operators_immediates.specs.declared.frames.FrameKind.{FrameKind}
+use Rattle.wasm_operators_immediates.specs.declared.frames.FrameKind.TheVariants.{Block}
+use Rattle.wasm_operators_enums.specs.Op.{Op}
+use Rattle.wasm_operators_encoding.specs.expressions.Code.{walk}
+use Rattle.wasm_operators_encoding.specs.expressions.Spelling.{SpelledOperators}
+use Rattle.wasm_operators_encoding.specs.expressions.Frames.{Closes}
+use Rattle.wasm_operators_encoding.specs.expressions.FrameLaws.{closes_step, closes_more}
+use Rattle.wasm_operators_encoding.specs.expressions.SpellingLaws.{spelled_read, read_spelled}
+use Rattle.wasm_operators_encoding.specs.expressions.Stack.{innermost}
 use Rattle.wasm_operators_reader.specs.Standing.{Standing, at_start, Reads, Runs}
 use Rattle.wasm_operators_reader.specs.RunLaws.{run_more, closes_at}
 use Rattle.wasm_operators_reader.specs.MeetLaws.{meets_end, meets_refusal}

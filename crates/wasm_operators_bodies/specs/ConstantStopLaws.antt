@@ -1,23 +1,23 @@
 -- Where reading of a constant expression stops, its decoder refuses just so.
 use Rattle.std.proofs.Common.{◌≡◌, inl, inr, ℕ, ◌+◌, ◌-◌, Bool, true, false, List, [], ◌∷◌, Option, Some, None, refl, sym, ◌∙◌, ap, subst, arith}
-use Rattle.wasm_types.specs.limits.Settings.{Settings}
+use Rattle.wasm_types.specs.settings.Settings.{Settings}
 use Rattle.wasm_types.specs.decoding.declared.Refusal.TheVariants as refusals
 use Rattle.wasm_types.specs.decoding.Decoder.{State, Outcome, Done, Fault, Decoder, continue_with, Takes, Reaches}
-use Rattle.wasm_types.specs.error.declared.error.ErrorKind.{ErrorKind}
-use Rattle.wasm_types.specs.error.declared.error.ErrorKind.TheVariants.{EndOfData, MissingFeature, OutOfMemory, Failed, Other}
-use Rattle.wasm_types.specs.error.ErrorValue.{ErrorValue}
+use Rattle.wasm_types.specs.decoding.declared.error.ErrorKind.{ErrorKind}
+use Rattle.wasm_types.specs.decoding.declared.error.ErrorKind.TheVariants.{EndOfData, MissingFeature, OutOfMemory, Failed, Other}
+use Rattle.wasm_types.specs.decoding.ErrorValue.{ErrorValue}
 use Rattle.wasm_types.specs.reader.Reading.{FailsAt, Fails}
 use Rattle.wasm_types.specs.reader.Parts.{part_at}
-use Rattle.wasm_operators_reader.specs.immediates.declared.frames.FrameKind.{FrameKind}
-use Rattle.wasm_operators_reader.specs.immediates.declared.frames.FrameKind.TheVariants.{Block}
-use Rattle.wasm_operators_reader.specs.operator.Op.{Op}
-use Rattle.wasm_operators_reader.specs.operator.declared.role.Role.{Role}
-use Rattle.wasm_operators_reader.specs.decode_encoding.Coded.{Coded, operator}
-use Rattle.wasm_operators_reader.specs.decode_encoding.Operators.{coded_of}
-use Rattle.wasm_operators_reader.specs.expression.Frames.{after}
-use Rattle.wasm_operators_reader.specs.expression.SpellingLaws.{read_spelled}
-use Rattle.wasm_operators_decode_codes.specs.OpcodeRoles.{role_at}
-use Rattle.wasm_operators_decode_codes.specs.RoleLaws.{role_of_opcode}
+use Rattle.wasm_operators_immediates.specs.declared.frames.FrameKind.{FrameKind}
+use Rattle.wasm_operators_immediates.specs.declared.frames.FrameKind.TheVariants.{Block}
+use Rattle.wasm_operators_enums.specs.Op.{Op}
+use Rattle.wasm_operators_enums.specs.declared.role.Role.{Role}
+use Rattle.wasm_operators_encoding.specs.Coded.{Coded, operator}
+use Rattle.wasm_operators_encoding.specs.Operators.{coded_of}
+use Rattle.wasm_operators_encoding.specs.expressions.Frames.{after}
+use Rattle.wasm_operators_encoding.specs.expressions.SpellingLaws.{read_spelled}
+use Rattle.wasm_operators_encoding.specs.codes.OpcodeRoles.{role_at}
+use Rattle.wasm_operators_encoding.specs.codes.RoleLaws.{role_of_opcode}
 use Rattle.wasm_operators_bodies.specs.Until.{Again, go_on, until, taken_by}
 use Rattle.wasm_operators_bodies.specs.UntilLaws.{until_step}
 use Rattle.wasm_operators_reader.specs.Standing.{Standing, at_start, Reads, RefusesIn, Runs}

@@ -3,10 +3,10 @@ use Rattle.std.proofs.Common.{◌≡◌, ℕ, zero, suc, ◌+◌, ◌-◌, ◌<�
 use Rattle.wasm_types.specs.decoding.Decoder.{State, Outcome, Done, Short, Fault, continue_with, ◌>>=◌, pure}
 use Rattle.wasm_types.specs.decoding.ExactLaws.{done_then, value_is, state_is}
 use Rattle.wasm_types.specs.decoding.Leb.{u32}
-use Rattle.wasm_types.specs.limits.Settings.{Settings}
-use Rattle.wasm_types.specs.error.declared.error.ErrorKind.{ErrorKind}
-use Rattle.wasm_types.specs.error.declared.error.ErrorKind.TheVariants.{EndOfData, MissingFeature, OutOfMemory, Failed, Other}
-use Rattle.wasm_types.specs.error.ErrorValue.{ErrorValue}
+use Rattle.wasm_types.specs.settings.Settings.{Settings}
+use Rattle.wasm_types.specs.decoding.declared.error.ErrorKind.{ErrorKind}
+use Rattle.wasm_types.specs.decoding.declared.error.ErrorKind.TheVariants.{EndOfData, MissingFeature, OutOfMemory, Failed, Other}
+use Rattle.wasm_types.specs.decoding.ErrorValue.{ErrorValue}
 use Rattle.wasm_types.specs.reader.Reading.{Fails, FailsAt}
 use Rattle.wasm_types.specs.reader.ReadingLaws.{fails_then}
 use Rattle.wasm_operators_bodies.specs.Locals.{LocalGroup, most_locals, group_within, groups_within, locals}

@@ -16,5 +16,3 @@ pub mod UntilLaws
 pub mod ConstantDecoderLaws
 pub mod ConstantStopLaws
 pub mod ShortLaws
--- The rules and laws of the crate below, under its name: crates above cite them here.
-pub use Rattle.wasm_operators_reader.specs as reader

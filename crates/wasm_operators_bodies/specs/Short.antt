@@ -1,14 +1,14 @@
 -- Constant expressions of one operator (WebAssembly 3.0, validation, instructions, constant expressions).
 use Rattle.std.specs.Prelude.{◌≡◌, ℕ, ℤ, List}
-use Rattle.wasm_types.specs.limits.Settings.{Settings}
-use Rattle.wasm_operators_reader.specs.operator.groups.declared.control.ControlOperator.TheVariants as control
-use Rattle.wasm_operators_reader.specs.operator.groups.declared.constant.ConstOperator.TheVariants as constant
-use Rattle.wasm_operators_reader.specs.operator.groups.declared.memory.MemoryOperator.TheVariants as memory
-use Rattle.wasm_operators_reader.specs.operator.groups.declared.bulk.BulkOperator.TheVariants as bulk
-use Rattle.wasm_operators_reader.specs.operator.Op as op
-use Rattle.wasm_operators_reader.specs.operator.Op.{Op}
-use Rattle.wasm_operators_reader.specs.expression.Code.{Code}
-use Rattle.wasm_operators_reader.specs.expression.Spelling.{SpelledExpression}
+use Rattle.wasm_types.specs.settings.Settings.{Settings}
+use Rattle.wasm_operators_enums.specs.declared.control.ControlOperator.TheVariants as control
+use Rattle.wasm_operators_enums.specs.declared.constant.ConstOperator.TheVariants as constant
+use Rattle.wasm_operators_enums.specs.declared.memory.MemoryOperator.TheVariants as memory
+use Rattle.wasm_operators_enums.specs.declared.bulk.BulkOperator.TheVariants as bulk
+use Rattle.wasm_operators_enums.specs.Op as op
+use Rattle.wasm_operators_enums.specs.Op.{Op}
+use Rattle.wasm_operators_encoding.specs.expressions.Code.{Code}
+use Rattle.wasm_operators_encoding.specs.expressions.Spelling.{SpelledExpression}
 use Rattle.wasm_operators_bodies.specs.declared.short.ShortConstant.{ShortConstant}
 use Rattle.wasm_operators_bodies.specs.declared.short.ShortConstant.TheVariants as short
 

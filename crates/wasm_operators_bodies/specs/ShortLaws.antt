@@ -1,22 +1,22 @@
 -- An operator and the `end` behind it are a constant expression.
 use Rattle.std.proofs.Common.{◌≡◌, ◌∙◌, ℕ, ◌+◌, ◌-◌, ◌<◌, ◌≤◌, List, [], ◌∷◌, ◌++◌, length, take, drop, false, true, IsTrue, Some, refl, sym, ap, subst, arith, append-nil}
 use Rattle.std.proofs.lemmas.List.{append_assoc, length-append, take-append-le, take_all}
-use Rattle.wasm_types.specs.limits.Settings.{Settings}
+use Rattle.wasm_types.specs.settings.Settings.{Settings}
 use Rattle.wasm_types.specs.decoding.Decoder.{State, Takes}
-use Rattle.wasm_types_numbers.specs.Numbers.{behind, GivesAt}
-use Rattle.wasm_operators_reader.specs.immediates.declared.frames.FrameKind.TheVariants.{Block}
-use Rattle.wasm_operators_reader.specs.operator.groups.declared.control.ControlOperator.TheVariants as control
-use Rattle.wasm_operators_reader.specs.operator.Op as op
-use Rattle.wasm_operators_reader.specs.operator.Op.{Op}
-use Rattle.wasm_operators_reader.specs.operator.Immediates.{is_canonical}
-use Rattle.wasm_operators_reader.specs.operator.Roles.{role_of}
-use Rattle.wasm_operators_reader.specs.operator.declared.role.Role.TheVariants.{Plain}
-use Rattle.wasm_operators_reader.specs.decode_encoding.Coded.{operator}
-use Rattle.wasm_operators_reader.specs.decode_encoding.Operators.{coded_of, SpelledOperator}
-use Rattle.wasm_operators_reader.specs.expression.Code.{IsExpression}
-use Rattle.wasm_operators_reader.specs.expression.Spelling.{SpelledExpression}
-use Rattle.wasm_operators_reader.specs.expression.SpellingLaws.{read_spelled}
-use Rattle.wasm_operators_visit_short.specs.Short.{IsTold}
+use Rattle.wasm_types.specs.decoding.Numbers.{behind, GivesAt}
+use Rattle.wasm_operators_immediates.specs.declared.frames.FrameKind.TheVariants.{Block}
+use Rattle.wasm_operators_enums.specs.declared.control.ControlOperator.TheVariants as control
+use Rattle.wasm_operators_enums.specs.Op as op
+use Rattle.wasm_operators_enums.specs.Op.{Op}
+use Rattle.wasm_operators_enums.specs.Immediates.{is_canonical}
+use Rattle.wasm_operators_enums.specs.Roles.{role_of}
+use Rattle.wasm_operators_enums.specs.declared.role.Role.TheVariants.{Plain}
+use Rattle.wasm_operators_encoding.specs.Coded.{operator}
+use Rattle.wasm_operators_encoding.specs.Operators.{coded_of, SpelledOperator}
+use Rattle.wasm_operators_encoding.specs.expressions.Code.{IsExpression}
+use Rattle.wasm_operators_encoding.specs.expressions.Spelling.{SpelledExpression}
+use Rattle.wasm_operators_encoding.specs.expressions.SpellingLaws.{read_spelled}
+use Rattle.wasm_operators_frequent.specs.Short.{IsTold}
 use Rattle.wasm_operators_bodies.specs.declared.short.ShortConstant.{ShortConstant}
 use Rattle.wasm_operators_bodies.specs.declared.short.ShortConstant.TheVariants as short
 use Rattle.wasm_operators_bodies.specs.Constants.{is_end, IsConstantText}

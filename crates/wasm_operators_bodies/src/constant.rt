@@ -2,10 +2,10 @@
 
 ghost use Rattle.std.specs.Prelude.{◌≡◌, ℕ, List, false, true, IfOk, IfErr, IfSome};
 ghost use Rattle.wasm_types.specs.decoding.Decoder.{State, Takes, Reaches};
-ghost use Rattle.wasm_types.specs.error.declared.error.ErrorKind.TheVariants.{Other};
+ghost use Rattle.wasm_types.specs.decoding.declared.error.ErrorKind.TheVariants.{Other};
 ghost use Rattle.wasm_types.specs.reader.Parts.{part_at};
 ghost use Rattle.wasm_types.specs.reader.Reading.{Gives, IsNotMemory, MemoryOnlyIf, NeedsNoMemory};
-ghost use Rattle.wasm_operators_reader.specs.operator.Op.{Op, op_of};
+ghost use Rattle.wasm_operators_enums.specs.Op.{Op, op_of};
 ghost use Rattle.wasm_operators_reader.specs.Standing.{at_start, Reads, Refuses, WantsMemory};
 ghost use Rattle.wasm_operators_bodies.specs.Short.{SpellsShort};
 ghost use Rattle.wasm_operators_bodies.specs.Constants.{is_end, IsConstantText, PassesTo, StopsConstant, same_bytes};

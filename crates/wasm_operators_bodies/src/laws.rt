@@ -2,8 +2,8 @@
 
 ghost use Rattle.std.specs.Prelude.{◌≡◌, ◌↔◌, ◌<◌, ℕ, List, IsTrue};
 ghost use Rattle.wasm_types.specs.decoding.Decoder.{State, Done, IsLawful, Decides};
-ghost use Rattle.wasm_types.specs.limits.Settings.{Settings};
-ghost use Rattle.wasm_types.specs.error.ErrorValue.{ErrorValue};
+ghost use Rattle.wasm_types.specs.settings.Settings.{Settings};
+ghost use Rattle.wasm_types.specs.decoding.ErrorValue.{ErrorValue};
 ghost use Rattle.wasm_types.specs.reader.Reading.{Fails};
 ghost use Rattle.wasm_operators_bodies.specs.Locals.{LocalGroup, SpelledLocals, group_within, locals};
 ghost use Rattle.wasm_operators_bodies.specs.Groups.{LocalsLeft, counted_groups, ReadsGroups};

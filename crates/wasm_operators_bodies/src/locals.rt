@@ -3,7 +3,7 @@
 ghost use Rattle.std.specs.Prelude.{◌≡◌, ◌<◌, List, false, IfOk, IfErr};
 ghost use Rattle.std.specs.Iterator.{at_most};
 ghost use Rattle.wasm_types.specs.decoding.Decoder.{Reaches};
-ghost use Rattle.wasm_types.specs.error.declared.error.ErrorKind.TheVariants.{Other};
+ghost use Rattle.wasm_types.specs.decoding.declared.error.ErrorKind.TheVariants.{Other};
 ghost use Rattle.wasm_types.specs.reader.Reading.{Answers, Collects, Fails, Gives, NeedsNoMemory};
 ghost use Rattle.wasm_operators_reader.specs.Standing.{at_start};
 ghost use Rattle.wasm_operators_bodies.specs.Locals.{LocalGroup, group_of, group_within};

@@ -4,10 +4,10 @@
 //! with no reader of operators; of all others it says nothing.
 
 ghost use Rattle.std.specs.Prelude.{◌≡◌, ◌≤◌, ℕ, length, take, IfSome};
-ghost use Rattle.wasm_operators_visit_short.specs.Short.{Begins, IsTold};
+ghost use Rattle.wasm_operators_frequent.specs.Short.{Begins, IsTold};
 ghost use Rattle.wasm_operators_bodies.specs.Short.{IsOf, SpellsShort};
 
-use wasm_types_numbers::{short_i32_at, short_i64_at, short_u32_at};
+use wasm_types_decoding::{short_i32_at, short_i64_at, short_u32_at};
 
 /// The one operator of a constant expression.
 #[derive(Clone, Copy, Debug)]

@@ -1,10 +1,10 @@
 -- Which operators keep a list in memory, by the kinds of their immediates. Reading any other operator takes no memory.
 use Rattle.std.specs.Prelude.{Bool, true, false, ◌||◌, List, [], ◌∷◌, Option, Some, None}
 use Rattle.wasm_types.specs.decoding.Decoder.{State, Outcome, Done, Short, Fault}
-use Rattle.wasm_operators_decode_encoding.specs.immediates.Kinds as kind
-use Rattle.wasm_operators_decode_encoding.specs.immediates.Kinds.{Kind}
-use Rattle.wasm_operators_decode_encoding.specs.Opcodes.{Opcode, opcode}
-use Rattle.wasm_operators_decode_encoding.specs.Coded.{kinds_at}
+use Rattle.wasm_operators_immediates.specs.Kinds as kind
+use Rattle.wasm_operators_immediates.specs.Kinds.{Kind}
+use Rattle.wasm_operators_encoding.specs.Opcodes.{Opcode, opcode}
+use Rattle.wasm_operators_encoding.specs.Coded.{kinds_at}
 
 -- the kinds that are kept as a list
 abbrev pub is_list : Kind → Bool

@@ -2,26 +2,25 @@
 
 ghost use Rattle.std.specs.Prelude.{◌≡◌, IfOk, IsTrue, false};
 ghost use Rattle.wasm_types.specs.reader.Reading.{Gives, NeedsNoMemory};
-ghost use Rattle.wasm_operators_decode_encoding.specs.operator.Op.{op_of};
-ghost use Rattle.wasm_operators_decode_encoding.specs.operator.Immediates.{is_canonical};
-ghost use Rattle.wasm_operators_decode_encoding.specs.Opcodes.{plain};
-ghost use Rattle.wasm_operators_decode_encoding.specs.Coded.{behind, carried_by, plain_kinds};
-ghost use Rattle.wasm_operators_decode_encoding.specs.Operators.{coded_of};
+ghost use Rattle.wasm_operators_enums.specs.Op.{op_of};
+ghost use Rattle.wasm_operators_enums.specs.Immediates.{is_canonical};
+ghost use Rattle.wasm_operators_encoding.specs.Opcodes.{plain};
+ghost use Rattle.wasm_operators_encoding.specs.Coded.{behind, carried_by, plain_kinds};
+ghost use Rattle.wasm_operators_encoding.specs.Operators.{coded_of};
 ghost use Rattle.wasm_operators_decode.specs.Memory.{keeps_list};
 ghost use Rattle.wasm_operators_decode.specs.Plain.{further_kinds};
 
 use crate::refusal::illegal_opcode;
 use std::alloc::Global;
 use wasm_operators_decode_control::{
-    continuation_shape, control_shape, exception_shape, parametric_shape, read_continuation,
-    read_control, read_exception, read_parametric,
+    continuation_shape, control_shape, exception_shape, gc_plain_of, parametric_shape,
+    read_continuation, read_control, read_exception, read_parametric,
 };
-use wasm_operators_decode_encoding::Operator;
-use wasm_operators_decode_gc::gc_plain_of;
 use wasm_operators_decode_memory::{
-    bulk_plain_shape, const_shape, memory_shape, read_bulk_plain, read_const, read_memory,
+    bulk_plain_shape, const_shape, memory_shape, numeric_of, read_bulk_plain, read_const,
+    read_memory,
 };
-use wasm_operators_decode_numbers::numeric_of;
+use wasm_operators_encoding::Operator;
 use wasm_types::{BinaryReader, Result};
 
 /// What stands behind a code of one byte.

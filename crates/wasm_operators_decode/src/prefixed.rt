@@ -2,20 +2,20 @@
 
 ghost use Rattle.std.specs.Prelude.{◌≡◌, IfOk, IsTrue, Some};
 ghost use Rattle.wasm_types.specs.reader.Reading.{Gives, NeedsNoMemory};
-ghost use Rattle.wasm_operators_decode_encoding.specs.operator.Op.{op_of};
-ghost use Rattle.wasm_operators_decode_encoding.specs.operator.Immediates.{is_canonical};
-ghost use Rattle.wasm_operators_decode_encoding.specs.Opcodes.{prefixed};
-ghost use Rattle.wasm_operators_decode_encoding.specs.Coded.{behind};
-ghost use Rattle.wasm_operators_decode_encoding.specs.Operators.{coded_of};
+ghost use Rattle.wasm_operators_enums.specs.Op.{op_of};
+ghost use Rattle.wasm_operators_enums.specs.Immediates.{is_canonical};
+ghost use Rattle.wasm_operators_encoding.specs.Opcodes.{prefixed};
+ghost use Rattle.wasm_operators_encoding.specs.Coded.{behind};
+ghost use Rattle.wasm_operators_encoding.specs.Operators.{coded_of};
 
 use crate::refusal::unknown_subopcode;
+use crate::{
+    atomic_shape, read_atomic, read_shared, read_simd, shared_shape, simd_numeric_of, simd_shape,
+};
 use std::alloc::Global;
-use wasm_operators_decode_encoding::Operator;
-use wasm_operators_decode_gc::{descriptor_shape, gc_shape, read_descriptor, read_gc};
-use wasm_operators_decode_memory::{bulk_shape, read_bulk};
-use wasm_operators_decode_numbers::numeric_prefixed_of;
-use wasm_operators_decode_threads::{atomic_shape, read_atomic, read_shared, shared_shape};
-use wasm_operators_decode_vectors::{read_simd, simd_numeric_of, simd_shape};
+use wasm_operators_decode_control::{descriptor_shape, gc_shape, read_descriptor, read_gc};
+use wasm_operators_decode_memory::{bulk_shape, numeric_prefixed_of, read_bulk};
+use wasm_operators_encoding::Operator;
 use wasm_types::{BinaryReader, Result};
 
 /// What stands behind a code that follows `0xfb`.

@@ -2,17 +2,17 @@
 
 ghost use Rattle.std.specs.Prelude.{◌≡◌, IfOk, IsTrue, false};
 ghost use Rattle.wasm_types.specs.reader.Reading.{Answers, Gives, NeedsNoMemory};
-ghost use Rattle.wasm_operators_decode_encoding.specs.operator.Op.{op_of};
-ghost use Rattle.wasm_operators_decode_encoding.specs.operator.Immediates.{is_canonical};
-ghost use Rattle.wasm_operators_decode_encoding.specs.Opcodes.{is_prefix, prefixed};
-ghost use Rattle.wasm_operators_decode_encoding.specs.Coded.{behind, operator};
-ghost use Rattle.wasm_operators_decode_encoding.specs.Operators.{coded_of};
+ghost use Rattle.wasm_operators_enums.specs.Op.{op_of};
+ghost use Rattle.wasm_operators_enums.specs.Immediates.{is_canonical};
+ghost use Rattle.wasm_operators_encoding.specs.Opcodes.{is_prefix, prefixed};
+ghost use Rattle.wasm_operators_encoding.specs.Coded.{behind, operator};
+ghost use Rattle.wasm_operators_encoding.specs.Operators.{coded_of};
 ghost use Rattle.wasm_operators_decode.specs.Memory.{keeps_list_at};
 
 use crate::plain::read_plain;
 use crate::prefixed::{read_fb, read_fc, read_fd, read_fe};
 use std::alloc::Global;
-use wasm_operators_decode_encoding::Operator;
+use wasm_operators_encoding::Operator;
 use wasm_types::{BinaryReader, Result};
 
 // Whether a code follows this byte.
@@ -46,7 +46,7 @@ fn read_prefixed<'a>(
 }
 
 // Reads an operator; a refused reader may have gone on.
-#[tactic(auto, unfolding(wasm_operators_decode_encoding::specs::Coded::operator, wasm_operators_decode_encoding::specs::Opcodes::opcode))]
+#[tactic(auto, unfolding(wasm_operators_encoding::specs::Coded::operator, wasm_operators_encoding::specs::Opcodes::opcode))]
 fn read_ahead<'a>(alloc: Global, reader: &mut BinaryReader<'a>) -> Result<Operator<'a>>
     ensures answer { Gives (λ o. coded_of (op_of o)) result reader.new (operator reader.old.settings reader.old) }
     ensures canonical { IfOk result (λ o. IsTrue (is_canonical (op_of o))) }

@@ -1,7 +1,7 @@
 -- What stands behind the opcodes of the group, by shape.
 use Rattle.std.specs.Prelude.{List, [], ◌∷◌}
-use Rattle.wasm_operators_decode_immediates.specs.immediates.Kinds as kind
-use Rattle.wasm_operators_decode_immediates.specs.immediates.Kinds.{Kind, Tags, Types}
+use Rattle.wasm_operators_immediates.specs.Kinds as kind
+use Rattle.wasm_operators_immediates.specs.Kinds.{Kind, Tags, Types}
 use Rattle.wasm_operators_decode_control.specs.declared.continuation.ContinuationShape.{ContinuationShape}
 use Rattle.wasm_operators_decode_control.specs.declared.continuation.ContinuationShape.TheVariants as shape
 

@@ -2,20 +2,20 @@
 
 ghost use Rattle.std.specs.Prelude.{◌≡◌, ◌≢◌, IfOk, option_map, Some, None, [], ◌∷◌};
 ghost use Rattle.wasm_types.specs.reader.Reading.{Gives, NeedsNoMemory};
-ghost use Rattle.wasm_operators_decode_encoding.specs.info.Info.{Info};
-ghost use Rattle.wasm_operators_decode_immediates.specs.immediates.Kinds.{Tags, Types};
-ghost use Rattle.wasm_operators_decode_immediates.specs.immediates.Immediates.{Handlers, Index};
-ghost use Rattle.wasm_operators_decode_encoding.specs.groups.control.Immediates.{continuation_immediates};
-ghost use Rattle.wasm_operators_decode_encoding.specs.groups.control.Table.{continuation_info};
-ghost use Rattle.wasm_operators_decode_encoding.specs.groups.control.Trees.{continuation_of};
-ghost use Rattle.wasm_operators_decode_encoding.specs.Groups.{continuation_kinds};
-ghost use Rattle.wasm_operators_decode_encoding.specs.Sequences.{immediates};
+ghost use Rattle.wasm_operators_immediates.specs.Info.{Info};
+ghost use Rattle.wasm_operators_immediates.specs.Kinds.{Tags, Types};
+ghost use Rattle.wasm_operators_immediates.specs.Immediates.{Handlers, Index};
+ghost use Rattle.wasm_operators_enums.specs.control.Immediates.{continuation_immediates};
+ghost use Rattle.wasm_operators_enums.specs.control.Table.{continuation_info};
+ghost use Rattle.wasm_operators_enums.specs.control.Trees.{continuation_of};
+ghost use Rattle.wasm_operators_encoding.specs.Groups.{continuation_kinds};
+ghost use Rattle.wasm_operators_encoding.specs.Sequences.{immediates};
 ghost use Rattle.wasm_operators_decode_control.specs.declared.continuation.ContinuationShape.TheVariants as ContinuationShape;
 ghost use Rattle.wasm_operators_decode_control.specs.Continuation.{continuation_shape_kinds};
 
 use std::alloc::Global;
-use wasm_operators_decode_encoding::ContinuationOperator;
-use wasm_operators_decode_immediates::ResumeTable;
+use wasm_operators_encoding::ContinuationOperator;
+use wasm_operators_encoding::immediates::ResumeTable;
 use wasm_types::{BinaryReader, FromReader, Result};
 
 /// What stands behind an opcode of the group.
@@ -164,7 +164,7 @@ fn of_type_tag(code: u32, cont_type_index: u32, tag_index: u32) -> ContinuationO
 ///
 /// Where the bytes spell no such immediates, or where there is no memory for them. The reader may then stand behind some
 /// of them.
-#[tactic(auto, unfolding(wasm_operators_decode_immediates::specs::Immediates::immediate))]
+#[tactic(auto, unfolding(wasm_operators_encoding::specs::immediates::Immediates::immediate))]
 pub fn read_continuation<'a>(
     alloc: Global,
     code: u32,

@@ -2,19 +2,19 @@
 
 ghost use Rattle.std.specs.Prelude.{◌≡◌, IfOk, option_map, Some, None, [], ◌∷◌};
 ghost use Rattle.wasm_types.specs.reader.Reading.{Gives, NeedsNoMemory};
-ghost use Rattle.wasm_operators_decode_encoding.specs.info.Info.{Info};
-ghost use Rattle.wasm_operators_decode_immediates.specs.immediates.Kinds.{Functions, Tables, Types};
-ghost use Rattle.wasm_operators_decode_immediates.specs.immediates.Immediates.{Block, BranchTable, Index, IndexOrZero, Label};
-ghost use Rattle.wasm_operators_decode_encoding.specs.groups.control.Immediates.{control_immediates};
-ghost use Rattle.wasm_operators_decode_encoding.specs.groups.control.Table.{control_info};
-ghost use Rattle.wasm_operators_decode_encoding.specs.Groups.{control_kinds};
-ghost use Rattle.wasm_operators_decode_encoding.specs.Sequences.{immediates};
+ghost use Rattle.wasm_operators_immediates.specs.Info.{Info};
+ghost use Rattle.wasm_operators_immediates.specs.Kinds.{Functions, Tables, Types};
+ghost use Rattle.wasm_operators_immediates.specs.Immediates.{Block, BranchTable, Index, IndexOrZero, Label};
+ghost use Rattle.wasm_operators_enums.specs.control.Immediates.{control_immediates};
+ghost use Rattle.wasm_operators_enums.specs.control.Table.{control_info};
+ghost use Rattle.wasm_operators_encoding.specs.Groups.{control_kinds};
+ghost use Rattle.wasm_operators_encoding.specs.Sequences.{immediates};
 ghost use Rattle.wasm_operators_decode_control.specs.declared.control.ControlShape.TheVariants as ControlShape;
 ghost use Rattle.wasm_operators_decode_control.specs.Control.{control_shape_kinds};
 
 use std::alloc::Global;
-use wasm_operators_decode_encoding::ControlOperator;
-use wasm_operators_decode_immediates::{BlockType, BrTable, read_table_or_zero};
+use wasm_operators_encoding::ControlOperator;
+use wasm_operators_encoding::immediates::{BlockType, BrTable, read_table_or_zero};
 use wasm_types::{BinaryReader, FromReader, Result};
 
 /// What stands behind an opcode of the group.
@@ -182,7 +182,7 @@ fn of_type<'a>(code: u32, type_index: u32) -> ControlOperator<'a>
 /// # Errors
 ///
 /// Where the bytes spell no such immediates. The reader may then stand behind some of them.
-#[tactic(auto, unfolding(wasm_operators_decode_immediates::specs::Immediates::immediate))]
+#[tactic(auto, unfolding(wasm_operators_encoding::specs::immediates::Immediates::immediate))]
 pub fn read_control<'a>(
     alloc: Global,
     code: u32,

@@ -2,22 +2,22 @@
 
 ghost use Rattle.std.specs.Prelude.{◌≡◌, ◌≢◌, IfOk, option_map, Some, None, [], ◌∷◌};
 ghost use Rattle.wasm_types.specs.reader.Reading.{Gives, NeedsNoMemory};
-ghost use Rattle.wasm_operators_decode_encoding.specs.info.Info.{Info};
-ghost use Rattle.wasm_operators_decode_immediates.specs.immediates.Kinds.{Tags};
-ghost use Rattle.wasm_operators_decode_immediates.specs.immediates.Immediates as carried;
-ghost use Rattle.wasm_operators_decode_immediates.specs.immediates.Immediates.{Block, Index, Label};
-ghost use Rattle.wasm_operators_decode_immediates.specs.immediates.Tables.{catch_table_of};
-ghost use Rattle.wasm_operators_decode_encoding.specs.groups.control.Immediates.{exception_immediates};
-ghost use Rattle.wasm_operators_decode_encoding.specs.groups.control.Table.{exception_info};
-ghost use Rattle.wasm_operators_decode_encoding.specs.groups.control.Trees.{exception_of};
-ghost use Rattle.wasm_operators_decode_encoding.specs.Groups.{exception_kinds};
-ghost use Rattle.wasm_operators_decode_encoding.specs.Sequences.{immediates};
+ghost use Rattle.wasm_operators_immediates.specs.Info.{Info};
+ghost use Rattle.wasm_operators_immediates.specs.Kinds.{Tags};
+ghost use Rattle.wasm_operators_immediates.specs.Immediates as carried;
+ghost use Rattle.wasm_operators_immediates.specs.Immediates.{Block, Index, Label};
+ghost use Rattle.wasm_operators_immediates.specs.Tables.{catch_table_of};
+ghost use Rattle.wasm_operators_enums.specs.control.Immediates.{exception_immediates};
+ghost use Rattle.wasm_operators_enums.specs.control.Table.{exception_info};
+ghost use Rattle.wasm_operators_enums.specs.control.Trees.{exception_of};
+ghost use Rattle.wasm_operators_encoding.specs.Groups.{exception_kinds};
+ghost use Rattle.wasm_operators_encoding.specs.Sequences.{immediates};
 ghost use Rattle.wasm_operators_decode_control.specs.declared.exception.ExceptionShape.TheVariants as ExceptionShape;
 ghost use Rattle.wasm_operators_decode_control.specs.Exception.{exception_shape_kinds};
 
 use std::alloc::Global;
-use wasm_operators_decode_encoding::ExceptionOperator;
-use wasm_operators_decode_immediates::{BlockType, TryTable};
+use wasm_operators_encoding::ExceptionOperator;
+use wasm_operators_encoding::immediates::{BlockType, TryTable};
 use wasm_types::{BinaryReader, FromReader, Result};
 
 /// What stands behind an opcode of the group.
@@ -123,7 +123,7 @@ fn of_clauses(code: u32, try_table: TryTable) -> ExceptionOperator
 ///
 /// Where the bytes spell no such immediates, or where there is no memory for them. The reader may then stand behind some
 /// of them.
-#[tactic(auto, unfolding(wasm_operators_decode_immediates::specs::Immediates::immediate))]
+#[tactic(auto, unfolding(wasm_operators_encoding::specs::immediates::Immediates::immediate))]
 pub fn read_exception<'a>(
     alloc: Global,
     code: u32,

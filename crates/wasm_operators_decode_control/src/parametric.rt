@@ -2,19 +2,19 @@
 
 ghost use Rattle.std.specs.Prelude.{◌≡◌, ◌≢◌, IfOk, IsTrue, option_map, Some, None, [], ◌∷◌};
 ghost use Rattle.wasm_types.specs.reader.Reading.{Gives, NeedsNoMemory};
-ghost use Rattle.wasm_operators_decode_encoding.specs.info.Info.{Info};
-ghost use Rattle.wasm_operators_decode_immediates.specs.immediates.Immediates.{ValueTypes};
-ghost use Rattle.wasm_operators_decode_encoding.specs.groups.control.Immediates.{parametric_immediates, is_canonical};
-ghost use Rattle.wasm_operators_decode_encoding.specs.groups.control.Table.{parametric_info};
-ghost use Rattle.wasm_operators_decode_encoding.specs.groups.control.Trees.{parametric_of};
-ghost use Rattle.wasm_operators_decode_encoding.specs.Groups.{parametric_kinds};
-ghost use Rattle.wasm_operators_decode_encoding.specs.Sequences.{immediates};
+ghost use Rattle.wasm_operators_immediates.specs.Info.{Info};
+ghost use Rattle.wasm_operators_immediates.specs.Immediates.{ValueTypes};
+ghost use Rattle.wasm_operators_enums.specs.control.Immediates.{parametric_immediates, is_canonical};
+ghost use Rattle.wasm_operators_enums.specs.control.Table.{parametric_info};
+ghost use Rattle.wasm_operators_enums.specs.control.Trees.{parametric_of};
+ghost use Rattle.wasm_operators_encoding.specs.Groups.{parametric_kinds};
+ghost use Rattle.wasm_operators_encoding.specs.Sequences.{immediates};
 ghost use Rattle.wasm_operators_decode_control.specs.declared.parametric.ParametricShape.TheVariants as ParametricShape;
 ghost use Rattle.wasm_operators_decode_control.specs.Parametric.{parametric_shape_kinds};
 
 use std::alloc::Global;
-use wasm_operators_decode_encoding::ParametricOperator;
-use wasm_operators_decode_immediates::read_select_types;
+use wasm_operators_encoding::ParametricOperator;
+use wasm_operators_encoding::immediates::read_select_types;
 use wasm_types::{BinaryReader, Result, ValType};
 
 /// What stands behind an opcode of the group.
@@ -86,7 +86,7 @@ fn of_types(code: u32, tys: Vec<ValType>) -> ParametricOperator
 ///
 /// Where the bytes spell no such immediates, or where there is no memory for them. The reader may then stand behind some
 /// of them.
-#[tactic(auto, unfolding(wasm_operators_decode_immediates::specs::Immediates::immediate))]
+#[tactic(auto, unfolding(wasm_operators_encoding::specs::immediates::Immediates::immediate))]
 pub fn read_parametric<'a>(
     alloc: Global,
     code: u32,

@@ -2,17 +2,17 @@
 
 ghost use Rattle.std.specs.Prelude.{◌≡◌, IfOk, option_map, Some, [], ◌∷◌};
 ghost use Rattle.wasm_types.specs.reader.Reading.{Gives, NeedsNoMemory};
-ghost use Rattle.wasm_operators_decode_encoding.specs.info.Info.{Info};
-ghost use Rattle.wasm_operators_decode_immediates.specs.immediates.Kinds.{DataSegments, Elements, Memories, Tables};
-ghost use Rattle.wasm_operators_decode_immediates.specs.immediates.Immediates.{Index};
-ghost use Rattle.wasm_operators_decode_encoding.specs.groups.memory.Immediates.{bulk_immediates};
-ghost use Rattle.wasm_operators_decode_encoding.specs.groups.memory.Table.{bulk_info};
-ghost use Rattle.wasm_operators_decode_encoding.specs.Groups.{bulk_kinds};
-ghost use Rattle.wasm_operators_decode_encoding.specs.Sequences.{immediates};
+ghost use Rattle.wasm_operators_immediates.specs.Info.{Info};
+ghost use Rattle.wasm_operators_immediates.specs.Kinds.{DataSegments, Elements, Memories, Tables};
+ghost use Rattle.wasm_operators_immediates.specs.Immediates.{Index};
+ghost use Rattle.wasm_operators_enums.specs.memory.Immediates.{bulk_immediates};
+ghost use Rattle.wasm_operators_enums.specs.memory.Table.{bulk_info};
+ghost use Rattle.wasm_operators_encoding.specs.Groups.{bulk_kinds};
+ghost use Rattle.wasm_operators_encoding.specs.Sequences.{immediates};
 ghost use Rattle.wasm_operators_decode_memory.specs.declared.bulk.BulkShape.TheVariants as BulkShape;
 ghost use Rattle.wasm_operators_decode_memory.specs.Bulk.{bulk_shape_kinds};
 
-use wasm_operators_decode_encoding::BulkOperator;
+use wasm_operators_encoding::BulkOperator;
 use wasm_types::{BinaryReader, Result};
 
 /// What stands behind an opcode of the group.
@@ -168,7 +168,7 @@ fn of_table(code: u32, table: u32) -> BulkOperator
 /// # Errors
 ///
 /// Where the bytes spell no such immediates. The reader may then stand behind some of them.
-#[tactic(auto, unfolding(wasm_operators_decode_immediates::specs::Immediates::immediate))]
+#[tactic(auto, unfolding(wasm_operators_encoding::specs::immediates::Immediates::immediate))]
 pub fn read_bulk<'a>(
     code: u32,
     shape: BulkShape,

@@ -2,18 +2,18 @@
 
 ghost use Rattle.std.specs.Prelude.{◌≡◌, IfOk, option_map, Some, None, [], ◌∷◌};
 ghost use Rattle.wasm_types.specs.reader.Reading.{Gives, NeedsNoMemory};
-ghost use Rattle.wasm_operators_decode_encoding.specs.info.Info.{Info};
-ghost use Rattle.wasm_operators_decode_immediates.specs.immediates.Kinds.{Functions, Tables};
-ghost use Rattle.wasm_operators_decode_immediates.specs.immediates.Immediates.{Heap, Index};
-ghost use Rattle.wasm_operators_decode_encoding.specs.groups.memory.Immediates.{bulk_immediates};
-ghost use Rattle.wasm_operators_decode_encoding.specs.groups.memory.Table.{bulk_info};
-ghost use Rattle.wasm_operators_decode_encoding.specs.Groups.{bulk_plain_kinds};
-ghost use Rattle.wasm_operators_decode_encoding.specs.Sequences.{immediates};
+ghost use Rattle.wasm_operators_immediates.specs.Info.{Info};
+ghost use Rattle.wasm_operators_immediates.specs.Kinds.{Functions, Tables};
+ghost use Rattle.wasm_operators_immediates.specs.Immediates.{Heap, Index};
+ghost use Rattle.wasm_operators_enums.specs.memory.Immediates.{bulk_immediates};
+ghost use Rattle.wasm_operators_enums.specs.memory.Table.{bulk_info};
+ghost use Rattle.wasm_operators_encoding.specs.Groups.{bulk_plain_kinds};
+ghost use Rattle.wasm_operators_encoding.specs.Sequences.{immediates};
 ghost use Rattle.wasm_operators_decode_memory.specs.declared.bulk_plain.BulkPlainShape.TheVariants as BulkPlainShape;
 ghost use Rattle.wasm_operators_decode_memory.specs.BulkPlain.{bulk_plain_shape_kinds};
 
 use std::alloc::Global;
-use wasm_operators_decode_encoding::BulkOperator;
+use wasm_operators_encoding::BulkOperator;
 use wasm_types::{BinaryReader, FromReader, HeapType, Result};
 
 /// What stands behind an opcode of the group.
@@ -100,7 +100,7 @@ fn of_function(code: u32, function_index: u32) -> BulkOperator
 /// # Errors
 ///
 /// Where the bytes spell no such immediates. The reader may then stand behind some of them.
-#[tactic(auto, unfolding(wasm_operators_decode_immediates::specs::Immediates::immediate))]
+#[tactic(auto, unfolding(wasm_operators_encoding::specs::immediates::Immediates::immediate))]
 pub fn read_bulk_plain<'a>(
     alloc: Global,
     code: u32,

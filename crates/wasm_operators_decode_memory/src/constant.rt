@@ -2,16 +2,16 @@
 
 ghost use Rattle.std.specs.Prelude.{◌≡◌, IfOk, option_map, Some, None, [], ◌∷◌};
 ghost use Rattle.wasm_types.specs.reader.Reading.{Gives, NeedsNoMemory};
-ghost use Rattle.wasm_operators_decode_encoding.specs.info.Info.{Info};
-ghost use Rattle.wasm_operators_decode_immediates.specs.immediates.Immediates.{F32Constant, F64Constant, I32Constant, I64Constant};
-ghost use Rattle.wasm_operators_decode_encoding.specs.groups.memory.Immediates.{const_immediates};
-ghost use Rattle.wasm_operators_decode_encoding.specs.groups.memory.Table.{const_info};
-ghost use Rattle.wasm_operators_decode_encoding.specs.Groups.{const_kinds};
-ghost use Rattle.wasm_operators_decode_encoding.specs.Sequences.{immediates};
+ghost use Rattle.wasm_operators_immediates.specs.Info.{Info};
+ghost use Rattle.wasm_operators_immediates.specs.Immediates.{F32Constant, F64Constant, I32Constant, I64Constant};
+ghost use Rattle.wasm_operators_enums.specs.memory.Immediates.{const_immediates};
+ghost use Rattle.wasm_operators_enums.specs.memory.Table.{const_info};
+ghost use Rattle.wasm_operators_encoding.specs.Groups.{const_kinds};
+ghost use Rattle.wasm_operators_encoding.specs.Sequences.{immediates};
 ghost use Rattle.wasm_operators_decode_memory.specs.declared.constant.ConstShape.TheVariants as ConstShape;
 ghost use Rattle.wasm_operators_decode_memory.specs.Const.{const_shape_kinds};
 
-use wasm_operators_decode_encoding::ConstOperator;
+use wasm_operators_encoding::ConstOperator;
 use wasm_types::{BinaryReader, Ieee32, Ieee64, Result};
 
 /// What stands behind an opcode of the group.
@@ -97,7 +97,7 @@ fn of_f64(code: u32, value: Ieee64) -> ConstOperator
 /// # Errors
 ///
 /// Where the bytes spell no such immediates. The reader may then stand behind some of them.
-#[tactic(auto, unfolding(wasm_operators_decode_immediates::specs::Immediates::immediate))]
+#[tactic(auto, unfolding(wasm_operators_encoding::specs::immediates::Immediates::immediate))]
 pub fn read_const<'a>(
     code: u32,
     shape: ConstShape,

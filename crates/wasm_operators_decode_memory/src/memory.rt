@@ -2,18 +2,18 @@
 
 ghost use Rattle.std.specs.Prelude.{◌≡◌, IfOk, option_map, Some, None, [], ◌∷◌};
 ghost use Rattle.wasm_types.specs.reader.Reading.{Gives, NeedsNoMemory};
-ghost use Rattle.wasm_operators_decode_encoding.specs.info.Info.{Info};
-ghost use Rattle.wasm_operators_decode_immediates.specs.immediates.Kinds.{Globals, Locals, Memories, Plain};
-ghost use Rattle.wasm_operators_decode_immediates.specs.immediates.Immediates.{Index, IndexOrZero, MemoryArgument};
-ghost use Rattle.wasm_operators_decode_encoding.specs.groups.memory.Immediates.{memory_immediates};
-ghost use Rattle.wasm_operators_decode_encoding.specs.groups.memory.Table.{memory_info};
-ghost use Rattle.wasm_operators_decode_encoding.specs.Groups.{memory_kinds};
-ghost use Rattle.wasm_operators_decode_encoding.specs.Sequences.{immediates};
+ghost use Rattle.wasm_operators_immediates.specs.Info.{Info};
+ghost use Rattle.wasm_operators_immediates.specs.Kinds.{Globals, Locals, Memories, Plain};
+ghost use Rattle.wasm_operators_immediates.specs.Immediates.{Index, IndexOrZero, MemoryArgument};
+ghost use Rattle.wasm_operators_enums.specs.memory.Immediates.{memory_immediates};
+ghost use Rattle.wasm_operators_enums.specs.memory.Table.{memory_info};
+ghost use Rattle.wasm_operators_encoding.specs.Groups.{memory_kinds};
+ghost use Rattle.wasm_operators_encoding.specs.Sequences.{immediates};
 ghost use Rattle.wasm_operators_decode_memory.specs.declared.memory.MemoryShape.TheVariants as MemoryShape;
 ghost use Rattle.wasm_operators_decode_memory.specs.Memory.{memory_shape_kinds};
 
-use wasm_operators_decode_encoding::MemoryOperator;
-use wasm_operators_decode_immediates::{Access, MemArg, read_memarg, read_memory_or_zero};
+use wasm_operators_encoding::MemoryOperator;
+use wasm_operators_encoding::immediates::{Access, MemArg, read_memarg, read_memory_or_zero};
 use wasm_types::{BinaryReader, Result};
 
 /// What stands behind an opcode of the group.
@@ -128,7 +128,7 @@ fn of_memory(code: u32, mem: u32) -> MemoryOperator
 /// # Errors
 ///
 /// Where the bytes spell no such immediates. The reader may then stand behind some of them.
-#[tactic(auto, unfolding(wasm_operators_decode_immediates::specs::Immediates::immediate))]
+#[tactic(auto, unfolding(wasm_operators_encoding::specs::immediates::Immediates::immediate))]
 pub fn read_memory<'a>(
     code: u32,
     shape: MemoryShape,

@@ -7,7 +7,7 @@ use Rattle.wasm_types.specs.decoding.Leb.{u32, IsUnsigned}
 use Rattle.wasm_types.specs.decoding.LebLaws.{decides-u32}
 use Rattle.wasm_types.specs.decoding.Lists.{size_within}
 use Rattle.wasm_types.specs.decoding.ListLaws.{decides-size_within}
-use Rattle.wasm_types.specs.limits.Settings.{no_features}
+use Rattle.wasm_types.specs.settings.Settings.{no_features}
 use Rattle.wasm_operators_immediates.specs.Numbers.{numbers_at, numbers_in, values, is_whole}
 
 pub size_is_small : (limit n : ℕ) (s t : State) → limit < 2 ^ 32 → size_within limit s ≡ Done n t → n < 2 ^ 32

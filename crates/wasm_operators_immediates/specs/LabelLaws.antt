@@ -7,7 +7,7 @@ use Rattle.wasm_types.specs.decoding.Leb.{u32, IsUnsigned}
 use Rattle.wasm_types.specs.decoding.LebLaws.{lawful-unsigned, decides-u32}
 use Rattle.wasm_types.specs.decoding.Lists.{listed_within, IsListedWithin}
 use Rattle.wasm_types.specs.decoding.ListLaws.{lawful-listed_within, decides-listed_within}
-use Rattle.wasm_types.specs.limits.Settings.{Settings}
+use Rattle.wasm_types.specs.settings.Settings.{Settings}
 use Rattle.wasm_operators_immediates.specs.Tables.{Labels}
 use Rattle.wasm_operators_immediates.specs.Labels.{with_default, labels, SpelledLabels}
 

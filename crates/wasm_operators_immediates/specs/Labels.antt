@@ -3,7 +3,7 @@ use Rattle.std.specs.Prelude.{◌≡◌, ℕ, List, ◌++◌}
 use Rattle.wasm_types.specs.decoding.Decoder.{Decoder, ◌>>=◌, pure}
 use Rattle.wasm_types.specs.decoding.Leb.{u32, IsUnsigned}
 use Rattle.wasm_types.specs.decoding.Lists.{listed_within, IsListedWithin}
-use Rattle.wasm_types.specs.limits.Settings.{Settings}
+use Rattle.wasm_types.specs.settings.Settings.{Settings}
 use Rattle.wasm_operators_immediates.specs.Tables.{Labels}
 
 -- targets, and a default behind them

@@ -13,7 +13,7 @@ pub mod LabelLaws
 pub mod BlockLaws
 pub mod HandlerLaws
 pub mod Laws
--- The rules and laws of the crates below, under their names: crates above cite them here.
-pub use Rattle.wasm_types.specs as types
 -- The laws that attributes of readers cite, which take a file's own names alone.
 pub mod Reaching
+-- Rules: what is told of an operator.
+pub mod Info

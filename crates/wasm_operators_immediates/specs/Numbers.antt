@@ -2,8 +2,8 @@
 use Rattle.std.specs.Prelude.{◌≡◌, ℕ, Bool, false, List, [], length, ◌==◌, Result, Ok, Err}
 use Rattle.wasm_types.specs.decoding.Decoder.{State, Outcome, Done, Short, Fault, repeated}
 use Rattle.wasm_types.specs.decoding.Leb.{u32}
-use Rattle.wasm_types.specs.limits.Settings.{no_features}
-use Rattle.wasm_types.specs.error.ErrorValue.{ErrorValue}
+use Rattle.wasm_types.specs.settings.Settings.{no_features}
+use Rattle.wasm_types.specs.decoding.ErrorValue.{ErrorValue}
 use Rattle.wasm_types.specs.reader.Reading.{Fails}
 
 -- the next n numbers of 32 bits

@@ -31,21 +31,21 @@ use Rattle.std.proofs.Math.Seq.{drop-append_seam}
 use Rattle.std.proofs.lemmas.Bool.{ne_eqb}
 use Rattle.std.proofs.lemmas.List.{drop-drop, length-drop, get_or-drop}
 use Rattle.wasm_types.specs.decoding.Decoder.{State, Done, Reaches, bytes}
-use Rattle.wasm_types_numbers.specs.Numbers.{behind}
-use Rattle.wasm_operators_decode_codes.specs.OpcodeRoles.{plain_role, role_behind}
-use Rattle.wasm_operators_decode_codes.specs.RoleLaws.{role_of_opcode}
-use Rattle.wasm_operators_expression.specs.immediates.declared.frames.FrameKind.{FrameKind}
-use Rattle.wasm_operators_expression.specs.operator.Op.{Op}
-use Rattle.wasm_operators_expression.specs.operator.Table.{info_of}
-use Rattle.wasm_operators_expression.specs.operator.declared.role.Role.{Role}
-use Rattle.wasm_operators_expression.specs.operator.declared.role.Role.TheVariants.{Plain, Opens, End}
-use Rattle.wasm_operators_expression.specs.decode_encoding.Opcodes.{is_prefix}
-use Rattle.wasm_operators_expression.specs.decode_encoding.Coded.{Coded, operator}
-use Rattle.wasm_operators_expression.specs.decode_encoding.CodedLaws.{decides-operator}
-use Rattle.wasm_operators_expression.specs.decode_encoding.Operators.{coded_of}
-use Rattle.wasm_operators_expression.specs.Frames.{behind as frames_after}
-use Rattle.wasm_operators_expression.specs.Stack.{around}
-use Rattle.wasm_operators_read_short.specs.Short.{BeginsWith, IsTold}
+use Rattle.wasm_types.specs.decoding.Numbers.{behind}
+use Rattle.wasm_operators_encoding.specs.codes.OpcodeRoles.{plain_role, role_behind}
+use Rattle.wasm_operators_encoding.specs.codes.RoleLaws.{role_of_opcode}
+use Rattle.wasm_operators_immediates.specs.declared.frames.FrameKind.{FrameKind}
+use Rattle.wasm_operators_enums.specs.Op.{Op}
+use Rattle.wasm_operators_enums.specs.Table.{info_of}
+use Rattle.wasm_operators_enums.specs.declared.role.Role.{Role}
+use Rattle.wasm_operators_enums.specs.declared.role.Role.TheVariants.{Plain, Opens, End}
+use Rattle.wasm_operators_encoding.specs.Opcodes.{is_prefix}
+use Rattle.wasm_operators_encoding.specs.Coded.{Coded, operator}
+use Rattle.wasm_operators_encoding.specs.CodedLaws.{decides-operator}
+use Rattle.wasm_operators_encoding.specs.Operators.{coded_of}
+use Rattle.wasm_operators_encoding.specs.expressions.Frames.{behind as frames_after}
+use Rattle.wasm_operators_encoding.specs.expressions.Stack.{around}
+use Rattle.wasm_operators_frequent.specs.Short.{BeginsWith, IsTold}
 use Rattle.wasm_operators_reader.specs.Visiting.{Tells, VisitsPlain}
 
 -- ---- roles by the first byte

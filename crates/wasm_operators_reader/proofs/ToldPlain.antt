@@ -1,15 +1,15 @@
 -- Operators that a visitor took at once are a walk of a reader that stands before them.
 use Rattle.std.proofs.Common.{nat_eq, ◌≡◌, ◌≤◌, ℕ, List, [], ◌∷◌, length, false, ap, ◌∙◌, arith}
 use Rattle.wasm_types.specs.decoding.Decoder.{State}
-use Rattle.wasm_types_numbers.specs.Numbers.{behind}
-use Rattle.wasm_operators_expression.specs.immediates.declared.frames.FrameKind.{FrameKind}
-use Rattle.wasm_operators_expression.specs.operator.Op.{Op}
-use Rattle.wasm_operators_expression.specs.operator.Roles.{role_of}
-use Rattle.wasm_operators_expression.specs.operator.declared.role.Role.{Role}
-use Rattle.wasm_operators_expression.specs.operator.declared.role.Role.TheVariants.{Plain}
-use Rattle.wasm_operators_expression.specs.Frames.{behind as frames_after}
-use Rattle.wasm_operators_read_short.specs.Short.{IsTold}
-use Rattle.wasm_operators_read_short.specs.Plain.{ToldPlain, AreToldPlain}
+use Rattle.wasm_types.specs.decoding.Numbers.{behind}
+use Rattle.wasm_operators_immediates.specs.declared.frames.FrameKind.{FrameKind}
+use Rattle.wasm_operators_enums.specs.Op.{Op}
+use Rattle.wasm_operators_enums.specs.Roles.{role_of}
+use Rattle.wasm_operators_enums.specs.declared.role.Role.{Role}
+use Rattle.wasm_operators_enums.specs.declared.role.Role.TheVariants.{Plain}
+use Rattle.wasm_operators_encoding.specs.expressions.Frames.{behind as frames_after}
+use Rattle.wasm_operators_frequent.specs.Short.{IsTold}
+use Rattle.wasm_operators_frequent.specs.Plain.{ToldPlain, AreToldPlain}
 use Rattle.wasm_operators_reader.specs.Standing.{Standing}
 use Rattle.wasm_operators_reader.specs.Visiting.{VisitsPlain}
 use Rattle.wasm_operators_reader.specs.Walking.{WalksTo}

@@ -1,10 +1,10 @@
 -- The frames around an operator that is told straight from its bytes, by the role of its first byte.
 use Rattle.std.specs.Prelude.{List, ◌∷◌}
-use Rattle.wasm_operators_expression.specs.immediates.declared.frames.FrameKind.{FrameKind}
-use Rattle.wasm_operators_expression.specs.operator.declared.role.Role.{Role}
-use Rattle.wasm_operators_expression.specs.immediates.declared.frames.FrameKind.TheVariants as kinds
-use Rattle.wasm_operators_expression.specs.operator.declared.role.Role.TheVariants.{Opens, End, Else}
-use Rattle.wasm_operators_expression.specs.Stack.{around}
+use Rattle.wasm_operators_immediates.specs.declared.frames.FrameKind.{FrameKind}
+use Rattle.wasm_operators_enums.specs.declared.role.Role.{Role}
+use Rattle.wasm_operators_immediates.specs.declared.frames.FrameKind.TheVariants as kinds
+use Rattle.wasm_operators_enums.specs.declared.role.Role.TheVariants.{Opens, End, Else}
+use Rattle.wasm_operators_encoding.specs.expressions.Stack.{around}
 
 -- while it is told: the frame that it opens is open
 abbrev pub held : Role → List FrameKind → List FrameKind

@@ -1,6 +1,6 @@
 -- What an iterator of operators gives.
 use Rattle.std.specs.Prelude.{◌≡◌, ◌⊎◌, ℕ, Bool, true, false, [], length, Result, Ok, Err, Option, Some, None}
-use Rattle.wasm_types.specs.error.ErrorValue.{ErrorValue}
+use Rattle.wasm_types.specs.decoding.ErrorValue.{ErrorValue}
 use Rattle.wasm_types.specs.reader.Reading.{IsNotMemory}
 use Rattle.wasm_operators_reader.specs.Standing.{Standing, Refuses, WantsMemory}
 

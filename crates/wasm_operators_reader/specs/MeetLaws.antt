@@ -1,9 +1,9 @@
 -- Two runs from one standing go the same way. A run that closes all frames is reached by every other, unless that is refused
 -- behind it.
 use Rattle.std.proofs.Common.{◌≡◌, List, [], ◌∷◌, ◌++◌, refl, sym, ◌∙◌, ap, subst}
-use Rattle.wasm_types.specs.error.ErrorValue.{ErrorValue}
+use Rattle.wasm_types.specs.decoding.ErrorValue.{ErrorValue}
 use Rattle.wasm_types.specs.reader.Reading.{IsNotMemory}
-use Rattle.wasm_operators_expression.specs.operator.Op.{Op}
+use Rattle.wasm_operators_enums.specs.Op.{Op}
 use Rattle.wasm_operators_reader.specs.Standing.{Standing, Reads, Refuses, Runs}
 use Rattle.wasm_operators_reader.specs.StandingLaws.{one_step, nothing_follows, refused_no_step}
 

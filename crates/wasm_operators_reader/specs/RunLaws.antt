@@ -2,18 +2,18 @@
 use Rattle.std.proofs.Common.{◌≡◌, inl, inr, ◌+◌, List, [], ◌∷◌, ◌++◌, length, Some, None, refl, sym, ◌∙◌, ap, subst, append-nil, map, arith}
 use Rattle.std.proofs.lemmas.List.{map-append}
 use Rattle.wasm_types.specs.decoding.Decoder.{State, Done}
-use Rattle.wasm_types.specs.limits.Settings.{Settings}
-use Rattle.wasm_types.specs.error.ErrorValue.{ErrorValue}
+use Rattle.wasm_types.specs.settings.Settings.{Settings}
+use Rattle.wasm_types.specs.decoding.ErrorValue.{ErrorValue}
 use Rattle.wasm_types.specs.reader.Reading.{IsNotMemory}
-use Rattle.wasm_operators_expression.specs.immediates.declared.frames.FrameKind.{FrameKind}
-use Rattle.wasm_operators_expression.specs.immediates.declared.frames.FrameKind.TheVariants.{Block}
-use Rattle.wasm_operators_expression.specs.operator.Op.{Op}
-use Rattle.wasm_operators_expression.specs.decode_encoding.Coded.{Coded, operator}
-use Rattle.wasm_operators_expression.specs.Code.{Code, walk}
-use Rattle.wasm_operators_expression.specs.Spelling.{SpelledOperators, SpelledExpression}
-use Rattle.wasm_operators_expression.specs.Frames.{Closes, after, BytesClose}
-use Rattle.wasm_operators_expression.specs.FrameLaws.{closes_step, closes_more}
-use Rattle.wasm_operators_expression.specs.SpellingLaws.{spelled_read, read_spelled, bytes_go_on, bytes_refused, bytes_stuck, bytes_expression, bytes_end}
+use Rattle.wasm_operators_immediates.specs.declared.frames.FrameKind.{FrameKind}
+use Rattle.wasm_operators_immediates.specs.declared.frames.FrameKind.TheVariants.{Block}
+use Rattle.wasm_operators_enums.specs.Op.{Op}
+use Rattle.wasm_operators_encoding.specs.Coded.{Coded, operator}
+use Rattle.wasm_operators_encoding.specs.expressions.Code.{Code, walk}
+use Rattle.wasm_operators_encoding.specs.expressions.Spelling.{SpelledOperators, SpelledExpression}
+use Rattle.wasm_operators_encoding.specs.expressions.Frames.{Closes, after, BytesClose}
+use Rattle.wasm_operators_encoding.specs.expressions.FrameLaws.{closes_step, closes_more}
+use Rattle.wasm_operators_encoding.specs.expressions.SpellingLaws.{spelled_read, read_spelled, bytes_go_on, bytes_refused, bytes_stuck, bytes_expression, bytes_end}
 use Rattle.wasm_operators_reader.specs.Standing.{Standing, at_start, IsFinished, Reads, RefusesIn, Refuses, Runs, TakesMemory}
 use Rattle.wasm_operators_reader.specs.StandingLaws.{some_left, unread}
 

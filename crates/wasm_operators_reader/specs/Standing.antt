@@ -1,17 +1,17 @@
 -- Where a reader of operators stands, what it reads there, and why it refuses.
 use Rattle.std.specs.Prelude.{◌≡◌, IsTrue, ◌⊎◌, ◌+◌, List, [], ◌∷◌, Some, None}
 use Rattle.wasm_types.specs.decoding.Decoder.{State, Done}
-use Rattle.wasm_types.specs.error.declared.error.ErrorKind.TheVariants.{Other}
-use Rattle.wasm_types.specs.error.ErrorValue.{ErrorValue}
+use Rattle.wasm_types.specs.decoding.declared.error.ErrorKind.TheVariants.{Other}
+use Rattle.wasm_types.specs.decoding.ErrorValue.{ErrorValue}
 use Rattle.wasm_types.specs.reader.Reading.{Fails}
-use Rattle.wasm_operators_expression.specs.immediates.declared.frames.FrameKind.{FrameKind}
-use Rattle.wasm_operators_expression.specs.immediates.declared.frames.FrameKind.TheVariants.{Block}
-use Rattle.wasm_operators_expression.specs.operator.Op.{Op}
-use Rattle.wasm_operators_expression.specs.operator.Immediates.{is_canonical}
-use Rattle.wasm_operators_expression.specs.decode_encoding.Coded.{operator}
-use Rattle.wasm_operators_expression.specs.decode_encoding.Operators.{coded_of}
+use Rattle.wasm_operators_immediates.specs.declared.frames.FrameKind.{FrameKind}
+use Rattle.wasm_operators_immediates.specs.declared.frames.FrameKind.TheVariants.{Block}
+use Rattle.wasm_operators_enums.specs.Op.{Op}
+use Rattle.wasm_operators_enums.specs.Immediates.{is_canonical}
+use Rattle.wasm_operators_encoding.specs.Coded.{operator}
+use Rattle.wasm_operators_encoding.specs.Operators.{coded_of}
 use Rattle.wasm_operators_decode.specs.Memory.{keeps_list_at}
-use Rattle.wasm_operators_expression.specs.Frames.{after}
+use Rattle.wasm_operators_encoding.specs.expressions.Frames.{after}
 
 -- its bytes, and the frames that are open, the innermost first
 pub record Standing : Type 0 where

@@ -2,20 +2,20 @@
 use Rattle.std.proofs.Common.{nat_eq, Bool, true, false, IsTrue, ◌≡◌, inl, inr, ℕ, ◌+◌, ◌<◌, List, [], ◌∷◌, length, Option, Some, None, refl, sym}
 use Rattle.std.proofs.Common.{◌∙◌, ap, subst, length-append, arith}
 use Rattle.wasm_types.specs.decoding.Decoder.{State, Outcome, Done}
-use Rattle.wasm_types.specs.limits.Settings.{Settings}
-use Rattle.wasm_types.specs.error.declared.error.ErrorKind.{ErrorKind}
-use Rattle.wasm_types.specs.error.declared.error.ErrorKind.TheVariants.{EndOfData, MissingFeature, OutOfMemory, Failed, Other}
-use Rattle.wasm_types.specs.error.ErrorValue.{ErrorValue}
+use Rattle.wasm_types.specs.settings.Settings.{Settings}
+use Rattle.wasm_types.specs.decoding.declared.error.ErrorKind.{ErrorKind}
+use Rattle.wasm_types.specs.decoding.declared.error.ErrorKind.TheVariants.{EndOfData, MissingFeature, OutOfMemory, Failed, Other}
+use Rattle.wasm_types.specs.decoding.ErrorValue.{ErrorValue}
 use Rattle.wasm_types.specs.reader.Reading.{FailsAt, Fails, IsNotMemory}
-use Rattle.wasm_operators_expression.specs.immediates.declared.frames.FrameKind.{FrameKind}
-use Rattle.wasm_operators_expression.specs.operator.Op.{Op}
-use Rattle.wasm_operators_expression.specs.decode_encoding.Opcodes.{Spells}
-use Rattle.wasm_operators_expression.specs.decode_encoding.Coded.{Coded, operator}
-use Rattle.wasm_operators_expression.specs.decode_encoding.CodedLaws.{decides-operator}
-use Rattle.wasm_operators_expression.specs.decode_encoding.Operators.{coded_of}
-use Rattle.wasm_operators_expression.specs.decode_encoding.OperatorLaws.{coded_apart}
+use Rattle.wasm_operators_immediates.specs.declared.frames.FrameKind.{FrameKind}
+use Rattle.wasm_operators_enums.specs.Op.{Op}
+use Rattle.wasm_operators_encoding.specs.Opcodes.{Spells}
+use Rattle.wasm_operators_encoding.specs.Coded.{Coded, operator}
+use Rattle.wasm_operators_encoding.specs.CodedLaws.{decides-operator}
+use Rattle.wasm_operators_encoding.specs.Operators.{coded_of}
+use Rattle.wasm_operators_encoding.specs.OperatorLaws.{coded_apart}
 use Rattle.wasm_operators_decode.specs.Memory.{keeps_list_at}
-use Rattle.wasm_operators_expression.specs.Frames.{after}
+use Rattle.wasm_operators_encoding.specs.expressions.Frames.{after}
 use Rattle.wasm_operators_reader.specs.Standing.{Standing, Reads, IsUnfit, RefusesIn, Refuses, WantsMemory}
 use Rattle.wasm_operators_reader.specs.Iterating.{items_left}
 

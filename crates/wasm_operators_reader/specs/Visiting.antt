@@ -1,14 +1,14 @@
 -- What a visitor is told of what is read, and what is refused because a visitor has no visit of it.
 use Rattle.std.specs.Prelude.{◌≡◌, ◌⊎◌, IsTrue, true, false}
 use Rattle.wasm_types.specs.decoding.Decoder.{State, Done}
-use Rattle.wasm_types.specs.error.declared.error.ErrorKind.TheVariants.{Other}
-use Rattle.wasm_types.specs.error.ErrorValue.{ErrorValue}
-use Rattle.wasm_operators_expression.specs.operator.Op.{Op}
-use Rattle.wasm_operators_expression.specs.operator.declared.role.Role.{Role}
-use Rattle.wasm_operators_expression.specs.operator.Roles.{role_of}
-use Rattle.wasm_operators_expression.specs.operator.Immediates.{is_canonical}
-use Rattle.wasm_operators_expression.specs.decode_encoding.Coded.{operator}
-use Rattle.wasm_operators_expression.specs.decode_encoding.Operators.{coded_of}
+use Rattle.wasm_types.specs.decoding.declared.error.ErrorKind.TheVariants.{Other}
+use Rattle.wasm_types.specs.decoding.ErrorValue.{ErrorValue}
+use Rattle.wasm_operators_enums.specs.Op.{Op}
+use Rattle.wasm_operators_enums.specs.declared.role.Role.{Role}
+use Rattle.wasm_operators_enums.specs.Roles.{role_of}
+use Rattle.wasm_operators_enums.specs.Immediates.{is_canonical}
+use Rattle.wasm_operators_encoding.specs.Coded.{operator}
+use Rattle.wasm_operators_encoding.specs.Operators.{coded_of}
 use Rattle.wasm_operators_visit_simd_operator.specs.visit_operator.Vectors.{is_simd}
 use Rattle.wasm_operators_reader.specs.Standing.{Standing, Reads, Refuses}
 

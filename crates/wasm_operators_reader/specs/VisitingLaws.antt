@@ -1,10 +1,10 @@
 -- An operator on vectors leaves the frames as they are.
 use Rattle.std.proofs.Common.{◌≡◌, true, List, [], ◌∷◌, Some}
-use Rattle.wasm_operators_expression.specs.immediates.declared.frames.FrameKind.{FrameKind}
-use Rattle.wasm_operators_expression.specs.operator.Op.{Op, Control, Parametric, Exception, Memory, Const, Numeric, Bulk, Gc, Descriptor, Simd}
-use Rattle.wasm_operators_expression.specs.operator.Op.{SimdNumeric, Atomic, Shared, Continuation}
+use Rattle.wasm_operators_immediates.specs.declared.frames.FrameKind.{FrameKind}
+use Rattle.wasm_operators_enums.specs.Op.{Op, Control, Parametric, Exception, Memory, Const, Numeric, Bulk, Gc, Descriptor, Simd}
+use Rattle.wasm_operators_enums.specs.Op.{SimdNumeric, Atomic, Shared, Continuation}
 use Rattle.wasm_operators_visit_simd_operator.specs.visit_operator.Vectors.{is_simd}
-use Rattle.wasm_operators_expression.specs.Frames.{after}
+use Rattle.wasm_operators_encoding.specs.expressions.Frames.{after}
 use Rattle.wasm_operators_reader.specs.Standing.{Standing, Reads}
 
 same : (ks js : List FrameKind) → Some ks ≡ Some js → js ≡ ks

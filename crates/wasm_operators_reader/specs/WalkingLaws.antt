@@ -3,13 +3,13 @@ use Rattle.std.proofs.Common.{◌≡◌, ◌<◌, ◌≤◌, ℕ, Bool, length, 
 use Rattle.std.specs.Prelude.{◌==◌}
 use Rattle.std.proofs.lemmas.Bool.{eqb-true}
 use Rattle.wasm_types.specs.decoding.Decoder.{State}
-use Rattle.wasm_types.specs.error.declared.error.ErrorKind.TheVariants.{Other}
-use Rattle.wasm_types.specs.error.ErrorValue.{ErrorValue}
+use Rattle.wasm_types.specs.decoding.declared.error.ErrorKind.TheVariants.{Other}
+use Rattle.wasm_types.specs.decoding.ErrorValue.{ErrorValue}
 use Rattle.wasm_types.specs.reader.Reading.{IsNotMemory}
-use Rattle.wasm_operators_expression.specs.operator.Op.{Op}
+use Rattle.wasm_operators_enums.specs.Op.{Op}
 use Rattle.wasm_operators_visit_simd_operator.specs.visit_operator.Vectors.{is_simd}
-use Rattle.wasm_operators_expression.specs.Code.{Code, walk}
-use Rattle.wasm_operators_expression.specs.Spelling.{SpelledExpression}
+use Rattle.wasm_operators_encoding.specs.expressions.Code.{Code, walk}
+use Rattle.wasm_operators_encoding.specs.expressions.Spelling.{SpelledExpression}
 use Rattle.wasm_operators_reader.specs.Standing.{Standing, at_start, IsFinished, Reads, Runs, WantsMemory}
 use Rattle.wasm_operators_reader.specs.Visiting.{VisitsPlain, RefusesVector, RefusesPlain}
 use Rattle.wasm_operators_reader.specs.StandingLaws.{reads_fewer}

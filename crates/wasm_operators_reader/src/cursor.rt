@@ -18,7 +18,7 @@ pub(crate) struct Cursor<'a> {
 impl<'a> Model for Cursor<'a> {
     ghost use Rattle.std.specs.Prelude.{◌≡◌, ◌≤◌, length};
     ghost use Rattle.wasm_types.specs.decoding.Decoder.{State};
-    ghost use Rattle.wasm_types_numbers.specs.Numbers.{behind};
+    ghost use Rattle.wasm_types.specs.decoding.Numbers.{behind};
 
     ghost Value = { State };
 

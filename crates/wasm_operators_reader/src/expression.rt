@@ -2,14 +2,14 @@
 
 ghost use Rattle.std.specs.Prelude.{◌≡◌, List, [], map, IfOk, IfErr};
 ghost use Rattle.wasm_types.specs.reader.Reading.{IsNotMemory, NeedsNoMemory};
-ghost use Rattle.wasm_operators_expression.specs.operator.Op.{Op, op_of};
-ghost use Rattle.wasm_operators_expression.specs.Code.{Code, walk};
-ghost use Rattle.wasm_operators_expression.specs.Spelling.{SpelledExpression};
+ghost use Rattle.wasm_operators_enums.specs.Op.{Op, op_of};
+ghost use Rattle.wasm_operators_encoding.specs.expressions.Code.{Code, walk};
+ghost use Rattle.wasm_operators_encoding.specs.expressions.Spelling.{SpelledExpression};
 ghost use Rattle.wasm_operators_reader.specs.Standing.{at_start, Refuses, Runs, StopsAfter, TakesMemory};
 
 use crate::OperatorsReader;
 use std::alloc::Global;
-use wasm_operators_expression::Operator;
+use wasm_operators_encoding::expressions::Operator;
 use wasm_types::{BinaryReader, Result};
 
 /// Reads an expression, which all bytes of the reader spell.

@@ -1,9 +1,9 @@
 //! The frequent operators, told to a visitor straight from their bytes.
 
 ghost use Rattle.std.specs.Prelude.{◌≡◌, true, false, Some, Ok, Err, get_or, IfSome, IfNone};
-ghost use Rattle.wasm_operators_decode_codes.specs.OpcodeRoles.{plain_role};
-ghost use Rattle.wasm_operators_expression.specs.Frames.{behind};
-ghost use Rattle.wasm_operators_expression.specs.operator.Op.{op_of};
+ghost use Rattle.wasm_operators_encoding.specs.codes.OpcodeRoles.{plain_role};
+ghost use Rattle.wasm_operators_encoding.specs.expressions.Frames.{behind};
+ghost use Rattle.wasm_operators_enums.specs.Op.{op_of};
 ghost use Rattle.wasm_operators_reader.specs.Frequent.{held, closed, given_back};
 ghost use Rattle.wasm_operators_reader.specs.Standing.{Reads};
 ghost use Rattle.wasm_operators_reader.specs.Visiting.{Tells, VisitsPlain};
@@ -11,8 +11,8 @@ ghost use Rattle.wasm_operators_reader.specs.Walking.{WalksTo, WalksUntilTo};
 
 use crate::cursor::Cursor;
 use crate::taker::Taker;
-use wasm_operators_expression::{ControlStack, FrameKind, Operator, Role};
-use wasm_operators_read_short::{TellOperator, TellPlain};
+use wasm_operators_encoding::expressions::{ControlStack, FrameKind, Operator, Role};
+use wasm_operators_frequent::reading::{TellOperator, TellPlain};
 
 /// The next operator, read and told to the visitor, and the role of its first byte.
 #[inline(always)]

@@ -2,12 +2,12 @@
 
 ghost use Rattle.std.specs.Prelude.{◌≡◌, false};
 ghost use Rattle.std.specs.Iterator.{at_most};
-ghost use Rattle.wasm_operators_expression.specs.operator.Op.{op_of};
+ghost use Rattle.wasm_operators_enums.specs.Op.{op_of};
 ghost use Rattle.wasm_operators_reader.specs.Standing.{Reads};
 ghost use Rattle.wasm_operators_reader.specs.Iterating.{NextOf, items_left};
 
 use crate::{OperatorsReader, OperatorsReaderAllocations};
-use wasm_operators_expression::Operator;
+use wasm_operators_encoding::expressions::Operator;
 use wasm_types::Result;
 
 /// The operators that a reader reads, up to the end of its bytes or the first error. Nothing comes behind an error.

@@ -2,11 +2,11 @@
 
 ghost use Rattle.std.specs.Prelude.{◌≡◌, List, []};
 ghost use Rattle.wasm_types.specs.decoding.Decoder.{State};
-ghost use Rattle.wasm_types.specs.error.ErrorValue.{ErrorValue};
+ghost use Rattle.wasm_types.specs.decoding.ErrorValue.{ErrorValue};
 ghost use Rattle.wasm_types.specs.reader.Reading.{IsNotMemory};
-ghost use Rattle.wasm_operators_expression.specs.operator.Op.{Op};
-ghost use Rattle.wasm_operators_expression.specs.Code.{Code, walk};
-ghost use Rattle.wasm_operators_expression.specs.Spelling.{SpelledExpression};
+ghost use Rattle.wasm_operators_enums.specs.Op.{Op};
+ghost use Rattle.wasm_operators_encoding.specs.expressions.Code.{Code, walk};
+ghost use Rattle.wasm_operators_encoding.specs.expressions.Spelling.{SpelledExpression};
 ghost use Rattle.wasm_operators_reader.specs.Standing.{Standing, at_start, IsFinished, Reads, Refuses, Runs};
 
 /// From where a reader stands at most one operator can be read, and it leads to one standing. Where a reader refuses,

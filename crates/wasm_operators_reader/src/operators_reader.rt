@@ -1,9 +1,9 @@
 //! The reader of operators in frames.
 
 ghost use Rattle.std.specs.Prelude.{◌≡◌, ◌↔◌, ◌==◌, ◌+◌, ◌<◌, [], ◌∷◌, IsTrue, Ok, Err, IfOk, IfErr, IfSome, IfNone, length};
-ghost use Rattle.wasm_types.specs.error.declared.error.ErrorKind.TheVariants.{Other};
+ghost use Rattle.wasm_types.specs.decoding.declared.error.ErrorKind.TheVariants.{Other};
 ghost use Rattle.wasm_types.specs.reader.Reading.{NeedsNoMemory};
-ghost use Rattle.wasm_operators_expression.specs.operator.Op.{op_of};
+ghost use Rattle.wasm_operators_enums.specs.Op.{op_of};
 ghost use Rattle.wasm_operators_reader.specs.Standing.{at_start, IsFinished, Reads, Refuses, WantsMemory};
 ghost use Rattle.wasm_operators_reader.specs.Visiting.{VisitsPlain};
 ghost use Rattle.wasm_operators_reader.specs.Walking.{WalksTo, WalksUntilTo};
@@ -13,8 +13,8 @@ use crate::frequent::{read_frequent, visit_frequent, visit_run};
 use std::alloc::Global;
 use std::marker::Model;
 use wasm_operators_decode::read_operator;
-use wasm_operators_expression::{ControlStack, FrameKind, FrameStack, Operator, Role};
-use wasm_operators_read_short::{TellOperator, TellPlain};
+use wasm_operators_encoding::expressions::{ControlStack, FrameKind, FrameStack, Operator, Role};
+use wasm_operators_frequent::reading::{TellOperator, TellPlain};
 use wasm_types::{BinaryReader, Error, Result};
 
 /// The memory of a reader's frames.
@@ -261,7 +261,7 @@ impl<'a> OperatorsReader<'a> {
 }
 
 impl<'a> FrameStack for OperatorsReader<'a> {
-    ghost use Rattle.wasm_operators_expression.specs.Stack.{innermost};
+    ghost use Rattle.wasm_operators_encoding.specs.expressions.Stack.{innermost};
 
     ghost frame = { λ s. innermost s.frames };
 

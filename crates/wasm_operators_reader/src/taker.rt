@@ -2,8 +2,8 @@
 
 ghost use Rattle.std.specs.Prelude.{◌≡◌};
 
-use wasm_operators_expression::Operator;
-use wasm_operators_read_short::{TellOperator, short_control_at, short_operator_at};
+use wasm_operators_encoding::expressions::Operator;
+use wasm_operators_frequent::reading::{TellOperator, short_control_at, short_operator_at};
 use wasm_operators_visit_simd_operator::Visitor;
 use wasm_types::WasmFeatures;
 
@@ -14,7 +14,7 @@ pub(crate) struct Taker;
 impl<'a> Visitor<'a> for Taker {
     type Output = Operator<'a>;
 
-    ghost use Rattle.wasm_operators_expression.specs.operator.Op.{op_of};
+    ghost use Rattle.wasm_operators_enums.specs.Op.{op_of};
 
     ghost visits = { λ before op answer after. op ≡ op_of answer };
 }

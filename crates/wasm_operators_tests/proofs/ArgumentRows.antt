@@ -1,10 +1,10 @@
 -- These rows compute.
 use Rattle.std.proofs.Common.{refl}
-use Rattle.wasm_types.specs.features.Features.{has}
+use Rattle.wasm_types.specs.settings.Features.{has}
 use Rattle.wasm_types.specs.decoding.Leb.{unsigned}
-use Rattle.wasm_operators_decode_encoding.specs.decode_immediates.MemoryArguments.{memory_argument, flags, after_flags, named_memory, named_ordering, access_ordering, offset}
-use Rattle.wasm_operators_decode_encoding.specs.decode_immediates.Bytes.{ordering_by}
-use Rattle.wasm_operators_decode_encoding.specs.decode_immediates.Immediates.{immediate}
+use Rattle.wasm_operators_encoding.specs.immediates.MemoryArguments.{memory_argument, flags, after_flags, named_memory, named_ordering, access_ordering, offset}
+use Rattle.wasm_operators_encoding.specs.immediates.Bytes.{ordering_by}
+use Rattle.wasm_operators_encoding.specs.immediates.Immediates.{immediate}
 use Rattle.wasm_operators_tests.specs.worked.ArgumentRows.{ArgumentRows}
 
 pub arguments : ArgumentRows

@@ -1,10 +1,10 @@
 -- These rows compute.
 use Rattle.std.proofs.Common.{refl}
-use Rattle.wasm_types.specs.features.Features.{has}
+use Rattle.wasm_types.specs.settings.Features.{has}
 use Rattle.wasm_types.specs.decoding.Leb.{unsigned}
 use Rattle.wasm_types.specs.decoding.Decoder.{repeated}
-use Rattle.wasm_operators_decode_encoding.specs.decode_immediates.Bytes.{index_or_zero, zero_byte, ordering_by, lane, shuffle, vector}
-use Rattle.wasm_operators_decode_encoding.specs.decode_immediates.Immediates.{immediate}
+use Rattle.wasm_operators_encoding.specs.immediates.Bytes.{index_or_zero, zero_byte, ordering_by, lane, shuffle, vector}
+use Rattle.wasm_operators_encoding.specs.immediates.Immediates.{immediate}
 use Rattle.wasm_operators_tests.specs.worked.ByteRows.{ByteRows}
 
 pub bytes : ByteRows

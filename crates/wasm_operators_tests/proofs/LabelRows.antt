@@ -2,7 +2,7 @@
 use Rattle.std.proofs.Common.{refl}
 use Rattle.wasm_types.specs.decoding.Decoder.{repeated}
 use Rattle.wasm_types.specs.decoding.Leb.{unsigned}
-use Rattle.wasm_operators_decode_encoding.specs.immediates.Numbers.{numbers_at}
+use Rattle.wasm_operators_immediates.specs.Numbers.{numbers_at}
 use Rattle.wasm_operators_tests.specs.worked.LabelRows.{LabelRows}
 
 pub labels : LabelRows

@@ -2,7 +2,7 @@
 use Rattle.std.proofs.Common.{refl}
 use Rattle.wasm_types.specs.decoding.Leb.{unsigned, signed, last_bits}
 use Rattle.wasm_types.specs.decoding.Text.{word}
-use Rattle.wasm_operators_decode_encoding.specs.decode_immediates.Immediates.{immediate}
+use Rattle.wasm_operators_encoding.specs.immediates.Immediates.{immediate}
 use Rattle.wasm_operators_tests.specs.worked.NumberRows.{NumberRows}
 
 pub numbers : NumberRows

@@ -2,9 +2,9 @@
 use Rattle.std.proofs.Common.{List, refl, ap}
 use Rattle.wasm_types.specs.decoding.Leb.{unsigned}
 use Rattle.wasm_types.specs.values.declared.value.ValType.{ValType}
-use Rattle.wasm_operators_operator.specs.Op as op
-use Rattle.wasm_operators_decode_encoding.specs.Opcodes.{opcode}
-use Rattle.wasm_operators_decode_encoding.specs.Groups.{numeric_kinds, simd_numeric_kinds}
+use Rattle.wasm_operators_enums.specs.Op as op
+use Rattle.wasm_operators_encoding.specs.Opcodes.{opcode}
+use Rattle.wasm_operators_encoding.specs.Groups.{numeric_kinds, simd_numeric_kinds}
 use Rattle.wasm_operators_tests.specs.list.OperatorRows.{ToldAsWorked, TreeRows, RoleRows, CanonicalRows, KeptRows}
 
 pub told_rows : ToldAsWorked

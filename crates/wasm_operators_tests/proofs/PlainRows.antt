@@ -1,23 +1,23 @@
 -- These rows compute.
 use Rattle.std.proofs.Common.{refl}
-use Rattle.wasm_types.specs.features.Features.{has}
+use Rattle.wasm_types.specs.settings.Features.{has}
 use Rattle.wasm_types.specs.decoding.Decoder.{repeated}
 use Rattle.wasm_types.specs.decoding.Leb.{unsigned, signed, last_bits}
 use Rattle.wasm_types.specs.decoding.Lists.{size_within, listed_within}
 use Rattle.wasm_types.specs.decoding.Text.{word}
 use Rattle.wasm_types.specs.values.Decode.{abstract_heap_type, concrete_heap_type, exact_heap_type, heap_type_after, heap_type, reference_after}
 use Rattle.wasm_types.specs.values.DecodeValues.{value_type_after, value_type}
-use Rattle.wasm_types.specs.limits.Limits.{default_limits}
-use Rattle.wasm_operators_decode_encoding.specs.immediates.Blocks.{function_block, value_block, empty_block, block_type}
-use Rattle.wasm_operators_decode_encoding.specs.immediates.Handlers.{clause_after, clause, try_table, handle_after, handle, handlers}
-use Rattle.wasm_operators_decode_encoding.specs.immediates.Labels.{labels}
-use Rattle.wasm_operators_decode_encoding.specs.decode_immediates.Bytes.{zero_byte, index_or_zero, ordering_by, lane, shuffle, vector, select_types}
-use Rattle.wasm_operators_decode_encoding.specs.decode_immediates.Casts.{cast_after, cast_branch}
-use Rattle.wasm_operators_decode_encoding.specs.decode_immediates.MemoryArguments.{flags, named_memory, access_ordering, named_ordering, offset, after_flags, memory_argument}
-use Rattle.wasm_operators_decode_encoding.specs.decode_immediates.Immediates.{immediate}
-use Rattle.wasm_operators_decode_encoding.specs.Coded.{operator}
-use Rattle.wasm_operators_decode_encoding.specs.Groups.{numeric_kinds, simd_numeric_kinds}
-use Rattle.wasm_operators_decode_encoding.specs.Opcodes.{opcode}
+use Rattle.wasm_types.specs.settings.Limits.{default_limits}
+use Rattle.wasm_operators_immediates.specs.Blocks.{function_block, value_block, empty_block, block_type}
+use Rattle.wasm_operators_immediates.specs.Handlers.{clause_after, clause, try_table, handle_after, handle, handlers}
+use Rattle.wasm_operators_immediates.specs.Labels.{labels}
+use Rattle.wasm_operators_encoding.specs.immediates.Bytes.{zero_byte, index_or_zero, ordering_by, lane, shuffle, vector, select_types}
+use Rattle.wasm_operators_encoding.specs.immediates.Casts.{cast_after, cast_branch}
+use Rattle.wasm_operators_encoding.specs.immediates.MemoryArguments.{flags, named_memory, access_ordering, named_ordering, offset, after_flags, memory_argument}
+use Rattle.wasm_operators_encoding.specs.immediates.Immediates.{immediate}
+use Rattle.wasm_operators_encoding.specs.Coded.{operator}
+use Rattle.wasm_operators_encoding.specs.Groups.{numeric_kinds, simd_numeric_kinds}
+use Rattle.wasm_operators_encoding.specs.Opcodes.{opcode}
 use Rattle.wasm_operators_tests.specs.worked.PlainRows.{PlainRows}
 
 pub plain : PlainRows

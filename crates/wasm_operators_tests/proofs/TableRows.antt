@@ -4,12 +4,12 @@ use Rattle.wasm_types.specs.decoding.Leb.{unsigned}
 use Rattle.wasm_types.specs.decoding.Decoder.{repeated}
 use Rattle.wasm_types.specs.decoding.Lists.{size_within, listed_within}
 use Rattle.wasm_types.specs.values.DecodeValues.{value_type, value_type_after}
-use Rattle.wasm_types.specs.limits.Limits.{default_limits}
-use Rattle.wasm_operators_decode_encoding.specs.immediates.Blocks.{block_type, value_block, empty_block}
-use Rattle.wasm_operators_decode_encoding.specs.immediates.Labels.{labels}
-use Rattle.wasm_operators_decode_encoding.specs.immediates.Handlers.{clause, clause_after, try_table, handle, handle_after, handlers}
-use Rattle.wasm_operators_decode_encoding.specs.decode_immediates.Bytes.{select_types}
-use Rattle.wasm_operators_decode_encoding.specs.decode_immediates.Immediates.{immediate}
+use Rattle.wasm_types.specs.settings.Limits.{default_limits}
+use Rattle.wasm_operators_immediates.specs.Blocks.{block_type, value_block, empty_block}
+use Rattle.wasm_operators_immediates.specs.Labels.{labels}
+use Rattle.wasm_operators_immediates.specs.Handlers.{clause, clause_after, try_table, handle, handle_after, handlers}
+use Rattle.wasm_operators_encoding.specs.immediates.Bytes.{select_types}
+use Rattle.wasm_operators_encoding.specs.immediates.Immediates.{immediate}
 use Rattle.wasm_operators_tests.specs.worked.TableRows.{TableRows}
 
 pub tables : TableRows

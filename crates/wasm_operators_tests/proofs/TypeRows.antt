@@ -5,11 +5,11 @@ use Rattle.wasm_types.specs.decoding.Decoder.{repeated}
 use Rattle.wasm_types.specs.decoding.Lists.{size_within, listed_within}
 use Rattle.wasm_types.specs.values.Decode.{heap_type, heap_type_after, concrete_heap_type, exact_heap_type, abstract_heap_type, reference_after}
 use Rattle.wasm_types.specs.values.DecodeValues.{value_type, value_type_after}
-use Rattle.wasm_types.specs.limits.Limits.{default_limits}
-use Rattle.wasm_operators_decode_encoding.specs.immediates.Blocks.{block_type, function_block, value_block, empty_block}
-use Rattle.wasm_operators_decode_encoding.specs.decode_immediates.Bytes.{select_types}
-use Rattle.wasm_operators_decode_encoding.specs.decode_immediates.Casts.{cast_branch, cast_after}
-use Rattle.wasm_operators_decode_encoding.specs.decode_immediates.Immediates.{immediate}
+use Rattle.wasm_types.specs.settings.Limits.{default_limits}
+use Rattle.wasm_operators_immediates.specs.Blocks.{block_type, function_block, value_block, empty_block}
+use Rattle.wasm_operators_encoding.specs.immediates.Bytes.{select_types}
+use Rattle.wasm_operators_encoding.specs.immediates.Casts.{cast_branch, cast_after}
+use Rattle.wasm_operators_encoding.specs.immediates.Immediates.{immediate}
 use Rattle.wasm_operators_tests.specs.worked.TypeRows.{TypeRows}
 
 pub types : TypeRows

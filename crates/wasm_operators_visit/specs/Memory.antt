@@ -1,7 +1,7 @@
 -- Which operators keep a list in memory. A copy of any other operator takes no memory.
 use Rattle.std.specs.Prelude.{Bool, true, false}
-use Rattle.wasm_operators_operator.specs.Op.{Op, Parametric, Exception, Continuation, ParametricTree, TypedSelectMulti, ExceptionTree, TryTable}
-use Rattle.wasm_operators_operator.specs.Op.{ContinuationTree, Resume, ResumeThrow, ResumeThrowRef}
+use Rattle.wasm_operators_enums.specs.Op.{Op, Parametric, Exception, Continuation, ParametricTree, TypedSelectMulti, ExceptionTree, TryTable}
+use Rattle.wasm_operators_enums.specs.Op.{ContinuationTree, Resume, ResumeThrow, ResumeThrowRef}
 
 -- the types of `select`
 abbrev pub parametric_keeps_list : ParametricTree → Bool

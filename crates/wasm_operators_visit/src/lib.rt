@@ -5,15 +5,20 @@
 //! the answer, and itself after. What lends a visitor ([`Lender`]), as a reference or
 //! a box does, is a visitor too. `specs/Memory.antt` defines which operators keep a list, so that a copy of one takes
 //! memory.
+//!
+//! Its parts beside these:
+//!
+//! - [`control`]: visits of operators of control, of those that take operands of any type, of exceptions and of continuations.
 #![tactic(auto)]
 
 ghost use Rattle.std.specs.Prelude.{◌≡◌};
-ghost use Rattle.wasm_operators_operator.specs.Op.{Op};
+ghost use Rattle.wasm_operators_enums.specs.Op.{Op};
 
+pub mod control;
 mod lender;
 
 pub use lender::Lender;
-pub use wasm_operators_operator::{
+pub use wasm_operators_enums::{
     AtomicOperator, BlockType, BrTable, BulkOperator, ConstOperator, ContinuationOperator,
     ControlOperator, DescriptorOperator, ExceptionOperator, GcOperator, MemArg, MemoryOperator,
     NumericOperator, Operator, Ordering, ParametricOperator, ResumeTable, SharedOperator,

@@ -1,6 +1,6 @@
 //! The visit that belongs to an operator.
 
-ghost use Rattle.wasm_operators_visit.specs.operator.Op.{Op};
+ghost use Rattle.wasm_operators_enums.specs.Op.{Op};
 
 use crate::VisitMemory;
 use wasm_operators_visit::{BulkOperator, ConstOperator, MemoryOperator};

@@ -1,9 +1,9 @@
 //! One visit for each operator.
 
-ghost use Rattle.wasm_operators_visit.specs.operator.Op.{Op};
-ghost use Rattle.wasm_operators_visit.specs.groups.declared.memory.MemoryOperator.{MemoryOperator};
-ghost use Rattle.wasm_operators_visit.specs.groups.declared.bulk.BulkOperator.{BulkOperator};
-ghost use Rattle.wasm_operators_visit.specs.groups.declared.constant.ConstOperator.{ConstOperator};
+ghost use Rattle.wasm_operators_enums.specs.Op.{Op};
+ghost use Rattle.wasm_operators_enums.specs.declared.memory.MemoryOperator.{MemoryOperator};
+ghost use Rattle.wasm_operators_enums.specs.declared.bulk.BulkOperator.{BulkOperator};
+ghost use Rattle.wasm_operators_enums.specs.declared.constant.ConstOperator.{ConstOperator};
 
 use wasm_operators_visit::{MemArg, Visitor};
 use wasm_types::{HeapType, Ieee32, Ieee64};

@@ -1,7 +1,7 @@
 -- Which operators are those on vectors (WebAssembly 3.0, structure, vector instructions).
 use Rattle.std.specs.Prelude.{Bool, true, false}
-use Rattle.wasm_operators_visit_control.specs.operator.Op.{Op, Control, Parametric, Exception, Memory, Const, Numeric, Bulk, Gc, Descriptor, Simd}
-use Rattle.wasm_operators_visit_control.specs.operator.Op.{SimdNumeric, Atomic, Shared, Continuation}
+use Rattle.wasm_operators_enums.specs.Op.{Op, Control, Parametric, Exception, Memory, Const, Numeric, Bulk, Gc, Descriptor, Simd}
+use Rattle.wasm_operators_enums.specs.Op.{SimdNumeric, Atomic, Shared, Continuation}
 
 -- the two groups of vectors
 abbrev pub is_simd : Op → Bool

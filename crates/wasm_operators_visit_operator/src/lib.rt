@@ -6,19 +6,21 @@
 #![tactic(auto)]
 
 ghost use Rattle.std.specs.Prelude.{◌≡◌, false, IsTrue, IfOk, IfErr, OnErr};
-ghost use Rattle.wasm_operators_visit_control.specs.visit.Memory.{keeps_list};
+ghost use Rattle.wasm_operators_visit.specs.Memory.{keeps_list};
 ghost use Rattle.wasm_operators_visit_operator.specs.Vectors.{is_simd};
-ghost use Rattle.wasm_operators_visit_control.specs.operator.Op.{op_of};
+ghost use Rattle.wasm_operators_enums.specs.Op.{op_of};
 
 use std::alloc::AllocError;
-use wasm_operators_visit_control::Operator;
-pub use wasm_operators_visit_control::{
+use wasm_operators_visit::control::Operator;
+pub use wasm_operators_visit::control::{
     VisitControl, visit_continuation, visit_control, visit_exception, visit_parametric,
 };
-pub use wasm_operators_visit_gc::{VisitGc, visit_descriptor, visit_gc};
+pub use wasm_operators_visit_atomics::dispatch::{
+    VisitAtomic, VisitShared, visit_atomic, visit_shared,
+};
+pub use wasm_operators_visit_memory::gc::{VisitGc, visit_descriptor, visit_gc};
 pub use wasm_operators_visit_memory::{VisitMemory, visit_bulk, visit_const, visit_memory};
-pub use wasm_operators_visit_numbers::{VisitFloats, VisitIntegers, visit_numeric};
-pub use wasm_operators_visit_threads::{VisitAtomic, VisitShared, visit_atomic, visit_shared};
+pub use wasm_operators_visit_numbers::dispatch::{VisitFloats, VisitIntegers, visit_numeric};
 
 /// Whether an operator is one on vectors (WebAssembly 3.0, structure, vector instructions).
 #[inline]

@@ -6,8 +6,8 @@
 #![tactic(auto)]
 
 ghost use Rattle.std.specs.Prelude.{◌≡◌, IsTrue, IfOk, IfErr, OnErr};
-ghost use Rattle.wasm_operators_visit_vectors.specs.visit.Memory.{keeps_list};
-ghost use Rattle.wasm_operators_visit_vectors.specs.operator.Op.{op_of};
+ghost use Rattle.wasm_operators_visit_operator.specs.visit.Memory.{keeps_list};
+ghost use Rattle.wasm_operators_enums.specs.Op.{op_of};
 
 use std::alloc::AllocError;
 use wasm_operators_visit_operator::{
@@ -19,8 +19,8 @@ pub use wasm_operators_visit_operator::{
     VisitAtomic, VisitControl, VisitFloats, VisitGc, VisitIntegers, VisitMemory, VisitOperator,
     VisitShared, is_simd,
 };
-use wasm_operators_visit_vectors::{Operator, visit_simd, visit_simd_numeric};
-pub use wasm_operators_visit_vectors::{
+use wasm_operators_visit_simd::{Operator, visit_simd, visit_simd_numeric};
+pub use wasm_operators_visit_simd::{
     VisitSimd, VisitSimdFloats, VisitSimdNarrow, VisitSimdWide, Visitor,
 };
 

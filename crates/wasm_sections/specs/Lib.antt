@@ -1,13 +1,21 @@
--- The rules, decoders and laws of the parts, each under the part's name.
-pub use Rattle.wasm_sections_frames.specs as frames
-pub use Rattle.wasm_sections_limited.specs as limited
+pub use Rattle.wasm_sections_items.specs.frames as frames
+pub use Rattle.wasm_sections_items.specs.limited as limited
 pub use Rattle.wasm_sections_items.specs.imports as imports
 pub use Rattle.wasm_sections_items.specs.segments as segments
 pub use Rattle.wasm_sections_items.specs.elements as elements
 pub use Rattle.wasm_sections_parser.specs as parser
-pub use Rattle.wasm_sections_parser_laws.specs.steps as steps
-pub use Rattle.wasm_sections_parser_laws.specs.hints as hints
-pub use Rattle.wasm_sections_parser_laws.specs.calls as calls
-pub use Rattle.wasm_sections_parser_laws.specs as runs
-pub use Rattle.wasm_sections_payloads.specs as payloads
-pub use Rattle.wasm_sections_payloads.specs.bodies as bodies
+pub use Rattle.wasm_sections_parser.specs.runs.steps as steps
+pub use Rattle.wasm_sections_parser.specs.runs.hints as hints
+pub use Rattle.wasm_sections_parser.specs.runs.calls as calls
+pub use Rattle.wasm_sections_parser.specs.runs as runs
+pub use Rattle.wasm_operators_bodies.specs as bodies
+-- Rules: which payload a frame is.
+pub mod Payloads
+-- Rules: what a call of the parser answers, and the payloads of a module that is all there.
+pub mod Parsing
+pub mod Walking
+-- Laws.
+pub mod WalkLaws
+pub mod CallLaws
+-- Worked rows.
+pub mod Worked

@@ -4,3 +4,7 @@ pub mod imports
 pub mod segments
 -- Rules, decoders, laws and worked rows of element segments.
 pub mod elements
+-- Rules and laws: modules as frames.
+pub mod frames
+-- Rules and laws: the contents of a section as a count and as many items.
+pub mod limited

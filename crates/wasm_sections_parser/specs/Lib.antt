@@ -11,3 +11,7 @@ pub mod StepLaws
 pub mod PlaceLaws
 -- Worked rows.
 pub mod Worked
+-- Rules and laws: what a parser gives of a module is what its bytes spell.
+pub mod runs
+-- The rules of crates below, under their names: crates above cite them here.
+pub use Rattle.wasm_sections_items.specs as items

@@ -1,6 +1,6 @@
 -- What contracts see of a parser.
 use Rattle.std.specs.Prelude.{ℕ}
-use Rattle.wasm_types.specs.limits.Settings.{Settings}
+use Rattle.wasm_types.specs.settings.Settings.{Settings}
 use Rattle.wasm_sections_parser.specs.declared.progress.Stage.{Stage}
 use Rattle.wasm_sections_parser.specs.declared.progress.Progress.{Progress}
 

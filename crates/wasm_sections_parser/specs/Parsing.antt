@@ -1,9 +1,9 @@
 -- What a call of a parser answers, and where the parser stands then.
 use Rattle.std.specs.Prelude.{◌≡◌, ℕ, ◌+◌, ◌==◌, nat_le, List, length, Bool, true, false, None, Result, Ok, Err, if◌then◌else◌}
 use Rattle.wasm_types.specs.decoding.Decoder.{State, Outcome, Done, Short}
-use Rattle.wasm_types.specs.error.declared.error.ErrorKind.TheVariants.{Failed, Other}
-use Rattle.wasm_types.specs.error.ErrorValue.{ErrorValue}
-use Rattle.wasm_types.specs.error.ErrorText.{hint_of}
+use Rattle.wasm_types.specs.decoding.declared.error.ErrorKind.TheVariants.{Failed, Other}
+use Rattle.wasm_types.specs.decoding.ErrorValue.{ErrorValue}
+use Rattle.wasm_types.specs.decoding.ErrorText.{hint_of}
 use Rattle.wasm_types.specs.reader.Reading.{Fails, IsNotMemory}
 use Rattle.wasm_sections_parser.specs.declared.frame.Encoding.{Encoding}
 use Rattle.wasm_sections_parser.specs.declared.frame.Encoding.TheVariants as encodings

@@ -1,7 +1,7 @@
 -- Where contents begin.
 use Rattle.std.proofs.Common.{◌≡◌, ℕ, List, [], ◌∷◌, refl, sym, ap, ◌∙◌, subst, arith, Result, Ok, Err}
 use Rattle.std.specs.Prelude.{IfOk}
-use Rattle.wasm_types.specs.limits.Settings.{Settings}
+use Rattle.wasm_types.specs.settings.Settings.{Settings}
 use Rattle.wasm_types.specs.decoding.Decoder.{State, Done, first_of_rest, byte}
 use Rattle.wasm_types.specs.decoding.ExactLaws.{state_is}
 use Rattle.wasm_types.specs.decoding.Leb.{u32}

@@ -1,6 +1,6 @@
 -- Where a frame stands in the input (WebAssembly 3.0, binary format, modules).
 use Rattle.std.specs.Prelude.{◌≡◌, ℕ, ◌+◌, List, ◌∷◌, ◌++◌, length}
-use Rattle.wasm_types.specs.limits.Settings.{Settings}
+use Rattle.wasm_types.specs.settings.Settings.{Settings}
 use Rattle.wasm_types.specs.decoding.Decoder.{State}
 use Rattle.wasm_types.specs.decoding.Leb.{IsUnsigned}
 use Rattle.wasm_sections_parser.specs.declared.frame.Frame.{Frame}

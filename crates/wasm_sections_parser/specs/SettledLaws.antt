@@ -3,9 +3,9 @@ use Rattle.std.proofs.Common.{◌≡◌, ℕ, ◌+◌, List, [], ◌∷◌, ◌+
 use Rattle.std.proofs.lemmas.List.{append-nil, length-append}
 use Rattle.wasm_types.specs.decoding.Decoder.{State, Outcome, Done, Short, Decoder, bytes}
 use Rattle.wasm_types.specs.decoding.ExactLaws.{decides-bytes}
-use Rattle.wasm_types.specs.error.declared.error.ErrorKind.{ErrorKind}
-use Rattle.wasm_types.specs.error.declared.error.ErrorKind.TheVariants.{EndOfData, MissingFeature, OutOfMemory, Failed, Other}
-use Rattle.wasm_types.specs.error.ErrorText.{hint_of}
+use Rattle.wasm_types.specs.decoding.declared.error.ErrorKind.{ErrorKind}
+use Rattle.wasm_types.specs.decoding.declared.error.ErrorKind.TheVariants.{EndOfData, MissingFeature, OutOfMemory, Failed, Other}
+use Rattle.wasm_types.specs.decoding.ErrorText.{hint_of}
 use Rattle.wasm_types.specs.reader.Reading.{FailsAt, IsNotMemory}
 use Rattle.wasm_sections_parser.specs.Steps.{found, in_part}
 use Rattle.wasm_sections_parser.specs.Settled.{settled}

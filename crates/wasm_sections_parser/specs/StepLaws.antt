@@ -2,7 +2,7 @@
 use Rattle.std.proofs.Common.{◌≡◌, ℕ, ◌+◌, ◌-◌, ◌<◌, ◌≤◌, ◌^◌, List, [], length, refl, sym, subst, arith, cond, Bool, true, false}
 use Rattle.std.specs.Prelude.{nat_lt, ◌==◌}
 use Rattle.std.proofs.lemmas.Bool.{ltb-true, ltb-false, lt-ltb, le-ltb}
-use Rattle.wasm_types.specs.limits.Settings.{Settings}
+use Rattle.wasm_types.specs.settings.Settings.{Settings}
 use Rattle.wasm_types.specs.decoding.declared.Refusal.TheVariants.{Other}
 use Rattle.wasm_types.specs.decoding.Decoder.{State, extended, Outcome, Done, Short, Fault, Decoder, byte, bytes, GoesOn, GoesForward, IsBeyond, IsLawful}
 use Rattle.wasm_types.specs.decoding.Laws.{takes_none, lawful->>=, lawful-pure, lawful-refuse, lawful-byte, lawful-if, lawful-bytes}
@@ -12,8 +12,8 @@ use Rattle.wasm_types.specs.decoding.ListLaws.{lawful-from_place, lawful-refuse_
 use Rattle.wasm_types.specs.decoding.Text.{name}
 use Rattle.wasm_types.specs.reader.Parts.{next_part}
 use Rattle.wasm_types.specs.reader.PartLaws.{lawful-next_part}
-use Rattle.wasm_sections_frames.specs.Decode.{header}
-use Rattle.wasm_sections_frames.specs.PartLaws.{lawful-header}
+use Rattle.wasm_sections_items.specs.frames.Decode.{header}
+use Rattle.wasm_sections_items.specs.frames.PartLaws.{lawful-header}
 use Rattle.wasm_sections_parser.specs.declared.progress.Stage.{Stage}
 use Rattle.wasm_sections_parser.specs.declared.progress.Stage.TheVariants as stages
 use Rattle.wasm_sections_parser.specs.declared.progress.Progress.{Progress}

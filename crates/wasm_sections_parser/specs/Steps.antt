@@ -1,15 +1,15 @@
 -- What comes next of a module, where a parser stands (WebAssembly 3.0, binary format, modules): a frame, and where it stands then.
--- The whole sections and their order are those of `wasm_sections_frames`.
+-- The whole sections and their order are those of `wasm_sections_items::frames`.
 use Rattle.std.specs.Prelude.{ℕ, ◌+◌, ◌-◌, ◌^◌, ◌==◌, nat_lt, nat_le, Bool, true, false, List, [], Option, Some, None, if◌then◌else◌}
-use Rattle.wasm_types.specs.limits.Settings.{Settings}
+use Rattle.wasm_types.specs.settings.Settings.{Settings}
 use Rattle.wasm_types.specs.decoding.declared.Refusal.TheVariants.{Other}
 use Rattle.wasm_types.specs.decoding.Decoder.{State, Outcome, Done, Short, Fault, Decoder, ◌>>=◌, pure, refuse, byte, bytes}
 use Rattle.wasm_types.specs.decoding.Leb.{u32}
 use Rattle.wasm_types.specs.decoding.Lists.{refuse_at}
 use Rattle.wasm_types.specs.decoding.Text.{name}
 use Rattle.wasm_types.specs.reader.Parts.{next_part}
-use Rattle.wasm_sections_frames.specs.Outer.{Header, rank}
-use Rattle.wasm_sections_frames.specs.Decode.{header}
+use Rattle.wasm_sections_items.specs.frames.Outer.{Header, rank}
+use Rattle.wasm_sections_items.specs.frames.Decode.{header}
 use Rattle.wasm_sections_parser.specs.declared.progress.Stage.{Stage}
 use Rattle.wasm_sections_parser.specs.declared.progress.Stage.TheVariants as stages
 use Rattle.wasm_sections_parser.specs.declared.progress.Progress.{Progress}

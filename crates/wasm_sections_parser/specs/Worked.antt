@@ -1,13 +1,13 @@
 -- Worked steps of a parser.
 use Rattle.std.proofs.Common.{◌≡◌, ℕ, ◌-◌, ◌^◌, List, [], ◌∷◌, drop, refl, sym, ap, arith, true, false, Some, None}
-use Rattle.wasm_types.specs.limits.Settings.{no_features}
+use Rattle.wasm_types.specs.settings.Settings.{no_features}
 use Rattle.wasm_types.specs.decoding.declared.Refusal.TheVariants.{Other}
 use Rattle.wasm_types.specs.decoding.Decoder.{State, Done, Short, Fault}
 use Rattle.wasm_types.specs.decoding.ExactLaws.{state_is}
 use Rattle.wasm_types.specs.decoding.Leb.{unsigned, u32, last, more}
 use Rattle.wasm_types.specs.decoding.LebLaws.{decides-u32}
 use Rattle.wasm_types.specs.values.WorkedTypeLaws.{start_of, behind}
-use Rattle.wasm_sections_frames.specs.Decode.{header}
+use Rattle.wasm_sections_items.specs.frames.Decode.{header}
 use Rattle.wasm_sections_parser.specs.declared.progress.Stage.{Stage}
 use Rattle.wasm_sections_parser.specs.declared.progress.Stage.TheVariants as stages
 use Rattle.wasm_sections_parser.specs.declared.progress.Progress.{Progress}

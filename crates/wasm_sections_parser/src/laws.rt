@@ -1,6 +1,6 @@
 //! Laws of what a parser reads, each the contract of a function that does nothing.
 
-ghost use Rattle.wasm_types.specs.limits.Settings.{Settings};
+ghost use Rattle.wasm_types.specs.settings.Settings.{Settings};
 ghost use Rattle.wasm_types.specs.decoding.Decoder.{IsLawful};
 ghost use Rattle.wasm_sections_parser.specs.declared.progress.Progress.{Progress};
 ghost use Rattle.wasm_sections_parser.specs.Steps.{step};

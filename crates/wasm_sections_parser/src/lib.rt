@@ -2,6 +2,10 @@
 //! as its start and then body by body, the end.
 //!
 //! `specs/Steps.antt` says what comes next where a parser stands, and `specs/Parsing.antt` what a call of `parse` answers.
+//!
+//! Its parts beside these:
+//!
+//! - [`runs`]: what a parser gives of a module is what its bytes spell.
 #![tactic(auto)]
 
 mod bodies;
@@ -11,6 +15,7 @@ mod needs;
 mod numbers;
 mod parser;
 mod progress;
+pub mod runs;
 mod sections;
 
 pub use frame::{CustomSectionReader, Encoding, Frame};

@@ -1,8 +1,8 @@
 //! The parser.
 
 ghost use Rattle.std.specs.Prelude.{◌≡◌, ◌+◌, ◌<◌, ◌^◌, length, None};
-ghost use Rattle.wasm_types.specs.features.Sets.{bits_of, default_features};
-ghost use Rattle.wasm_types.specs.limits.Limits.{default_limits, IsWithinCeilings};
+ghost use Rattle.wasm_types.specs.settings.Sets.{bits_of, default_features};
+ghost use Rattle.wasm_types.specs.settings.Limits.{default_limits, IsWithinCeilings};
 ghost use Rattle.wasm_types.specs.reader.Reading.{NeedsNoMemory};
 ghost use Rattle.wasm_sections_parser.specs.declared.progress.Stage.TheVariants.{Header, Failed};
 ghost use Rattle.wasm_sections_parser.specs.Parsers.{staged};
@@ -19,7 +19,7 @@ use wasm_types::{BinaryReader, Error, Limits, Result, WasmFeatures};
 #[derive(Drop)]
 pub enum Chunk<'a> {
     /// So many more bytes than were given are needed, and no fewer: with fewer the call is answered so again, and some so many bring a
-    /// frame or a refusal (`wasm_sections_parser_laws` has the laws). The parser is as it was: the next call is given the same bytes
+    /// frame or a refusal (`wasm_sections_parser::runs` has the laws). The parser is as it was: the next call is given the same bytes
     /// again, with more behind them.
     NeedMoreData(usize),
     /// A frame of so many bytes.
@@ -41,7 +41,7 @@ pub struct Parser {
 }
 
 impl Model for Parser {
-    ghost use Rattle.wasm_types.specs.limits.Limits.{IsWithinCeilings};
+    ghost use Rattle.wasm_types.specs.settings.Limits.{IsWithinCeilings};
     ghost use Rattle.wasm_sections_parser.specs.Parsers.{Parser as Standing};
 
     ghost Value = { Standing };

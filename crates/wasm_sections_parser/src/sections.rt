@@ -6,7 +6,7 @@ ghost use Rattle.wasm_types.specs.decoding.Leb.{u32 as u32_decoder};
 ghost use Rattle.wasm_types.specs.decoding.Text.{name};
 ghost use Rattle.wasm_types.specs.reader.Reading.{Gives, NeedsNoMemory};
 ghost use Rattle.wasm_types.specs.reader.Parts.{next_part};
-ghost use Rattle.wasm_sections_frames.specs.Decode.{is_magic, header_of};
+ghost use Rattle.wasm_sections_items.specs.frames.Decode.{is_magic, header_of};
 ghost use Rattle.wasm_types.specs.decoding.Text.{little_endian};
 ghost use Rattle.wasm_sections_parser.specs.Steps.{in_part, custom_next, section_next, contents, code_start, next_section, body, next_entry, behind_code, next_header, step};
 ghost use Rattle.wasm_sections_parser.specs.Parsing.{shape_of, layer_of};
@@ -288,7 +288,7 @@ fn layer_in(text: &[u8]) -> u16
 }
 
 // The magic number, the version and the layer.
-#[tactic(auto, using(wasm_types::specs::Laws::reaches_self, wasm_types::specs::Laws::reaches_then), unfolding(crate::specs::Steps::next_header, wasm_sections_frames::specs::Decode::header))]
+#[tactic(auto, using(wasm_types::specs::Laws::reaches_self, wasm_types::specs::Laws::reaches_then), unfolding(crate::specs::Steps::next_header, wasm_sections_items::specs::frames::Decode::header))]
 fn read_header<'a>(progress: Progress, reader: &mut BinaryReader<'a>) -> Result<Read<'a>>
     ensures answer { Gives (λ x. (shape_of x.frame, x.progress)) result reader.new (next_header progress reader.old) }
     ensures placed { IfOk result (λ x. IsPlaced x.frame x.progress reader.old reader.new.place) }

@@ -2,10 +2,10 @@
 -- modules).
 use Rattle.std.specs.Prelude.{◌≡◌, ℕ, ◌++◌, List, [], ◌∷◌, true, false, None, Ok, Err}
 use Rattle.wasm_types.specs.decoding.Decoder.{State}
-use Rattle.wasm_types.specs.error.declared.error.ErrorKind.{ErrorKind}
-use Rattle.wasm_types.specs.error.declared.error.ErrorKind.TheVariants.{EndOfData, OutOfMemory, Failed, Other}
-use Rattle.wasm_types.specs.error.ErrorValue.{ErrorValue}
-use Rattle.wasm_types.specs.limits.Settings.{Settings, no_features}
+use Rattle.wasm_types.specs.decoding.declared.error.ErrorKind.{ErrorKind}
+use Rattle.wasm_types.specs.decoding.declared.error.ErrorKind.TheVariants.{EndOfData, OutOfMemory, Failed, Other}
+use Rattle.wasm_types.specs.decoding.ErrorValue.{ErrorValue}
+use Rattle.wasm_types.specs.settings.Settings.{Settings, no_features}
 use Rattle.wasm_sections_parser.specs.declared.frame.CustomSectionReader.{CustomSectionReader}
 use Rattle.wasm_sections_parser.specs.declared.frame.Encoding.TheVariants.{Module, Component}
 use Rattle.wasm_sections_parser.specs.declared.frame.Frame.{Frame}
@@ -18,7 +18,7 @@ use Rattle.wasm_sections_parser.specs.declared.progress.Progress.{Progress}
 use Rattle.wasm_sections_parser.specs.Places.{IsPlacedBy}
 use Rattle.wasm_sections_parser.specs.Steps.{version, custom, section, code, entry, the_end, is_over}
 use Rattle.wasm_sections_parser.specs.Parsing.{shape_of, between, Parses}
-use Rattle.wasm_sections_parser_laws.specs.calls.Calls.{shapes_of, Called, Calls}
+use Rattle.wasm_sections_parser.specs.runs.calls.Calls.{shapes_of, Called, Calls}
 
 -- in this stage, behind sections up to a place, with so many functions and no body
 abbrev pub progress : Stage → ℕ → ℕ → Progress

@@ -2,7 +2,7 @@
 use Rattle.std.proofs.Common.{◌≡◌, ℕ, List, [], ◌∷◌, refl, ap}
 use Rattle.wasm_types.specs.decoding.Decoder.{State, Outcome, Done, byte, repeated}
 use Rattle.wasm_types.specs.decoding.Leb.{unsigned, u32}
-use Rattle.wasm_types.specs.limits.Settings.{no_features}
+use Rattle.wasm_types.specs.settings.Settings.{no_features}
 use Rattle.wasm_sections_tests.specs.Items.{ElementRows, HeldRows, ModeRows, there}
 
 pub element_rows : ElementRows

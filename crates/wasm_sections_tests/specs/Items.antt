@@ -3,9 +3,9 @@
 use Rattle.std.specs.Prelude.{◌≡◌, ℕ, ◌+◌, List, [], ◌∷◌, Some, None}
 use Rattle.std.specs.declared.ops.Range.{Range}
 use Rattle.wasm_types.specs.decoding.Decoder.{State, byte}
-use Rattle.wasm_types.specs.limits.Settings.{no_features}
+use Rattle.wasm_types.specs.settings.Settings.{no_features}
 use Rattle.wasm_types.specs.values.Reference.{Reference}
-use Rattle.wasm_sections_limited.specs.declared.section.SectionLimited.{SectionLimited}
+use Rattle.wasm_sections_items.specs.declared.limited.section.SectionLimited.{SectionLimited}
 use Rattle.wasm_sections_items.specs.declared.elements.element.ElementKindOf.TheVariants as kinds
 use Rattle.wasm_sections_items.specs.declared.elements.element.ElementItemsOf.TheVariants.{Functions, Expressions}
 use Rattle.wasm_sections_items.specs.elements.Spells.{passive, active, declared, functions, expressions, any_function}

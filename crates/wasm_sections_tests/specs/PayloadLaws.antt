@@ -1,13 +1,13 @@
 -- Calls of the parser of payloads, each row by that of its frame.
 use Rattle.std.proofs.Common.{◌≡◌, ℕ, ◌++◌, List, [], ◌∷◌, drop, refl, sym, ap, subst, arith, Bool, true, false, Ok}
-use Rattle.wasm_types.specs.limits.Settings.{Settings}
+use Rattle.wasm_types.specs.settings.Settings.{Settings}
 use Rattle.wasm_sections_parser.specs.declared.frame.Frame.{Frame}
 use Rattle.wasm_sections_parser.specs.declared.frame.Frame.TheVariants as frames
 use Rattle.wasm_sections_parser.specs.Parsers.{Parser}
 use Rattle.wasm_sections_parser.specs.declared.parser.Chunk.TheVariants.{Parsed}
 use Rattle.wasm_sections_parser.specs.Parsing.{Parses}
-use Rattle.wasm_sections_payloads.specs.declared.payload.Payload.TheVariants as payloads
-use Rattle.wasm_sections_payloads.specs.Payloads.{IsPayloadOf}
+use Rattle.wasm_sections.specs.declared.payload.Payload.TheVariants as payloads
+use Rattle.wasm_sections.specs.Payloads.{IsPayloadOf}
 use Rattle.wasm_sections_tests.specs.Frames.{begun, ended, eight, header}
 use Rattle.wasm_sections_tests.specs.FrameLaws.{header_next, header_and_more, header_ends, no_end}
 use Rattle.wasm_sections_tests.specs.Payloads.{TakenRows, PayloadRows, CalledRows}

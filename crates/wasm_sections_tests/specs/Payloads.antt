@@ -1,15 +1,15 @@
 -- Calls of the parser of payloads, worked by hand: what each takes, what is told behind the end, the payloads of several frames, and
 -- calls over a text that comes in pieces (WebAssembly 3.0, binary format, modules).
 use Rattle.std.specs.Prelude.{◌≡◌, ◌++◌, [], ◌∷◌, true, false, Ok, Err}
-use Rattle.wasm_types.specs.error.declared.error.ErrorKind.TheVariants.{Failed, Other}
-use Rattle.wasm_types.specs.limits.Settings.{Settings}
+use Rattle.wasm_types.specs.decoding.declared.error.ErrorKind.TheVariants.{Failed, Other}
+use Rattle.wasm_types.specs.settings.Settings.{Settings}
 use Rattle.wasm_sections_parser.specs.declared.frame.Encoding.TheVariants.{Module}
 use Rattle.wasm_sections_parser.specs.declared.frame.Frame.TheVariants as frames
-use Rattle.wasm_sections_payloads.specs.declared.payload.Payload.{Payload}
-use Rattle.wasm_sections_payloads.specs.declared.payload.Payload.TheVariants as payloads
-use Rattle.wasm_sections_payloads.specs.declared.parser.Chunk.TheVariants.{NeedMoreData, Parsed}
-use Rattle.wasm_sections_payloads.specs.Parsing.{taken, FailedBefore, CalledPayload, PayloadCalls}
-use Rattle.wasm_sections_payloads.specs.Walking.{payloads_left, ArePayloads, IsFrameOf}
+use Rattle.wasm_sections.specs.declared.payload.Payload.{Payload}
+use Rattle.wasm_sections.specs.declared.payload.Payload.TheVariants as payloads
+use Rattle.wasm_sections.specs.declared.parser.Chunk.TheVariants.{NeedMoreData, Parsed}
+use Rattle.wasm_sections.specs.Parsing.{taken, FailedBefore, CalledPayload, PayloadCalls}
+use Rattle.wasm_sections.specs.Walking.{payloads_left, ArePayloads, IsFrameOf}
 use Rattle.wasm_sections_tests.specs.Frames.{fresh, begun, ended, eight, header, error}
 
 abbrev pub version_1 : Payload

@@ -1,1 +1,7 @@
-pub use Rattle.wasm_types_groups.proofs.Rows
+pub use Rattle.wasm_types_reader.proofs.Rows
+pub mod Equality
+pub mod Copies
+pub mod Counts
+pub mod Values
+pub mod Places
+pub mod Remapping

@@ -1,6 +1,6 @@
 -- Decoders of bytes: what they answer, how they are put together, and their laws.
 use Rattle.std.specs.Prelude.{◌≡◌, ℕ, zero, suc, ◌+◌, ◌-◌, ◌<◌, ◌≤◌, List, [], ◌∷◌, ◌++◌, length, take, drop, nat_lt, ◌==◌, if◌then◌else◌}
-use Rattle.wasm_types_limits.specs.Settings.{Settings}
+use Rattle.wasm_types_settings.specs.Settings.{Settings}
 use Rattle.wasm_types_decoding.specs.declared.Refusal.{Refusal}
 
 -- Where a reader stands: the bytes that are left, the offset of the first of them, the features that are allowed and

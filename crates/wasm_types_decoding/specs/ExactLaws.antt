@@ -4,7 +4,7 @@ use Rattle.std.proofs.Common.{cond, Bool, true, false, inl, inr}
 use Rattle.std.specs.Prelude.{if◌then◌else◌, ◌==◌}
 use Rattle.std.proofs.lemmas.List.{length-append, append-nil, take-append-drop, length-take, take_at, drop_at}
 use Rattle.std.proofs.lemmas.Bool.{cases_lt, eqb-true}
-use Rattle.wasm_types_limits.specs.Settings.{Settings}
+use Rattle.wasm_types_settings.specs.Settings.{Settings}
 use Rattle.wasm_types_decoding.specs.declared.Refusal.{Refusal}
 use Rattle.wasm_types_decoding.specs.Decoder.{State, Outcome, Done, Short, Fault, Decoder, continue_with, ◌>>=◌, pure, refuse, first_of_rest, byte}
 use Rattle.wasm_types_decoding.specs.Decoder.{bytes, repeated, Takes, Grammar, Decides, Then, Many, choice, choice_or, look_first, look}

@@ -17,5 +17,18 @@ pub mod SignedLaws
 pub mod ListLaws
 pub mod TextLaws
 pub mod RowLaws
--- the rules of limits, under their name: crates above cite them here
-pub use Rattle.wasm_types_limits.specs as limits
+-- Definitions: numbers and their flaws at an offset in a slice, with their decoders.
+pub mod Numbers
+-- The laws and decoders that attributes of readers cite, which take a file's own names alone.
+pub mod NumbersLaws
+-- Definitions: an error's value, its text, what an answer tells of a fact.
+pub mod ErrorValue
+pub mod ErrorText
+pub mod Denials
+-- Worked errors.
+pub mod ErrorRows
+-- Laws.
+pub mod DenialLaws
+pub mod ErrorRowLaws
+-- The rules of crates below, under their names: crates above cite them here.
+pub use Rattle.wasm_types_settings.specs as settings

@@ -1,8 +1,8 @@
 -- Worked bytes: what each decoder answers, by hand. A changed decoder breaks a row.
 use Rattle.std.specs.Prelude.{◌≡◌, ℕ, ◌+◌, pos, negsuc, List, [], ◌∷◌, true, false}
 use Rattle.std.specs.Str.{is_utf8}
-use Rattle.wasm_types_limits.specs.Limits.{default_limits}
-use Rattle.wasm_types_limits.specs.Settings.{Settings}
+use Rattle.wasm_types_settings.specs.Limits.{default_limits}
+use Rattle.wasm_types_settings.specs.Settings.{Settings}
 use Rattle.wasm_types_decoding.specs.declared.Refusal.TheVariants.{MissingFeature, Other}
 use Rattle.wasm_types_decoding.specs.Decoder.{State, Done, Short, Fault, pure, refuse, byte, bytes, repeated, choice, choice_or, within, look}
 use Rattle.wasm_types_decoding.specs.Leb.{u32, u64, s32, s33, s64, listed}

@@ -4,11 +4,40 @@
 //! fault stay whatever bytes follow, that the hint of an end of data is exact, and that a value is read exactly where a
 //! grammar spells it. Readers of other crates state their contracts by these definitions; `docs/decoding.md` explains
 //! them in plain words.
+//!
+//! Numbers in LEB128 (WebAssembly 3.0, binary format, values, integers), read from the bytes of a slice at an offset in it:
+//! groups of seven bits, the lowest first, in a byte each, whose highest bit says that more follow.
+//!
+//! No reader moves here: each function takes the bytes and an offset, and gives the value with the offset behind it. So
+//! hot code keeps its position in a register, and a refusal leaves nothing to put back. Numbers of one and two bytes are
+//! taken at once (`short_..`), the longer ones by two loops, one for unsigned numbers of any width and one for signed
+//! ones, out of the way (`long_..`).
+//!
+//! Contracts are by the decoders of `wasm_types_decoding`, wherever in an input the slice stands.
+//!
+//! Why bytes are refused: the error of every layer.
+//!
+//! An [`Error`] has a kind (one of five, [`ErrorKind`]), the offset in the input at which something is wrong, and a
+//! message for people. Making one takes no memory: the message has a fixed room, and a longer text is cut.
+//! `specs/ErrorText.antt` defines what an error tells, and `specs/Denials.antt` what a refusal denies: nothing where
+//! memory ran out, and otherwise the fact that was asked for.
 #![tactic(auto)]
 
 ghost use Rattle.wasm_types_decoding.specs.Rows.{UnsignedRows, SignedRows, ByteRows, WordRows, ListRows, NameRows, PartRows};
+ghost use Rattle.wasm_types_decoding.specs.ErrorRows.{KindRows, TextRows};
 
-pub use wasm_types_limits::Limits;
+mod error;
+mod groups;
+mod long;
+mod message;
+mod short;
+
+pub use error::{BinaryReaderError, Error, ErrorKind, Result};
+pub use long::{Flaw, long_i32_at, long_i64_at, long_s33_at, long_u32_at, long_u64_at};
+pub use short::{
+    short_i32_at, short_i64_at, short_s33_at, short_u8_at, short_u32_at, short_u64_at,
+};
+pub use wasm_types_settings::{Limits, WasmFeatures, WasmFeaturesInflated};
 
 /// What is wrong with bytes, where no further byte mends it.
 #[derive(Clone, Copy, Debug, PartialEq, Eq)]
@@ -29,4 +58,11 @@ pub fn worked_bytes()
     ensures lists { ListRows }
     ensures names { NameRows }
     ensures parts { PartRows }
+{}
+
+/// Errors that were worked by hand: kinds by their numbers, messages cut to their room, and texts.
+#[tactic(auto, using(crate::specs::ErrorRowLaws::kind_rows, crate::specs::ErrorRowLaws::text_rows))]
+pub fn worked_errors()
+    ensures kinds { KindRows }
+    ensures texts { TextRows }
 {}

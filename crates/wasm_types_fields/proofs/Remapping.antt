@@ -5,11 +5,11 @@ use Rattle.std.specs.List.{flat_map}
 use Rattle.std.specs.Vec.{with_items}
 use Rattle.std.proofs.lemmas.Grind.{flat_map-append}
 use Rattle.std.proofs.lemmas.List.{with_items_is, length-map, take-map, drop-map, take-append-drop}
-use Rattle.wasm_types_values.specs.indices.declared.index.UnpackedIndex.{UnpackedIndex}
+use Rattle.wasm_types_values.specs.types_trees.declared.index.UnpackedIndex.{UnpackedIndex}
 use Rattle.wasm_types_values.specs.declared.value.ValType.{ValType}
 use Rattle.wasm_types_values.specs.Values.{value_of}
-use Rattle.wasm_types_values.specs.trees.Types as tree
-use Rattle.wasm_types_values.specs.trees.Types.{ValueOf, InnerOf}
+use Rattle.wasm_types_values.specs.types_trees.Types as tree
+use Rattle.wasm_types_values.specs.types_trees.Types.{ValueOf, InnerOf}
 use Rattle.wasm_types_values.specs.Remap.{Remapped, value_shape, value_indices}
 use Rattle.wasm_types_values.specs.RemapLaws.{walked_next, cut_before}
 use Rattle.wasm_types_fields.specs.Fields.{signature_tree}

@@ -3,9 +3,9 @@ use Rattle.std.proofs.Common.{◌≡◌, ◌∙◌, Bool, true, false, ◌&&◌,
 use mathlib.Core.Bool.{beq}
 use lib.Pointwise.{pointwise}
 use Rattle.std.specs.Option.{option_eq, option_map}
-use Rattle.wasm_types_values.specs.indices.declared.index.UnpackedIndex.{UnpackedIndex}
-use Rattle.wasm_types_values.specs.indices.Laws.{packed-equality}
-use Rattle.wasm_types_values.specs.indices.contracts.packed.PackedIndexPartialEq.TheImpl as index
+use Rattle.wasm_types_values.specs.types_trees.declared.index.UnpackedIndex.{UnpackedIndex}
+use Rattle.wasm_types_values.specs.types_trees.IndicesLaws.{packed-equality}
+use Rattle.wasm_types_values.specs.types_trees.contracts.packed.PackedIndexPartialEq.TheImpl as index
 use Rattle.wasm_types_values.specs.declared.heap.AbstractHeapType.{AbstractHeapType}
 use Rattle.wasm_types_values.specs.declared.heap.AbstractHeapType.TheVariants as heap
 use Rattle.wasm_types_values.specs.declared.heap.HeapType.{HeapType}
@@ -19,8 +19,8 @@ use Rattle.wasm_types_values.specs.contracts.value.StorageTypePartialEq.TheImpl 
 use Rattle.wasm_types_values.specs.Trees.{abstract_of, heap_of}
 use Rattle.wasm_types_values.specs.Values.{value_of, storage_of}
 use Rattle.wasm_types_values.specs.Laws.{ValueEqualityIsIdentity, StorageEqualityIsIdentity}
-use Rattle.wasm_types_values.specs.trees.Types as tree
-use Rattle.wasm_types_values.specs.trees.Types.{Abstract, HeapOf, ValueOf, StorageOf}
+use Rattle.wasm_types_values.specs.types_trees.Types as tree
+use Rattle.wasm_types_values.specs.types_trees.Types.{Abstract, HeapOf, ValueOf, StorageOf}
 
 -- ---- trees give types back
 

@@ -4,9 +4,9 @@ use Rattle.wasm_types_values.specs.decoding.declared.Refusal.TheVariants.{Other}
 use Rattle.wasm_types_values.specs.decoding.Decoder.{Decoder, ◌>>=◌, pure, refuse, byte, choice}
 use Rattle.wasm_types_values.specs.decoding.Leb.{u32}
 use Rattle.wasm_types_values.specs.decoding.Lists.{refuse_at, listed_within}
-use Rattle.wasm_types_values.specs.limits.Settings.{Settings}
-use Rattle.wasm_types_values.specs.indices.declared.index.UnpackedIndex.{UnpackedIndex}
-use Rattle.wasm_types_values.specs.indices.declared.index.UnpackedIndex.TheVariants.{Module}
+use Rattle.wasm_types_values.specs.settings.Settings.{Settings}
+use Rattle.wasm_types_values.specs.types_trees.declared.index.UnpackedIndex.{UnpackedIndex}
+use Rattle.wasm_types_values.specs.types_trees.declared.index.UnpackedIndex.TheVariants.{Module}
 use Rattle.wasm_types_values.specs.DecodeValues.{value_type, storage_type}
 use Rattle.wasm_types_fields.specs.declared.field.FieldType.{FieldType}
 use Rattle.wasm_types_fields.specs.Signatures.{Signature}

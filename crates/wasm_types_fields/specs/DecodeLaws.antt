@@ -11,9 +11,9 @@ use Rattle.wasm_types_values.specs.decoding.Leb.{u32, IsUnsigned}
 use Rattle.wasm_types_values.specs.decoding.LebLaws.{lawful-unsigned, decides-u32}
 use Rattle.wasm_types_values.specs.decoding.Lists.{refuse_at, listed_within, IsListedWithin}
 use Rattle.wasm_types_values.specs.decoding.ListLaws.{lawful-from_place, decides-from_place, lawful-refuse_at, decides-refuse_at, lawful-listed_within, decides-listed_within}
-use Rattle.wasm_types_values.specs.limits.Settings.{Settings}
-use Rattle.wasm_types_values.specs.indices.declared.index.UnpackedIndex.{UnpackedIndex}
-use Rattle.wasm_types_values.specs.indices.declared.index.UnpackedIndex.TheVariants.{Module, RecGroup, Id}
+use Rattle.wasm_types_values.specs.settings.Settings.{Settings}
+use Rattle.wasm_types_values.specs.types_trees.declared.index.UnpackedIndex.{UnpackedIndex}
+use Rattle.wasm_types_values.specs.types_trees.declared.index.UnpackedIndex.TheVariants.{Module, RecGroup, Id}
 use Rattle.wasm_types_values.specs.declared.value.ValType.{ValType}
 use Rattle.wasm_types_values.specs.declared.value.StorageType.{StorageType}
 use Rattle.wasm_types_values.specs.DecodeValues.{value_type, storage_type}

@@ -1,8 +1,8 @@
 -- Rules: the plain trees of a field, and of arrays, structs, functions and continuations.
 use Rattle.std.specs.Prelude.{List, map}
-use Rattle.wasm_types_values.specs.indices.declared.index.UnpackedIndex.{UnpackedIndex}
-use Rattle.wasm_types_values.specs.trees.Types as tree
-use Rattle.wasm_types_values.specs.trees.Types.{FieldOf, InnerOf}
+use Rattle.wasm_types_values.specs.types_trees.declared.index.UnpackedIndex.{UnpackedIndex}
+use Rattle.wasm_types_values.specs.types_trees.Types as tree
+use Rattle.wasm_types_values.specs.types_trees.Types.{FieldOf, InnerOf}
 use Rattle.wasm_types_values.specs.declared.value.ValType.{ValType}
 use Rattle.wasm_types_values.specs.Values.{value_of, storage_of}
 use Rattle.wasm_types_fields.specs.declared.field.FieldType.{FieldType}

@@ -10,15 +10,5 @@ pub mod Decode
 pub mod SignatureLaws
 pub mod DecodeLaws
 pub mod WorkedFieldLaws
--- The rules and laws of the crates below, under their names: crates above cite them here.
-pub use Rattle.wasm_types_values.specs.limits as limits
-pub use Rattle.wasm_types_values.specs.decoding as decoding
-pub use Rattle.wasm_types_values.specs.features as features
-pub use Rattle.wasm_types_values.specs.error as error
-pub use Rattle.wasm_types_values.specs.numbers as numbers
-pub use Rattle.wasm_types_values.specs.reader as reader
-pub use Rattle.wasm_types_values.specs.indices as indices
-pub use Rattle.wasm_types_values.specs.trees as trees
-pub use Rattle.wasm_types_values.specs as values
 -- The laws and decoders that attributes of readers cite, which take a file's own names alone.
 pub mod Laws

@@ -1,8 +1,8 @@
 -- Rules: the indices and the shapes of fields and of what is made of them, in order.
 use Rattle.std.specs.Prelude.{List, [], ◌∷◌, ◌++◌}
 use Rattle.std.specs.List.{flat_map}
-use Rattle.wasm_types_values.specs.trees.Types as tree
-use Rattle.wasm_types_values.specs.trees.Types.{FieldOf, InnerOf, field_map, inner_map}
+use Rattle.wasm_types_values.specs.types_trees.Types as tree
+use Rattle.wasm_types_values.specs.types_trees.Types.{FieldOf, InnerOf, field_map, inner_map}
 use Rattle.wasm_types_values.specs.Remap.{value_indices, storage_indices}
 
 -- of a field

@@ -2,8 +2,8 @@
 use Rattle.std.specs.Prelude.{◌≡◌, ℕ, List, [], ◌∷◌, ◌++◌, Bool, true, false}
 use Rattle.wasm_types_values.specs.decoding.Decoder.{Grammar}
 use Rattle.wasm_types_values.specs.decoding.Lists.{IsListedWithin}
-use Rattle.wasm_types_values.specs.limits.Settings.{Settings}
-use Rattle.wasm_types_values.specs.indices.declared.index.UnpackedIndex.{UnpackedIndex}
+use Rattle.wasm_types_values.specs.settings.Settings.{Settings}
+use Rattle.wasm_types_values.specs.types_trees.declared.index.UnpackedIndex.{UnpackedIndex}
 use Rattle.wasm_types_values.specs.Spells.{SpellsExactIndex}
 use Rattle.wasm_types_values.specs.Spelled.{SpelledValue, SpelledStorage}
 use Rattle.wasm_types_fields.specs.declared.field.FieldType.{FieldType}

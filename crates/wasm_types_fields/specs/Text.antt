@@ -1,7 +1,7 @@
 -- How fields, functions and continuations are written, in the words of the text format.
 use Rattle.std.specs.Prelude.{ℕ, List, [], ◌∷◌, ◌++◌, codes, if◌then◌else◌}
 use Rattle.std.specs.List.{flat_map}
-use Rattle.wasm_types_values.specs.indices.Text.{index_text}
+use Rattle.wasm_types_values.specs.types_trees.Text.{index_text}
 use Rattle.wasm_types_values.specs.declared.value.ValType.{ValType}
 use Rattle.wasm_types_values.specs.ValueText.{value_text, storage_text}
 use Rattle.wasm_types_fields.specs.declared.field.FieldType.{FieldType}

@@ -8,7 +8,7 @@ use Rattle.wasm_types_values.specs.decoding.declared.Refusal.TheVariants.{Other}
 use Rattle.wasm_types_values.specs.decoding.Decoder.{Done, Short, Fault, repeated}
 use Rattle.wasm_types_values.specs.decoding.Leb.{unsigned}
 use Rattle.wasm_types_values.specs.decoding.Lists.{size_within, listed_within}
-use Rattle.wasm_types_values.specs.indices.declared.index.UnpackedIndex.TheVariants.{Module}
+use Rattle.wasm_types_values.specs.types_trees.declared.index.UnpackedIndex.TheVariants.{Module}
 use Rattle.wasm_types_values.specs.declared.heap.AbstractHeapType.TheVariants as heap
 use Rattle.wasm_types_values.specs.declared.heap.HeapType.TheVariants.{Abstract}
 use Rattle.wasm_types_values.specs.declared.value.ValType.{ValType}
@@ -18,8 +18,8 @@ use Rattle.wasm_types_values.specs.declared.value.StorageType.{StorageType}
 use Rattle.wasm_types_values.specs.declared.value.StorageType.TheVariants.{I8, I16, Val}
 use Rattle.wasm_types_values.specs.Decode.{reference, reference_after}
 use Rattle.wasm_types_values.specs.DecodeValues.{value_type_after, value_type, storage_type_after, storage_type}
-use Rattle.wasm_types_values.specs.limits.Limits.{default_limits}
-use Rattle.wasm_types_values.specs.limits.Settings.{Settings, no_features}
+use Rattle.wasm_types_values.specs.settings.Limits.{default_limits}
+use Rattle.wasm_types_values.specs.settings.Settings.{Settings, no_features}
 use Rattle.wasm_types_values.specs.WorkedTypeLaws.{start_of, behind}
 use Rattle.wasm_types_fields.specs.declared.field.FieldType.{FieldType}
 use Rattle.wasm_types_fields.specs.Signatures.{Signature, signature_eq, signature_cmp, signature_writes}

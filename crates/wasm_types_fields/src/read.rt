@@ -168,7 +168,7 @@ pub fn read_index<'a>(reader: &mut BinaryReader<'a>) -> Result<PackedIndex>
 
 impl<'a> FromReader<'a> for ContType {
     ghost use Rattle.std.specs.Prelude.{false};
-    ghost use Rattle.wasm_types_values.specs.indices.declared.index.UnpackedIndex.{UnpackedIndex};
+    ghost use Rattle.wasm_types_values.specs.types_trees.declared.index.UnpackedIndex.{UnpackedIndex};
     ghost use Rattle.wasm_types_fields.specs.Spells.{SpelledIndex};
     ghost use Rattle.wasm_types_fields.specs.DecodeLaws.{lawful-module_index, decides-module_index};
 

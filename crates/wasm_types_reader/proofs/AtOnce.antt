@@ -1,11 +1,11 @@
 -- What is read of the bytes at hand, for the reader that stands before them.
 use Rattle.std.proofs.Common.{◌≡◌, ℕ, ◌+◌, ◌-◌, ◌≤◌, List, length, take, refl, sym, arith}
 use Rattle.std.proofs.lemmas.List.{length-take, take-append-drop}
-use Rattle.wasm_types_numbers.specs.decoding.Decoder.{State, Done, Decoder, Reaches}
-use Rattle.wasm_types_error.specs.declared.error.ErrorKind.{ErrorKind}
-use Rattle.wasm_types_numbers.specs.declared.long.Flaw.{Flaw}
-use Rattle.wasm_types_numbers.specs.declared.long.Flaw.TheVariants.{Ended, NoRoom}
-use Rattle.wasm_types_numbers.specs.Numbers.{behind, GivesAt, RefusedAt, FlawedAt, flaw_offset, IsRefused}
+use Rattle.wasm_types_decoding.specs.Decoder.{State, Done, Decoder, Reaches}
+use Rattle.wasm_types_decoding.specs.declared.error.ErrorKind.{ErrorKind}
+use Rattle.wasm_types_decoding.specs.declared.long.Flaw.{Flaw}
+use Rattle.wasm_types_decoding.specs.declared.long.Flaw.TheVariants.{Ended, NoRoom}
+use Rattle.wasm_types_decoding.specs.Numbers.{behind, GivesAt, RefusedAt, FlawedAt, flaw_offset, IsRefused}
 use Rattle.wasm_types_reader.specs.Flaws.{flaw_kind}
 use Rattle.wasm_types_reader.specs.Reading.{FailsAt}
 

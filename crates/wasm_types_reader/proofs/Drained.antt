@@ -1,7 +1,7 @@
 -- Values that nobody wants, as a loop reads them.
 use Rattle.std.proofs.Common.{◌≡◌, ℕ, suc, ◌+◌, ◌-◌, ◌<◌, refl, arith, inl, inr, Bool, true, false, Err}
-use Rattle.wasm_types_numbers.specs.decoding.Decoder.{State, Done, Decoder}
-use Rattle.wasm_types_error.specs.ErrorValue.{ErrorValue}
+use Rattle.wasm_types_decoding.specs.Decoder.{State, Done, Decoder}
+use Rattle.wasm_types_decoding.specs.ErrorValue.{ErrorValue}
 use Rattle.wasm_types_reader.specs.Reading.{Fails, MemoryOnlyIf}
 use Rattle.wasm_types_reader.specs.Draining.{Drains}
 

@@ -1,8 +1,8 @@
 -- The bytes that were passed.
 use Rattle.std.proofs.Common.{◌≡◌, ℕ, ◌+◌, ◌-◌, ◌≤◌, length, take, refl, sym, ap, ◌∙◌, arith}
 use Rattle.std.proofs.lemmas.List.{length-append, length-take, take-append-drop, take_at}
-use Rattle.wasm_types_numbers.specs.decoding.Decoder.{State, Reaches}
-use Rattle.wasm_types_reader.specs.Numbers.{behind}
+use Rattle.wasm_types_decoding.specs.Decoder.{State, Reaches}
+use Rattle.wasm_types_decoding.specs.Numbers.{behind}
 use Rattle.wasm_types_reader.specs.Parts.{part_at, IsPassed}
 
 pub goes_by : (s t : State) (n : ℕ) → n ≤ length s.rest → t ≡ behind n s → Reaches s t

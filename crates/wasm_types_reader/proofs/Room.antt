@@ -1,7 +1,7 @@
 -- Which readings of lists may take memory.
 use Rattle.std.proofs.Common.{◌≡◌, ℕ, zero, suc, ◌<◌, refl, sym, ap, ◌∙◌, arith, Bool, true, false, Err, Result}
-use Rattle.wasm_types_numbers.specs.decoding.Decoder.{State, Done, Decoder}
-use Rattle.wasm_types_error.specs.ErrorValue.{ErrorValue}
+use Rattle.wasm_types_decoding.specs.Decoder.{State, Done, Decoder}
+use Rattle.wasm_types_decoding.specs.ErrorValue.{ErrorValue}
 use Rattle.wasm_types_reader.specs.Reading.{NeedsNoMemory, MemoryOnlyIf, takes_room, is_read}
 
 -- what needs no memory at all needs none here

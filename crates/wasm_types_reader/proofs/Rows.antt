@@ -1,10 +1,10 @@
 -- Values one after the other, as a loop reads them.
 use Rattle.std.proofs.Common.{◌≡◌, ℕ, suc, ◌+◌, ◌-◌, ◌<◌, ◌≤◌, List, [], ◌∷◌, ◌++◌, refl, sym, ap, ◌∙◌, append_assoc, arith}
 use Rattle.std.proofs.lemmas.List.{append-nil}
-use Rattle.wasm_types_numbers.specs.decoding.Decoder.{State, Outcome, Done, Short, Fault, Decoder, continue_with, pure, repeated}
-use Rattle.wasm_types_error.specs.declared.error.ErrorKind.{ErrorKind}
+use Rattle.wasm_types_decoding.specs.Decoder.{State, Outcome, Done, Short, Fault, Decoder, continue_with, pure, repeated}
+use Rattle.wasm_types_decoding.specs.declared.error.ErrorKind.{ErrorKind}
 use Rattle.wasm_types_reader.specs.ReadingLaws.{fails_then}
-use Rattle.wasm_types_error.specs.ErrorValue.{ErrorValue}
+use Rattle.wasm_types_decoding.specs.ErrorValue.{ErrorValue}
 use Rattle.std.specs.Prelude.{Result, Ok, Err, Some, None}
 use Rattle.wasm_types_reader.specs.Reading.{FailsAt, Fails, NextItem}
 

@@ -1,10 +1,10 @@
 -- Which messages refusals have.
 use Rattle.std.proofs.Common.{◌≡◌, ℕ, List, refl, Bool, true, false, nat_lt, codes, Err, Result}
-use Rattle.wasm_types_numbers.specs.decoding.Decoder.{State, Outcome, Done, Short, Fault, continue_with}
-use Rattle.wasm_types_numbers.specs.decoding.Leb.{u32}
-use Rattle.wasm_types_numbers.specs.decoding.Lists.{at_most_or, size_within}
-use Rattle.wasm_types_error.specs.ErrorText.{cut_to, message_of}
-use Rattle.wasm_types_error.specs.ErrorValue.{ErrorValue}
+use Rattle.wasm_types_decoding.specs.Decoder.{State, Outcome, Done, Short, Fault, continue_with}
+use Rattle.wasm_types_decoding.specs.Leb.{u32}
+use Rattle.wasm_types_decoding.specs.Lists.{at_most_or, size_within}
+use Rattle.wasm_types_decoding.specs.ErrorText.{cut_to, message_of}
+use Rattle.wasm_types_decoding.specs.ErrorValue.{ErrorValue}
 use Rattle.wasm_types_reader.specs.Messages.{is_above, SaysIf}
 
 -- it says so anyhow

@@ -1,10 +1,10 @@
 -- A number with a limit, and a part that is counted.
 use Rattle.std.proofs.Common.{◌≡◌, ℕ, ◌<◌, ◌≤◌, List, refl, lt-ltb, le-ltb, ltb, true, false}
-use Rattle.wasm_types_numbers.specs.decoding.declared.Refusal.TheVariants.{Other}
-use Rattle.wasm_types_numbers.specs.decoding.Decoder.{State, Done, Fault, bytes}
-use Rattle.wasm_types_numbers.specs.decoding.Leb.{u32}
-use Rattle.wasm_types_numbers.specs.decoding.Lists.{at_most_or, size_within}
-use Rattle.wasm_types_error.specs.declared.error.ErrorKind.{ErrorKind}
+use Rattle.wasm_types_decoding.specs.declared.Refusal.TheVariants.{Other}
+use Rattle.wasm_types_decoding.specs.Decoder.{State, Done, Fault, bytes}
+use Rattle.wasm_types_decoding.specs.Leb.{u32}
+use Rattle.wasm_types_decoding.specs.Lists.{at_most_or, size_within}
+use Rattle.wasm_types_decoding.specs.declared.error.ErrorKind.{ErrorKind}
 use Rattle.wasm_types_reader.specs.Reading.{FailsAt}
 use Rattle.wasm_types_reader.specs.ReadingLaws.{fails_then}
 use Rattle.wasm_types_reader.specs.Parts.{part_at, next_part, counted_part}

@@ -3,10 +3,10 @@ use Rattle.std.proofs.Common.{◌≡◌, ℕ, ◌-◌, List, [], ◌∷◌, leng
 use Rattle.std.specs.Int.{from_le_bytes}
 use Rattle.std.specs.Str.{IsUtf8, is_utf8}
 use Rattle.std.proofs.lemmas.Str.{IsUtf8-from_is_utf8, is_utf8-from_IsUtf8}
-use Rattle.wasm_types_numbers.specs.decoding.declared.Refusal.TheVariants.{Other}
-use Rattle.wasm_types_numbers.specs.decoding.Decoder.{State, Done, Fault, bytes}
-use Rattle.wasm_types_numbers.specs.decoding.ExactLaws.{decides-bytes}
-use Rattle.wasm_types_numbers.specs.decoding.Text.{little_endian, word, text_of}
+use Rattle.wasm_types_decoding.specs.declared.Refusal.TheVariants.{Other}
+use Rattle.wasm_types_decoding.specs.Decoder.{State, Done, Fault, bytes}
+use Rattle.wasm_types_decoding.specs.ExactLaws.{decides-bytes}
+use Rattle.wasm_types_decoding.specs.Text.{little_endian, word, text_of}
 
 pub of_four : (text : List ℕ) (n : ℕ) → length text ≡ 4 → n ≡ from_le_bytes w32 (get_or text 0 0 ∷ get_or text 1 0 ∷ get_or text 2 0 ∷ get_or text 3 0 ∷ []) → n ≡ little_endian text
 of_four [] n l e = absurd (omega arith)

@@ -1,7 +1,7 @@
 -- What is read of values that nobody wants.
 use Rattle.std.specs.Prelude.{◌≡◌, ℕ, zero, suc, ◌⊎◌, Bool, Err}
-use Rattle.wasm_types_numbers.specs.decoding.Decoder.{State, Done, Decoder}
-use Rattle.wasm_types_error.specs.ErrorValue.{ErrorValue}
+use Rattle.wasm_types_decoding.specs.Decoder.{State, Done, Decoder}
+use Rattle.wasm_types_decoding.specs.ErrorValue.{ErrorValue}
 use Rattle.wasm_types_reader.specs.Reading.{Fails, MemoryOnlyIf}
 
 -- From s to t n values are read, or as many as come before one that is refused; a refusal leaves the reader, and is one

@@ -1,7 +1,7 @@
 -- Which message a refusal has, where two faults are of one kind at one offset.
 use Rattle.std.specs.Prelude.{ℕ, List, Bool, true, false, nat_lt, if◌then◌else◌, Result, Ok, Err}
-use Rattle.wasm_types_numbers.specs.decoding.Decoder.{Outcome, Done, Short, Fault, bytes}
-use Rattle.wasm_types_error.specs.ErrorValue.{ErrorValue}
+use Rattle.wasm_types_decoding.specs.Decoder.{Outcome, Done, Short, Fault, bytes}
+use Rattle.wasm_types_decoding.specs.ErrorValue.{ErrorValue}
 use Rattle.wasm_types_reader.specs.Reading.{is_read}
 
 -- a number that is more than this

@@ -1,9 +1,9 @@
 -- The decoder of a part, as a reader of its own, is lawful.
 use Rattle.std.specs.Prelude.{ℕ}
-use Rattle.wasm_types_numbers.specs.decoding.Decoder.{State, ◌>>=◌, pure, bytes, IsLawful}
-use Rattle.wasm_types_numbers.specs.decoding.Laws.{lawful-bytes, lawful->>=, lawful-pure}
-use Rattle.wasm_types_numbers.specs.decoding.Leb.{u32}
-use Rattle.wasm_types_numbers.specs.decoding.LebLaws.{lawful-unsigned}
+use Rattle.wasm_types_decoding.specs.Decoder.{State, ◌>>=◌, pure, bytes, IsLawful}
+use Rattle.wasm_types_decoding.specs.Laws.{lawful-bytes, lawful->>=, lawful-pure}
+use Rattle.wasm_types_decoding.specs.Leb.{u32}
+use Rattle.wasm_types_decoding.specs.LebLaws.{lawful-unsigned}
 use Rattle.wasm_types_reader.specs.Parts.{part_at, next_part, counted_part}
 
 pub lawful-next_part : (n : ℕ) → IsLawful (next_part n)

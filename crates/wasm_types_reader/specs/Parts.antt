@@ -1,7 +1,7 @@
 -- A part of a reader's bytes, as a reader of its own.
 use Rattle.std.specs.Prelude.{◌≡◌, ℕ, List}
-use Rattle.wasm_types_numbers.specs.decoding.Decoder.{State, Decoder, Takes, ◌>>=◌, continue_with, pure, bytes}
-use Rattle.wasm_types_numbers.specs.decoding.Leb.{u32}
+use Rattle.wasm_types_decoding.specs.Decoder.{State, Decoder, Takes, ◌>>=◌, continue_with, pure, bytes}
+use Rattle.wasm_types_decoding.specs.Leb.{u32}
 
 -- a reader over these bytes, which begin where s stands
 abbrev pub part_at : State → List ℕ → State

@@ -1,10 +1,10 @@
 -- What a read answers, by its decoder.
 use Rattle.std.specs.Prelude.{◌≡◌, ℕ, zero, suc, ◌+◌, ◌<◌, Bool, true, false, if◌then◌else◌, Result, Ok, Err, Option, Some, None}
-use Rattle.wasm_types_numbers.specs.decoding.declared.Refusal.TheVariants as refusals
-use Rattle.wasm_types_numbers.specs.decoding.Decoder.{State, Outcome, Done, Short, Fault, Decoder}
-use Rattle.wasm_types_error.specs.declared.error.ErrorKind.{ErrorKind}
-use Rattle.wasm_types_error.specs.declared.error.ErrorKind.TheVariants.{EndOfData, MissingFeature, OutOfMemory, Failed, Other}
-use Rattle.wasm_types_error.specs.ErrorValue.{ErrorValue}
+use Rattle.wasm_types_decoding.specs.declared.Refusal.TheVariants as refusals
+use Rattle.wasm_types_decoding.specs.Decoder.{State, Outcome, Done, Short, Fault, Decoder}
+use Rattle.wasm_types_decoding.specs.declared.error.ErrorKind.{ErrorKind}
+use Rattle.wasm_types_decoding.specs.declared.error.ErrorKind.TheVariants.{EndOfData, MissingFeature, OutOfMemory, Failed, Other}
+use Rattle.wasm_types_decoding.specs.ErrorValue.{ErrorValue}
 
 -- an error of this kind at this offset is the outcome, unless memory ran out
 abbrev pub FailsAt : {Y : Type 0} → ErrorKind → ℕ → Outcome Y → Type 0

@@ -1,8 +1,8 @@
 -- Where reading a part fails, reading the whole fails with the same error.
 use Rattle.std.proofs.Common.{ℕ, refl}
-use Rattle.wasm_types_numbers.specs.decoding.Decoder.{Outcome, Decoder, continue_with}
-use Rattle.wasm_types_error.specs.declared.error.ErrorKind.{ErrorKind}
-use Rattle.wasm_types_error.specs.declared.error.ErrorKind.TheVariants.{EndOfData, MissingFeature, OutOfMemory, Failed, Other}
+use Rattle.wasm_types_decoding.specs.Decoder.{Outcome, Decoder, continue_with}
+use Rattle.wasm_types_decoding.specs.declared.error.ErrorKind.{ErrorKind}
+use Rattle.wasm_types_decoding.specs.declared.error.ErrorKind.TheVariants.{EndOfData, MissingFeature, OutOfMemory, Failed, Other}
 use Rattle.wasm_types_reader.specs.Reading.{FailsAt}
 
 -- what fails stays, whatever would have followed

@@ -1,15 +1,15 @@
 -- The rows of `Rows`, by computing them.
 use Rattle.std.proofs.Common.{◌≡◌, ℕ, ◌∷◌, [], codes, length, refl, sym, ap, ◌∙◌, inl, inr, arith, false}
 use Rattle.std.proofs.lemmas.List.{length-append}
-use Rattle.wasm_types_numbers.specs.decoding.Decoder.{State, Done, byte}
-use Rattle.wasm_types_numbers.specs.decoding.Leb.{unsigned}
-use Rattle.wasm_types_numbers.specs.decoding.Rows.{behind}
-use Rattle.wasm_types_error.specs.declared.error.ErrorKind.{ErrorKind}
-use Rattle.wasm_types_error.specs.declared.error.ErrorKind.TheVariants.{EndOfData, MissingFeature, OutOfMemory, Failed, Other}
+use Rattle.wasm_types_decoding.specs.Decoder.{State, Done, byte}
+use Rattle.wasm_types_decoding.specs.Leb.{unsigned}
+use Rattle.wasm_types_decoding.specs.Rows.{behind}
+use Rattle.wasm_types_decoding.specs.declared.error.ErrorKind.{ErrorKind}
+use Rattle.wasm_types_decoding.specs.declared.error.ErrorKind.TheVariants.{EndOfData, MissingFeature, OutOfMemory, Failed, Other}
 use Rattle.wasm_types_reader.specs.Reading.{FailsAt, IsNotMemory}
 use Rattle.wasm_types_reader.specs.Draining.{Drains}
 use Rattle.wasm_types_reader.specs.Parts.{counted_part}
-use Rattle.wasm_types_numbers.specs.decoding.Lists.{size_within}
+use Rattle.wasm_types_decoding.specs.Lists.{size_within}
 use Rattle.wasm_types_reader.specs.Words.{u7}
 use Rattle.wasm_types_reader.specs.Rows.{PartRows, AnswerRows, ItemRows, RoomRows, MessageRows}
 

@@ -1,15 +1,15 @@
 -- Readings worked by hand: bytes below 128, parts, what an answer tells of an outcome, values one by one, values that
 -- nobody wants, and which lists take memory and which message a refusal has.
 use Rattle.std.specs.Prelude.{◌≡◌, ℕ, [], ◌∷◌, codes, true, false, Ok, Err, Some, None}
-use Rattle.wasm_types_numbers.specs.decoding.declared.Refusal.TheVariants as refusals
-use Rattle.wasm_types_numbers.specs.decoding.Decoder.{Done, Short, Fault, byte}
-use Rattle.wasm_types_numbers.specs.decoding.Rows.{start_of, behind, worked}
-use Rattle.wasm_types_error.specs.declared.error.ErrorKind.TheVariants.{EndOfData, OutOfMemory, Failed, Other}
-use Rattle.wasm_types_error.specs.ErrorValue.{ErrorValue}
+use Rattle.wasm_types_decoding.specs.declared.Refusal.TheVariants as refusals
+use Rattle.wasm_types_decoding.specs.Decoder.{Done, Short, Fault, byte}
+use Rattle.wasm_types_decoding.specs.Rows.{start_of, behind, worked}
+use Rattle.wasm_types_decoding.specs.declared.error.ErrorKind.TheVariants.{EndOfData, OutOfMemory, Failed, Other}
+use Rattle.wasm_types_decoding.specs.ErrorValue.{ErrorValue}
 use Rattle.wasm_types_reader.specs.Reading.{Answers, NextItem, MemoryOnlyIf, takes_room, counted_room}
 use Rattle.wasm_types_reader.specs.Messages.{is_above, is_whole, is_whole_within, SaysIf}
-use Rattle.wasm_types_numbers.specs.decoding.Leb.{u32}
-use Rattle.wasm_types_numbers.specs.decoding.Lists.{size_within}
+use Rattle.wasm_types_decoding.specs.Leb.{u32}
+use Rattle.wasm_types_decoding.specs.Lists.{size_within}
 use Rattle.wasm_types_reader.specs.Draining.{Drains}
 use Rattle.wasm_types_reader.specs.Parts.{counted_part, IsPassed}
 use Rattle.wasm_types_reader.specs.Words.{u7}

@@ -2,10 +2,10 @@
 use Rattle.std.proofs.Common.{◌≡◌, ℕ, ◌<◌, ◌≤◌, ◌∷◌, refl, arith, ltb}
 use Rattle.std.specs.Prelude.{nat_lt}
 use Rattle.std.proofs.lemmas.Bool.{ltb-true, ltb-false}
-use Rattle.wasm_types_numbers.specs.decoding.declared.Refusal.TheVariants.{Other}
-use Rattle.wasm_types_numbers.specs.decoding.Decoder.{pure, refuse, byte, IsLawful, Decides, Grammar}
-use Rattle.wasm_types_numbers.specs.decoding.Laws.{lawful-byte, lawful->>=, lawful-pure, lawful-refuse, lawful-if}
-use Rattle.wasm_types_numbers.specs.decoding.ExactLaws.{decides-pure, decides-refuse, decides-if, decides-byte}
+use Rattle.wasm_types_decoding.specs.declared.Refusal.TheVariants.{Other}
+use Rattle.wasm_types_decoding.specs.Decoder.{pure, refuse, byte, IsLawful, Decides, Grammar}
+use Rattle.wasm_types_decoding.specs.Laws.{lawful-byte, lawful->>=, lawful-pure, lawful-refuse, lawful-if}
+use Rattle.wasm_types_decoding.specs.ExactLaws.{decides-pure, decides-refuse, decides-if, decides-byte}
 use Rattle.wasm_types_reader.specs.Words.{small_byte, u7, IsSmallByte}
 
 pub lawful-u7 : IsLawful u7

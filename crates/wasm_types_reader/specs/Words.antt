@@ -1,7 +1,7 @@
 -- A byte below 128.
 use Rattle.std.specs.Prelude.{◌≡◌, ℕ, ◌<◌, List, [], ◌∷◌, nat_lt, if◌then◌else◌}
-use Rattle.wasm_types_numbers.specs.decoding.declared.Refusal.TheVariants.{Other}
-use Rattle.wasm_types_numbers.specs.decoding.Decoder.{Decoder, ◌>>=◌, pure, refuse, byte}
+use Rattle.wasm_types_decoding.specs.declared.Refusal.TheVariants.{Other}
+use Rattle.wasm_types_decoding.specs.Decoder.{Decoder, ◌>>=◌, pure, refuse, byte}
 
 -- this byte, if it is below 128
 abbrev pub small_byte : ℕ → Decoder ℕ

@@ -2,24 +2,23 @@
 
 ghost use Rattle.std.specs.Prelude.{◌≡◌, ℕ, ◌+◌, ◌-◌, ◌<◌, ◌≤◌, ◌^◌, ◌==◌, ◌↔◌, [], ◌∷◌, ◌++◌, codes, IsTrue, length, take, Ok, Err, IfOk, IfErr, ⊤};
 ghost use Rattle.std.specs.Fn.{FnOnceReturnsAtMut};
-ghost use Rattle.wasm_types_numbers.specs.decoding.Decoder.{State, byte, bytes, look, pure, Reaches};
-ghost use Rattle.wasm_types_numbers.specs.decoding.Leb.{u32 as u32_decoder};
-ghost use Rattle.wasm_types_numbers.specs.decoding.Lists.{size_within};
-ghost use Rattle.wasm_types_error.specs.declared.error.ErrorKind.TheVariants.{EndOfData, Other};
-ghost use Rattle.wasm_types_error.specs.ErrorText.{IsWrittenMessage};
-ghost use Rattle.wasm_types_error.specs.features.Sets.{bits_of, default_features};
-ghost use Rattle.wasm_types_numbers.specs.limits.Limits.{default_limits, IsWithinCeilings};
+ghost use Rattle.wasm_types_decoding.specs.Decoder.{State, byte, bytes, look, pure, Reaches};
+ghost use Rattle.wasm_types_decoding.specs.Leb.{u32 as u32_decoder};
+ghost use Rattle.wasm_types_decoding.specs.Lists.{size_within};
+ghost use Rattle.wasm_types_decoding.specs.declared.error.ErrorKind.TheVariants.{EndOfData, Other};
+ghost use Rattle.wasm_types_decoding.specs.ErrorText.{IsWrittenMessage};
+ghost use Rattle.wasm_types_decoding.specs.settings.Sets.{bits_of, default_features};
+ghost use Rattle.wasm_types_decoding.specs.settings.Limits.{default_limits, IsWithinCeilings};
 ghost use Rattle.wasm_types_reader.specs.Reading.{Answers, Gives, NeedsNoMemory, MemoryOnlyIf};
 ghost use Rattle.wasm_types_reader.specs.Messages.{is_above, SaysIf};
 ghost use Rattle.wasm_types_reader.specs.Parts.{part_at, counted_part, IsPassed};
-ghost use Rattle.wasm_types_numbers.specs.Numbers.{behind};
+ghost use Rattle.wasm_types_decoding.specs.Numbers.{behind};
 
 use crate::{Error, FromReader, Result};
 use std::alloc::{AllocError, Global};
 use std::marker::Model;
 use std::ops::Range;
-use wasm_types_error::WasmFeatures;
-use wasm_types_numbers::Limits;
+use wasm_types_decoding::{Limits, WasmFeatures};
 
 /// A reader over bytes, which knows their offset in the input, the features that are allowed and the limits that
 /// hold.
@@ -34,8 +33,8 @@ pub struct BinaryReader<'a> {
 
 impl<'a> Model for BinaryReader<'a> {
     ghost use Rattle.std.specs.Prelude.{◌+◌, ◌≤◌, ◌<◌, ◌^◌, length, drop};
-    ghost use Rattle.wasm_types_numbers.specs.decoding.Decoder.{State};
-    ghost use Rattle.wasm_types_numbers.specs.limits.Limits.{IsWithinCeilings};
+    ghost use Rattle.wasm_types_decoding.specs.Decoder.{State};
+    ghost use Rattle.wasm_types_decoding.specs.settings.Limits.{IsWithinCeilings};
 
     ghost Value = { State };
 
@@ -76,7 +75,7 @@ impl<'a> BinaryReader<'a> {
 
     /// A reader over `buffer`, the first byte of which stands at `original_offset` of the input, with the default limits.
     #[inline]
-    #[tactic(auto, using(wasm_types_numbers::specs::Laws::default_within))]
+    #[tactic(auto, using(wasm_types_decoding::specs::NumbersLaws::default_within))]
     pub fn new_features(
         buffer: &'a [u8],
         original_offset: u64,
@@ -375,7 +374,7 @@ impl<'a> BinaryReader<'a> {
 
     /// A count in LEB128, and a reader over as many bytes, which begins at its own offset.
     #[inline]
-    #[tactic(auto, using(wasm_types_numbers::specs::Laws::reaches_self, wasm_types_numbers::specs::Laws::reaches_then))]
+    #[tactic(auto, using(wasm_types_decoding::specs::NumbersLaws::reaches_self, wasm_types_decoding::specs::NumbersLaws::reaches_then))]
     pub fn read_reader(&mut self) -> Result<BinaryReader<'a>>
         ensures answer { Answers (λ r. r) result self.old self.new (counted_part self.old) }
         ensures no_memory { NeedsNoMemory result }

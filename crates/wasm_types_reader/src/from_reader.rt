@@ -1,10 +1,10 @@
 //! The trait of all that is read from bytes.
 
 ghost use Rattle.std.specs.Prelude.{ℕ, Bool, false};
-ghost use Rattle.wasm_types_numbers.specs.decoding.Decoder.{Decoder, Grammar, IsLawful, Decides, Reaches};
-ghost use Rattle.wasm_types_numbers.specs.decoding.Leb.{u32 as u32_decoder, IsUnsigned};
-ghost use Rattle.wasm_types_numbers.specs.decoding.LebLaws.{lawful-unsigned, decides-u32};
-ghost use Rattle.wasm_types_numbers.specs.limits.Settings.{Settings};
+ghost use Rattle.wasm_types_decoding.specs.Decoder.{Decoder, Grammar, IsLawful, Decides, Reaches};
+ghost use Rattle.wasm_types_decoding.specs.Leb.{u32 as u32_decoder, IsUnsigned};
+ghost use Rattle.wasm_types_decoding.specs.LebLaws.{lawful-unsigned, decides-u32};
+ghost use Rattle.wasm_types_decoding.specs.settings.Settings.{Settings};
 ghost use Rattle.wasm_types_reader.specs.Reading.{Gives, MemoryOnlyIf};
 
 use crate::{BinaryReader, Result};

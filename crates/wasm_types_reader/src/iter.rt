@@ -2,10 +2,10 @@
 
 ghost use Rattle.std.specs.Prelude.{◌≡◌, ◌++◌, codes, IfOk, IfErr, IfSome, MatchResult};
 ghost use Rattle.std.specs.Iterator.{at_most};
-ghost use Rattle.wasm_types_numbers.specs.decoding.Lists.{size_within};
-ghost use Rattle.wasm_types_numbers.specs.decoding.Decoder.{Done};
-ghost use Rattle.wasm_types_numbers.specs.decoding.Leb.{u32 as u32_decoder};
-ghost use Rattle.wasm_types_error.specs.ErrorText.{IsWrittenMessage};
+ghost use Rattle.wasm_types_decoding.specs.Lists.{size_within};
+ghost use Rattle.wasm_types_decoding.specs.Decoder.{Done};
+ghost use Rattle.wasm_types_decoding.specs.Leb.{u32 as u32_decoder};
+ghost use Rattle.wasm_types_decoding.specs.ErrorText.{IsWrittenMessage};
 ghost use Rattle.wasm_types_reader.specs.Messages.{is_above, SaysIf};
 ghost use Rattle.wasm_types_reader.specs.Reading.{NextItem, Fails, IsNotMemory, MemoryOnlyIf};
 ghost use Rattle.wasm_types_reader.specs.Draining.{Drains};

@@ -1,11 +1,11 @@
 //! What holds of what is read, as contracts of functions that do nothing.
 
 ghost use Rattle.std.specs.Prelude.{◌≡◌, ℕ, ◌-◌, ◌<◌, ◌≤◌, List, length};
-ghost use Rattle.wasm_types_numbers.specs.decoding.declared.Refusal.{Refusal};
-ghost use Rattle.wasm_types_numbers.specs.decoding.Decoder.{State, Done, Short, Fault, extended, IsBeyond, IsLawful, Decides, Takes};
-ghost use Rattle.wasm_types_numbers.specs.decoding.Lists.{size_within, listed_within, IsSizeWithin, IsListedWithin};
-ghost use Rattle.wasm_types_numbers.specs.decoding.Text.{word, name, any_name, skipped_name, IsWord, IsName, IsAnyName};
-ghost use Rattle.wasm_types_numbers.specs.limits.Settings.{Settings};
+ghost use Rattle.wasm_types_decoding.specs.declared.Refusal.{Refusal};
+ghost use Rattle.wasm_types_decoding.specs.Decoder.{State, Done, Short, Fault, extended, IsBeyond, IsLawful, Decides, Takes};
+ghost use Rattle.wasm_types_decoding.specs.Lists.{size_within, listed_within, IsSizeWithin, IsListedWithin};
+ghost use Rattle.wasm_types_decoding.specs.Text.{word, name, any_name, skipped_name, IsWord, IsName, IsAnyName};
+ghost use Rattle.wasm_types_decoding.specs.settings.Settings.{Settings};
 ghost use Rattle.wasm_types_reader.specs.Parts.{counted_part};
 ghost use Rattle.wasm_types_reader.specs.Words.{u7, IsSmallByte};
 ghost use Rattle.wasm_types_reader.specs.Rows.{PartRows, AnswerRows, ItemRows, RoomRows, MessageRows};

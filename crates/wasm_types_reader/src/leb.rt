@@ -1,17 +1,17 @@
 //! Numbers in LEB128 (WebAssembly 3.0, binary format, values, integers), with the error where the bytes spell none: groups
 //! of seven bits, the lowest first, in a byte each, whose highest bit says that more follow.
 //!
-//! `wasm_types_numbers` reads them from the bytes at hand, so a reader moves only behind a number that it has.
+//! `wasm_types_decoding` reads them from the bytes at hand, so a reader moves only behind a number that it has.
 
 ghost use Rattle.std.specs.Prelude.{◌≡◌, ℕ, ◌+◌, ◌*◌, ◌<◌, ◌≤◌, ◌^◌};
-ghost use Rattle.wasm_types_numbers.specs.decoding.Decoder.{Reaches, IsLawful, Decides};
-ghost use Rattle.wasm_types_numbers.specs.decoding.Leb.{IsUnsigned, IsSigned, unsigned, signed, u32 as u32_decoder, u64 as u64_decoder, s32, s33, s64};
-ghost use Rattle.wasm_types_numbers.specs.Numbers.{flaw_offset};
+ghost use Rattle.wasm_types_decoding.specs.Decoder.{Reaches, IsLawful, Decides};
+ghost use Rattle.wasm_types_decoding.specs.Leb.{IsUnsigned, IsSigned, unsigned, signed, u32 as u32_decoder, u64 as u64_decoder, s32, s33, s64};
+ghost use Rattle.wasm_types_decoding.specs.Numbers.{flaw_offset};
 ghost use Rattle.wasm_types_reader.specs.Flaws.{flaw_kind};
 ghost use Rattle.wasm_types_reader.specs.Reading.{Answers, NeedsNoMemory};
 
 use crate::{BinaryReader, Error, Result};
-use wasm_types_numbers::{Flaw, long_i32_at, long_i64_at, long_s33_at, long_u32_at, long_u64_at};
+use wasm_types_decoding::{Flaw, long_i32_at, long_i64_at, long_s33_at, long_u32_at, long_u64_at};
 
 /// What holds of numbers of any width, by their decoders: a value and a fault stay, whatever bytes follow; the hint of an end of data is
 /// exact; and a number is read exactly where a front of the bytes is one of its spellings.

@@ -22,8 +22,7 @@ pub use iter::BinaryReaderIter;
 pub use laws::{lists_are_lawful, reading_is_lawful, texts_and_words_are_lawful, worked_readings};
 pub use leb::numbers_are_lawful;
 pub use lists::{read_list, read_many};
-pub use wasm_types_error::{
-    BinaryReaderError, Error, ErrorKind, Result, WasmFeatures, WasmFeaturesInflated,
+pub use wasm_types_decoding::{
+    BinaryReaderError, Error, ErrorKind, Limits, Result, WasmFeatures, WasmFeaturesInflated,
 };
-pub use wasm_types_numbers::Limits;
 pub use words::{Ieee32, Ieee64};

@@ -1,10 +1,10 @@
 //! Lists that are counted within a limit.
 
 ghost use Rattle.std.specs.Prelude.{◌≡◌, ◌++◌, codes, map, IfErr};
-ghost use Rattle.wasm_types_numbers.specs.decoding.Decoder.{repeated, Reaches};
-ghost use Rattle.wasm_types_numbers.specs.decoding.Lists.{listed_within, size_within};
-ghost use Rattle.wasm_types_numbers.specs.decoding.Leb.{u32 as u32_decoder};
-ghost use Rattle.wasm_types_error.specs.ErrorText.{IsWrittenMessage};
+ghost use Rattle.wasm_types_decoding.specs.Decoder.{repeated, Reaches};
+ghost use Rattle.wasm_types_decoding.specs.Lists.{listed_within, size_within};
+ghost use Rattle.wasm_types_decoding.specs.Leb.{u32 as u32_decoder};
+ghost use Rattle.wasm_types_decoding.specs.ErrorText.{IsWrittenMessage};
 ghost use Rattle.wasm_types_reader.specs.Messages.{is_above, SaysIf};
 ghost use Rattle.wasm_types_reader.specs.Reading.{Gives, MemoryOnlyIf, takes_room, counted_room};
 
@@ -13,7 +13,7 @@ use std::alloc::Global;
 
 /// The values that follow, as many as are counted before them, which are at most `limit`; a larger count is refused at
 /// its own offset, as `desc`. The list grows as it is read.
-#[tactic(auto, using(wasm_types_numbers::specs::Laws::reaches_self))]
+#[tactic(auto, using(wasm_types_decoding::specs::NumbersLaws::reaches_self))]
 pub fn read_list<'a, T: FromReader<'a>>(
     alloc: Global,
     limit: usize,
@@ -41,7 +41,7 @@ pub fn read_list<'a, T: FromReader<'a>>(
 }
 
 /// As many values as are asked for, one after the other. The list grows as it is read.
-#[tactic(auto, using(wasm_types_numbers::specs::Laws::reaches_self))]
+#[tactic(auto, using(wasm_types_decoding::specs::NumbersLaws::reaches_self))]
 pub fn read_many<'a, T: FromReader<'a>>(
     alloc: Global,
     count: usize,
@@ -65,7 +65,7 @@ pub fn read_many<'a, T: FromReader<'a>>(
 }
 
 /// A count and as many values. Where it is refused the reader may have gone on.
-#[tactic(auto, using(wasm_types_numbers::specs::Laws::reaches_self, wasm_types_numbers::specs::Laws::reaches_then), unfolding(wasm_types_numbers::specs::Laws::listed_within))]
+#[tactic(auto, using(wasm_types_decoding::specs::NumbersLaws::reaches_self, wasm_types_decoding::specs::NumbersLaws::reaches_then), unfolding(wasm_types_decoding::specs::NumbersLaws::listed_within))]
 fn counted_items<'a, T: FromReader<'a>>(
     alloc: Global,
     limit: usize,
@@ -85,7 +85,7 @@ fn counted_items<'a, T: FromReader<'a>>(
 }
 
 /// As many values as are asked for. Where it is refused the reader may have gone on.
-#[tactic(auto, using(wasm_types_numbers::specs::Laws::reaches_self, wasm_types_numbers::specs::Laws::reaches_then))]
+#[tactic(auto, using(wasm_types_decoding::specs::NumbersLaws::reaches_self, wasm_types_decoding::specs::NumbersLaws::reaches_then))]
 fn some_items<'a, T: FromReader<'a>>(
     alloc: Global,
     count: usize,

@@ -2,12 +2,12 @@
 //! where it was, and the public readers give the reason.
 
 ghost use Rattle.std.specs.Prelude.{◌≡◌, IfSome, IfNone};
-ghost use Rattle.wasm_types_numbers.specs.decoding.Decoder.{Done, Reaches, byte as byte_decoder};
-ghost use Rattle.wasm_types_numbers.specs.decoding.Leb.{u32 as u32_decoder, u64 as u64_decoder, s32, s33, s64};
-ghost use Rattle.wasm_types_numbers.specs.Numbers.{IsRefused};
+ghost use Rattle.wasm_types_decoding.specs.Decoder.{Done, Reaches, byte as byte_decoder};
+ghost use Rattle.wasm_types_decoding.specs.Leb.{u32 as u32_decoder, u64 as u64_decoder, s32, s33, s64};
+ghost use Rattle.wasm_types_decoding.specs.Numbers.{IsRefused};
 
 use crate::BinaryReader;
-use wasm_types_numbers::{
+use wasm_types_decoding::{
     short_i32_at, short_i64_at, short_s33_at, short_u8_at, short_u32_at, short_u64_at,
 };
 

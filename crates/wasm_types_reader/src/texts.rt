@@ -1,11 +1,11 @@
 //! Texts (WebAssembly 3.0, binary format, names).
 
 ghost use Rattle.std.specs.Prelude.{◌≡◌, ◌-◌, codes};
-ghost use Rattle.wasm_types_numbers.specs.decoding.Decoder.{Reaches, bytes};
-ghost use Rattle.wasm_types_numbers.specs.decoding.Leb.{u32 as u32_decoder};
-ghost use Rattle.wasm_types_numbers.specs.decoding.Text.{counted_within, text_of, skipped, name, any_name, skipped_name};
-ghost use Rattle.wasm_types_error.specs.declared.error.ErrorKind.TheVariants.{Other};
-ghost use Rattle.wasm_types_error.specs.ErrorText.{message_of};
+ghost use Rattle.wasm_types_decoding.specs.Decoder.{Reaches, bytes};
+ghost use Rattle.wasm_types_decoding.specs.Leb.{u32 as u32_decoder};
+ghost use Rattle.wasm_types_decoding.specs.Text.{counted_within, text_of, skipped, name, any_name, skipped_name};
+ghost use Rattle.wasm_types_decoding.specs.declared.error.ErrorKind.TheVariants.{Other};
+ghost use Rattle.wasm_types_decoding.specs.ErrorText.{message_of};
 ghost use Rattle.wasm_types_reader.specs.Reading.{Answers, Gives, NeedsNoMemory, is_read};
 ghost use Rattle.wasm_types_reader.specs.Messages.{is_above, is_whole, is_whole_within, SaysIf};
 
@@ -75,7 +75,7 @@ impl<'a> BinaryReader<'a> {
         Ok(())
     }
 
-    #[tactic(auto, using(wasm_types_numbers::specs::Laws::reaches_self, wasm_types_numbers::specs::Laws::reaches_then), unfolding(wasm_types_numbers::specs::Laws::counted_within))]
+    #[tactic(auto, using(wasm_types_decoding::specs::NumbersLaws::reaches_self, wasm_types_decoding::specs::NumbersLaws::reaches_then), unfolding(wasm_types_decoding::specs::NumbersLaws::counted_within))]
     fn limited_text(&mut self) -> Result<&'a str>
         ensures answer { Gives (λ s. s.now) result self.new (name self.old.settings.limits.string_bytes self.old) }
         ensures no_memory { NeedsNoMemory result }
@@ -93,7 +93,7 @@ impl<'a> BinaryReader<'a> {
         self.text(count)
     }
 
-    #[tactic(auto, using(wasm_types_numbers::specs::Laws::reaches_self, wasm_types_numbers::specs::Laws::reaches_then), unfolding(wasm_types_numbers::specs::Laws::any_name))]
+    #[tactic(auto, using(wasm_types_decoding::specs::NumbersLaws::reaches_self, wasm_types_decoding::specs::NumbersLaws::reaches_then), unfolding(wasm_types_decoding::specs::NumbersLaws::any_name))]
     fn counted_text(&mut self) -> Result<&'a str>
         ensures answer { Gives (λ s. s.now) result self.new (any_name self.old) }
         ensures no_memory { NeedsNoMemory result }
@@ -105,7 +105,7 @@ impl<'a> BinaryReader<'a> {
         self.text(count as usize)
     }
 
-    #[tactic(auto, using(wasm_types_numbers::specs::Laws::reaches_self, wasm_types_numbers::specs::Laws::reaches_then), unfolding(wasm_types_numbers::specs::Laws::counted_within, wasm_types_numbers::specs::Laws::skipped))]
+    #[tactic(auto, using(wasm_types_decoding::specs::NumbersLaws::reaches_self, wasm_types_decoding::specs::NumbersLaws::reaches_then), unfolding(wasm_types_decoding::specs::NumbersLaws::counted_within, wasm_types_decoding::specs::NumbersLaws::skipped))]
     fn skip_text(&mut self) -> Result<()>
         ensures answer { Gives (λ u. u) result self.new (skipped_name self.old.settings.limits.string_bytes self.old) }
         ensures no_memory { NeedsNoMemory result }
@@ -123,7 +123,7 @@ impl<'a> BinaryReader<'a> {
     }
 
     /// The next `n` bytes, which are UTF-8.
-    #[tactic(auto, using(wasm_types_numbers::specs::Laws::reaches_self, wasm_types_numbers::specs::Laws::reaches_then), unfolding(wasm_types_numbers::specs::Laws::text_of))]
+    #[tactic(auto, using(wasm_types_decoding::specs::NumbersLaws::reaches_self, wasm_types_decoding::specs::NumbersLaws::reaches_then), unfolding(wasm_types_decoding::specs::NumbersLaws::text_of))]
     fn text(&mut self, n: usize) -> Result<&'a str>
         ensures answer { Gives (λ s. s.now) result self.new (text_of n self.old) }
         ensures no_memory { NeedsNoMemory result }

@@ -1,8 +1,8 @@
 //! Numbers of a fixed length.
 
 ghost use Rattle.std.specs.Prelude.{◌≡◌};
-ghost use Rattle.wasm_types_numbers.specs.decoding.Decoder.{Reaches};
-ghost use Rattle.wasm_types_numbers.specs.decoding.Text.{word};
+ghost use Rattle.wasm_types_decoding.specs.Decoder.{Reaches};
+ghost use Rattle.wasm_types_decoding.specs.Text.{word};
 ghost use Rattle.wasm_types_reader.specs.Reading.{Answers, Gives, NeedsNoMemory};
 ghost use Rattle.wasm_types_reader.specs.Words.{u7};
 
@@ -55,7 +55,7 @@ impl Ieee64 {
 impl<'a> BinaryReader<'a> {
     /// The next byte, which is below 128.
     #[inline]
-    #[tactic(auto, using(wasm_types_numbers::specs::Laws::reaches_self, wasm_types_numbers::specs::Laws::reaches_then), unfolding(crate::specs::Words::u7))]
+    #[tactic(auto, using(wasm_types_decoding::specs::NumbersLaws::reaches_self, wasm_types_decoding::specs::NumbersLaws::reaches_then), unfolding(crate::specs::Words::u7))]
     pub fn read_u7(&mut self) -> Result<u8>
         ensures answer { Answers (λ b. b) result self.old self.new (u7 self.old) }
         ensures no_memory { NeedsNoMemory result }
@@ -72,7 +72,7 @@ impl<'a> BinaryReader<'a> {
 
     /// The next four bytes as a number, the lowest byte first.
     #[inline]
-    #[tactic(auto, using(wasm_types_numbers::specs::Laws::reaches_self, wasm_types_numbers::specs::Laws::reaches_then), unfolding(wasm_types_numbers::specs::Laws::word))]
+    #[tactic(auto, using(wasm_types_decoding::specs::NumbersLaws::reaches_self, wasm_types_decoding::specs::NumbersLaws::reaches_then), unfolding(wasm_types_decoding::specs::NumbersLaws::word))]
     pub fn read_u32(&mut self) -> Result<u32>
         ensures answer { Answers (λ n. n) result self.old self.new (word 4 self.old) }
         ensures no_memory { NeedsNoMemory result }
@@ -84,7 +84,7 @@ impl<'a> BinaryReader<'a> {
 
     /// The next eight bytes as a number, the lowest byte first.
     #[inline]
-    #[tactic(auto, using(wasm_types_numbers::specs::Laws::reaches_self, wasm_types_numbers::specs::Laws::reaches_then), unfolding(wasm_types_numbers::specs::Laws::word))]
+    #[tactic(auto, using(wasm_types_decoding::specs::NumbersLaws::reaches_self, wasm_types_decoding::specs::NumbersLaws::reaches_then), unfolding(wasm_types_decoding::specs::NumbersLaws::word))]
     pub fn read_u64(&mut self) -> Result<u64>
         ensures answer { Answers (λ n. n) result self.old self.new (word 8 self.old) }
         ensures no_memory { NeedsNoMemory result }

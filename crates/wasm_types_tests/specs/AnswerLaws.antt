@@ -1,6 +1,6 @@
 -- The rows of `Answers`, each by its definition.
 use Rattle.std.proofs.Common.{◌≡◌, refl, arith}
-use Rattle.wasm_types.specs.features.declared.WasmFeatures.{WasmFeatures}
+use Rattle.wasm_types.specs.settings.declared.WasmFeatures.{WasmFeatures}
 use Rattle.wasm_types_tests.specs.Answers.{DenialRows, TellingRows, RefusalRows}
 
 pub denial_rows : (f : WasmFeatures) → DenialRows f

@@ -1,10 +1,10 @@
 -- What an answer tells of a fact, of each kind of refusal: a yes and a no. A fact that holds is `Unit`, and one that does not is `⊥`.
 use Rattle.std.specs.Prelude.{ℕ, [], Ok, Err}
-use Rattle.wasm_types.specs.features.declared.WasmFeatures.{WasmFeatures}
-use Rattle.wasm_types.specs.error.ErrorValue.{ErrorValue}
-use Rattle.wasm_types.specs.error.declared.error.ErrorKind.{ErrorKind}
-use Rattle.wasm_types.specs.error.declared.error.ErrorKind.TheVariants.{EndOfData, MissingFeature, OutOfMemory, Failed, Other}
-use Rattle.wasm_types.specs.error.Denials.{Denies, Tells, UnlessMemory, RefusedAt}
+use Rattle.wasm_types.specs.settings.declared.WasmFeatures.{WasmFeatures}
+use Rattle.wasm_types.specs.decoding.ErrorValue.{ErrorValue}
+use Rattle.wasm_types.specs.decoding.declared.error.ErrorKind.{ErrorKind}
+use Rattle.wasm_types.specs.decoding.declared.error.ErrorKind.TheVariants.{EndOfData, MissingFeature, OutOfMemory, Failed, Other}
+use Rattle.wasm_types.specs.decoding.Denials.{Denies, Tells, UnlessMemory, RefusedAt}
 
 -- a refusal of this kind at offset 7
 abbrev pub at_seven : ErrorKind → ErrorValue

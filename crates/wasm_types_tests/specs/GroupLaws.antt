@@ -3,8 +3,8 @@ use Rattle.std.proofs.Common.{List, refl, ap, map}
 use Rattle.wasm_types.specs.trees.Types as tree
 use Rattle.wasm_types.specs.fields.declared.field.FieldType.{FieldType}
 use Rattle.wasm_types.specs.fields.Fields.{field_of}
-use Rattle.wasm_types.specs.groups.declared.sub_type.SubType.{SubType}
-use Rattle.wasm_types.specs.groups.Entries.{declared_of}
+use Rattle.wasm_types.specs.declared.sub_type.SubType.{SubType}
+use Rattle.wasm_types.specs.Entries.{declared_of}
 use Rattle.wasm_types_tests.specs.Groups.{DeclaredRows, ValueRows, CopyRows, TextRows}
 
 pub declared_rows : DeclaredRows

@@ -2,21 +2,21 @@
 -- written, and what a copy keeps (WebAssembly 3.0, structure, recursive types, and text format, types).
 use Rattle.std.specs.Prelude.{◌≡◌, ◌++◌, codes, Bool, true, false, List, [], ◌∷◌, Some, None}
 use Rattle.std.specs.Fmt.{decimal}
-use Rattle.wasm_types.specs.indices.declared.index.UnpackedIndex.{UnpackedIndex}
-use Rattle.wasm_types.specs.indices.declared.index.UnpackedIndex.TheVariants.{Module}
+use Rattle.wasm_types.specs.trees.declared.index.UnpackedIndex.{UnpackedIndex}
+use Rattle.wasm_types.specs.trees.declared.index.UnpackedIndex.TheVariants.{Module}
 use Rattle.wasm_types.specs.trees.Types as tree
 use Rattle.wasm_types.specs.values.declared.value.ValType.TheVariants.{I32, I64}
 use Rattle.wasm_types.specs.values.declared.value.StorageType.TheVariants.{I8}
 use Rattle.wasm_types.specs.fields.declared.field.FieldType.{FieldType}
 use Rattle.wasm_types.specs.fields.declared.field.StructType.{StructType}
-use Rattle.wasm_types.specs.groups.declared.composite.CompositeInnerType.TheVariants.{Func, Array, Struct, Cont}
-use Rattle.wasm_types.specs.groups.declared.composite.CompositeType.{CompositeType}
-use Rattle.wasm_types.specs.groups.declared.sub_type.SubType.{SubType}
-use Rattle.wasm_types.specs.groups.declared.rec_group.RecGroup.{RecGroup}
-use Rattle.wasm_types.specs.groups.Entries.{inner_of, composite_of, declared_of, declared_types, subtypes}
-use Rattle.wasm_types.specs.groups.SpellsTypes.{function, array_of, struct_of, continuation, composite_value, sub_value, group_value}
-use Rattle.wasm_types.specs.groups.Copies.{IsCopy}
-use Rattle.wasm_types.specs.groups.Text.{composite_text, sub_text}
+use Rattle.wasm_types.specs.declared.composite.CompositeInnerType.TheVariants.{Func, Array, Struct, Cont}
+use Rattle.wasm_types.specs.declared.composite.CompositeType.{CompositeType}
+use Rattle.wasm_types.specs.declared.sub_type.SubType.{SubType}
+use Rattle.wasm_types.specs.declared.rec_group.RecGroup.{RecGroup}
+use Rattle.wasm_types.specs.Entries.{inner_of, composite_of, declared_of, declared_types, subtypes}
+use Rattle.wasm_types.specs.SpellsTypes.{function, array_of, struct_of, continuation, composite_value, sub_value, group_value}
+use Rattle.wasm_types.specs.Copies.{IsCopy}
+use Rattle.wasm_types.specs.Text.{composite_text, sub_text}
 
 -- a continuation, shared, described by type 1, and describing type 2
 abbrev pub routine : CompositeType

@@ -2,7 +2,7 @@
 -- (WebAssembly 3.0, structure and text format, types; shared and exact types by their proposals).
 use Rattle.std.specs.Prelude.{◌≡◌, true, false, List, [], ◌∷◌, codes, Some, None, map}
 use Rattle.std.specs.declared.cmp.Ordering.TheVariants.{Less, Equal, Greater}
-use Rattle.wasm_types.specs.indices.declared.index.UnpackedIndex.TheVariants.{Module, RecGroup}
+use Rattle.wasm_types.specs.trees.declared.index.UnpackedIndex.TheVariants.{Module, RecGroup}
 use Rattle.wasm_types.specs.values.declared.heap.AbstractHeapType.TheVariants as heap
 use Rattle.wasm_types.specs.values.declared.heap.HeapType.TheVariants.{Abstract, Concrete, Exact}
 use Rattle.wasm_types.specs.values.declared.value.ValType.{ValType}
@@ -16,8 +16,8 @@ use Rattle.wasm_types.specs.fields.declared.func.FuncType.{FuncType}
 use Rattle.wasm_types.specs.fields.declared.field.ArrayType.{ArrayType}
 use Rattle.wasm_types.specs.fields.declared.field.StructType.{StructType}
 use Rattle.wasm_types.specs.fields.declared.cont.ContType.{ContType}
-use Rattle.wasm_types.specs.groups.declared.composite.CompositeInnerType.TheVariants.{Func, Array, Struct, Cont}
-use Rattle.wasm_types.specs.groups.Kinds.{func_in, array_in, struct_in, cont_in}
+use Rattle.wasm_types.specs.declared.composite.CompositeInnerType.TheVariants.{Func, Array, Struct, Cont}
+use Rattle.wasm_types.specs.Kinds.{func_in, array_in, struct_in, cont_in}
 use Rattle.wasm_types_tests.specs.Trees.{to, to_fourth, abstract_types}
 
 -- numbers and vectors, and a reference

@@ -5,11 +5,11 @@ use Rattle.wasm_types.specs.decoding.declared.Refusal.TheVariants as refusals
 use Rattle.wasm_types.specs.decoding.Decoder.{Done, Short, Fault, byte, Reaches, IsBeyond}
 use Rattle.wasm_types.specs.decoding.Leb.{u32}
 use Rattle.wasm_types.specs.decoding.Rows.{start_of, behind}
-use Rattle.wasm_types.specs.limits.Settings.{no_features}
-use Rattle.wasm_types.specs.error.declared.error.ErrorKind.TheVariants.{EndOfData, MissingFeature, OutOfMemory}
-use Rattle.wasm_types.specs.error.ErrorValue.{ErrorValue}
-use Rattle.wasm_types.specs.error.ErrorText.{IsWrittenMessage}
-use Rattle.wasm_types.specs.groups.numbers.Numbers.{IsRefused, GivesAt}
+use Rattle.wasm_types.specs.settings.Settings.{no_features}
+use Rattle.wasm_types.specs.decoding.declared.error.ErrorKind.TheVariants.{EndOfData, MissingFeature, OutOfMemory}
+use Rattle.wasm_types.specs.decoding.ErrorValue.{ErrorValue}
+use Rattle.wasm_types.specs.decoding.ErrorText.{IsWrittenMessage}
+use Rattle.wasm_types.specs.decoding.Numbers.{IsRefused, GivesAt}
 use Rattle.wasm_types.specs.reader.Reading.{Gives, Answers, Collects, NextItem, NeedsNoMemory}
 use Rattle.wasm_types.specs.reader.Draining.{Drains}
 use Rattle.wasm_types.specs.reader.Messages.{is_whole, is_whole_within, SaysIf}

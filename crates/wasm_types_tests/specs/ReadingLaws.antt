@@ -4,8 +4,8 @@ use Rattle.std.proofs.lemmas.List.{length-append}
 use Rattle.wasm_types.specs.decoding.Decoder.{State, Outcome, Done, Short, Fault}
 use Rattle.wasm_types.specs.decoding.Leb.{unsigned}
 use Rattle.wasm_types.specs.decoding.Rows.{start_of, behind}
-use Rattle.wasm_types.specs.limits.Settings.{Settings}
-use Rattle.wasm_types.specs.error.ErrorText.{cut_to}
+use Rattle.wasm_types.specs.settings.Settings.{Settings}
+use Rattle.wasm_types.specs.decoding.ErrorText.{cut_to}
 use Rattle.wasm_types.specs.reader.Draining.{Drains}
 use Rattle.wasm_types_tests.specs.Reading.{ReachedRows, GivenRows, OffsetRows, SaidRows, NextRows, no_memory}
 

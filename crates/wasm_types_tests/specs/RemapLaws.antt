@@ -1,7 +1,7 @@
 -- Types whose indices are replaced: what computes by computing it, and what is refused by the first index that tells it.
 use Rattle.std.proofs.Common.{◌≡◌, ℕ, List, [], ◌∷◌, ◌++◌, refl, ◌+◌, arith, Err}
-use Rattle.wasm_types.specs.indices.declared.index.UnpackedIndex.{UnpackedIndex}
-use Rattle.wasm_types.specs.indices.declared.index.UnpackedIndex.TheVariants.{Module, RecGroup, Id}
+use Rattle.wasm_types.specs.trees.declared.index.UnpackedIndex.{UnpackedIndex}
+use Rattle.wasm_types.specs.trees.declared.index.UnpackedIndex.TheVariants.{Module, RecGroup, Id}
 use Rattle.wasm_types.specs.values.Remap.{AreAnswered, IsCutShort}
 use Rattle.wasm_types_tests.specs.Remaps.{IndexRows, ShapeRows, RemapRows, goes_up}
 

@@ -2,14 +2,14 @@
 -- them, and what a call may leave that replaces them, or is refused at one of them.
 use Rattle.std.specs.Prelude.{◌≡◌, ℕ, ◌+◌, true, false, List, [], ◌∷◌, Some, Result, Ok, Err, map}
 use Rattle.std.specs.List.{flat_map}
-use Rattle.wasm_types.specs.indices.declared.index.UnpackedIndex.{UnpackedIndex}
-use Rattle.wasm_types.specs.indices.declared.index.UnpackedIndex.TheVariants.{Module, RecGroup, Id}
+use Rattle.wasm_types.specs.trees.declared.index.UnpackedIndex.{UnpackedIndex}
+use Rattle.wasm_types.specs.trees.declared.index.UnpackedIndex.TheVariants.{Module, RecGroup, Id}
 use Rattle.wasm_types.specs.trees.Types as tree
 use Rattle.wasm_types.specs.trees.Types.{HeapOf, ValueOf, StorageOf, FieldOf, InnerOf, EntryOf}
 use Rattle.wasm_types.specs.values.Remap.{Remapped, value_indices, value_shape, storage_indices, storage_shape}
 use Rattle.wasm_types.specs.fields.Remap.{field_indices, field_shape, inner_indices, inner_shape}
-use Rattle.wasm_types.specs.groups.Entries.{DeclaredOf}
-use Rattle.wasm_types.specs.groups.Remap.{entry_indices, entry_shape, declared_indices, declared_shape}
+use Rattle.wasm_types.specs.Entries.{DeclaredOf}
+use Rattle.wasm_types.specs.Remap.{entry_indices, entry_shape, declared_indices, declared_shape}
 
 -- a reference by an index, one that may be null to exactly that type, and one that has no index
 abbrev pub to : {R : Type 0} → R → ValueOf R

@@ -1,11 +1,11 @@
 -- The sets of features, each row by computing it.
 use Rattle.std.proofs.Common.{◌≡◌, refl, true, arith, lit<}
-use Rattle.wasm_types.specs.features.Features.{has, has_own, MutableGlobal, SaturatingFloatToInt, SignExtension, ReferenceTypes, MultiValue, BulkMemory}
-use Rattle.wasm_types.specs.features.Features.{Simd, RelaxedSimd, Threads, SharedEverythingThreads, TailCall, Floats, MultiMemory, Exceptions}
-use Rattle.wasm_types.specs.features.Features.{Memory64, ExtendedConst, ComponentModel, FunctionReferences, MemoryControl, Gc, CustomPageSizes}
-use Rattle.wasm_types.specs.features.Features.{LegacyExceptions, GcTypes, StackSwitching, WideArithmetic, CallIndirectOverlong, BulkMemoryOpt}
-use Rattle.wasm_types.specs.features.Features.{CustomDescriptors}
-use Rattle.wasm_types.specs.features.Inflated.{field}
+use Rattle.wasm_types.specs.settings.Features.{has, has_own, MutableGlobal, SaturatingFloatToInt, SignExtension, ReferenceTypes, MultiValue, BulkMemory}
+use Rattle.wasm_types.specs.settings.Features.{Simd, RelaxedSimd, Threads, SharedEverythingThreads, TailCall, Floats, MultiMemory, Exceptions}
+use Rattle.wasm_types.specs.settings.Features.{Memory64, ExtendedConst, ComponentModel, FunctionReferences, MemoryControl, Gc, CustomPageSizes}
+use Rattle.wasm_types.specs.settings.Features.{LegacyExceptions, GcTypes, StackSwitching, WideArithmetic, CallIndirectOverlong, BulkMemoryOpt}
+use Rattle.wasm_types.specs.settings.Features.{CustomDescriptors}
+use Rattle.wasm_types.specs.settings.Inflated.{field}
 use Rattle.wasm_types_tests.specs.Sets.{none, InflatedRows, PackedRows, WithinRows}
 
 pub inflated_rows : InflatedRows

@@ -1,14 +1,14 @@
 -- Sets of features beside their inflated form: which field is of which feature, which fields a set has, and which set fields make.
 -- Two names stand for two bits each: they are allowed where both are in, and their own fields decide one bit each.
 use Rattle.std.specs.Prelude.{◌≡◌, Bool, true, false, List, [], ◌∷◌, map}
-use Rattle.wasm_types.specs.features.declared.inflated.WasmFeaturesInflated.{WasmFeaturesInflated}
-use Rattle.wasm_types.specs.features.Features.{Feature, MutableGlobal, SaturatingFloatToInt, SignExtension, ReferenceTypes, MultiValue, BulkMemory}
-use Rattle.wasm_types.specs.features.Features.{Simd, RelaxedSimd, Threads, SharedEverythingThreads, TailCall, Floats, MultiMemory, Exceptions}
-use Rattle.wasm_types.specs.features.Features.{Memory64, ExtendedConst, ComponentModel, FunctionReferences, MemoryControl, Gc, CustomPageSizes}
-use Rattle.wasm_types.specs.features.Features.{LegacyExceptions, GcTypes, StackSwitching, WideArithmetic, CallIndirectOverlong, BulkMemoryOpt}
-use Rattle.wasm_types.specs.features.Features.{CustomDescriptors}
-use Rattle.wasm_types.specs.features.Inflated.{field, Inflates, Packs}
-use Rattle.wasm_types.specs.features.Sets.{Within}
+use Rattle.wasm_types.specs.settings.declared.inflated.WasmFeaturesInflated.{WasmFeaturesInflated}
+use Rattle.wasm_types.specs.settings.Features.{Feature, MutableGlobal, SaturatingFloatToInt, SignExtension, ReferenceTypes, MultiValue, BulkMemory}
+use Rattle.wasm_types.specs.settings.Features.{Simd, RelaxedSimd, Threads, SharedEverythingThreads, TailCall, Floats, MultiMemory, Exceptions}
+use Rattle.wasm_types.specs.settings.Features.{Memory64, ExtendedConst, ComponentModel, FunctionReferences, MemoryControl, Gc, CustomPageSizes}
+use Rattle.wasm_types.specs.settings.Features.{LegacyExceptions, GcTypes, StackSwitching, WideArithmetic, CallIndirectOverlong, BulkMemoryOpt}
+use Rattle.wasm_types.specs.settings.Features.{CustomDescriptors}
+use Rattle.wasm_types.specs.settings.Inflated.{field, Inflates, Packs}
+use Rattle.wasm_types.specs.settings.Sets.{Within}
 
 -- each feature, in the order of their bits
 abbrev pub every_feature : List Feature

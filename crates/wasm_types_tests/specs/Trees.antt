@@ -1,6 +1,6 @@
 -- Types as plain trees, and references as their bits, case by case (WebAssembly 3.0, structure, types).
 use Rattle.std.specs.Prelude.{◌≡◌, Bool, true, false, List, [], ◌∷◌, map}
-use Rattle.wasm_types.specs.indices.declared.index.UnpackedIndex.TheVariants.{Module, RecGroup, Id}
+use Rattle.wasm_types.specs.trees.declared.index.UnpackedIndex.TheVariants.{Module, RecGroup, Id}
 use Rattle.wasm_types.specs.trees.Types as tree
 use Rattle.wasm_types.specs.values.declared.heap.AbstractHeapType.{AbstractHeapType}
 use Rattle.wasm_types.specs.values.declared.heap.AbstractHeapType.TheVariants as heap

@@ -1,8 +1,8 @@
 //! Worked rows, each the contract of a function that does nothing, or of one that calls what it is about.
 
 ghost use Rattle.std.specs.Prelude.{◌≡◌, ◌<◌, ◌^◌};
-ghost use Rattle.wasm_types.specs.indices.Indices.{number_of};
-ghost use Rattle.wasm_types.specs.features.declared.WasmFeatures.{WasmFeatures as Features};
+ghost use Rattle.wasm_types.specs.trees.Indices.{number_of};
+ghost use Rattle.wasm_types.specs.settings.declared.WasmFeatures.{WasmFeatures as Features};
 ghost use Rattle.wasm_types_tests.specs.Answers.{DenialRows, TellingRows, RefusalRows};
 ghost use Rattle.wasm_types_tests.specs.Edges.{UnsignedEdges32, UnsignedEdges64, SignedEdges32, SignedEdges33, SignedEdges64};
 ghost use Rattle.wasm_types_tests.specs.Sets.{InflatedRows, PackedRows, WithinRows};

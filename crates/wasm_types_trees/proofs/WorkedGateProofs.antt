@@ -1,5 +1,5 @@
 use Rattle.std.proofs.Common.{rules}
-use Rattle.wasm_types_features.specs.Features.{has}
+use Rattle.wasm_types_settings.specs.Features.{has}
 use Rattle.wasm_types_trees.specs.worked.Gates.{Gated}
 
 pub gated : Gated

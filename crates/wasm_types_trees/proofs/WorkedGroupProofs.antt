@@ -1,8 +1,8 @@
 -- The worked rows of groups.
 use Rattle.std.proofs.Common.{ℕ, ◌≤◌, List, [], ◌∷◌, refl, rules, arith}
-use Rattle.wasm_types_features.specs.Features.{has}
-use Rattle.wasm_types_limits.specs.Limits.{default_limits}
-use Rattle.wasm_types_limits.specs.Settings.{Settings}
+use Rattle.wasm_types_settings.specs.Features.{has}
+use Rattle.wasm_types_settings.specs.Limits.{default_limits}
+use Rattle.wasm_types_settings.specs.Settings.{Settings}
 use Rattle.wasm_types_trees.specs.Trees.{TypeTree, opened}
 use Rattle.wasm_types_trees.specs.AbstractOrder.{eq_any}
 use Rattle.wasm_types_trees.specs.Below.{itself, declared}

@@ -1,8 +1,8 @@
 -- Which features a value type needs, whatever its references lead to (WebAssembly 3.0, appendix, history: each version of
 -- the standard, and the proposals behind it).
 use Rattle.std.specs.Prelude.{ℕ, Bool, true, false, IsTrue, ◌⊎◌}
-use Rattle.wasm_types_features.specs.Features.{Feature, ReferenceTypes, Simd, SharedEverythingThreads, Floats, Exceptions, FunctionReferences, Gc}
-use Rattle.wasm_types_features.specs.Features.{GcTypes, StackSwitching, CustomDescriptors, has}
+use Rattle.wasm_types_settings.specs.Features.{Feature, ReferenceTypes, Simd, SharedEverythingThreads, Floats, Exceptions, FunctionReferences, Gc}
+use Rattle.wasm_types_settings.specs.Features.{GcTypes, StackSwitching, CustomDescriptors, has}
 use Rattle.wasm_types_trees.specs.Types.{Number, i32, i64, f32, f64, v128, Abstract, func, extern, exn, noexn, cont, nocont, HeapOf, abstract}
 use Rattle.wasm_types_trees.specs.Types.{concrete, exact, ValueOf, number, ref}
 

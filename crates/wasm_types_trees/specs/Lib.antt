@@ -15,3 +15,10 @@ pub mod Standard
 pub mod worked
 -- Their laws, with the proofs.
 pub mod laws
+-- Rules: indices, their bits and their text. `Bits` proves too that packing and unpacking undo one another.
+pub mod Indices
+pub mod Bits
+pub mod Text
+-- Laws, which src/laws.rt promises, and worked rows.
+pub mod IndicesLaws
+pub mod IndicesWorked

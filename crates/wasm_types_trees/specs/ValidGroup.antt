@@ -2,8 +2,8 @@
 -- bits. A group is judged as it is written, over the indices of its module, and then as what it unfolds to.
 use Rattle.std.specs.Prelude.{◌≡◌, ℕ, zero, suc, ◌+◌, ◌-◌, ◌<◌, ◌≤◌, nat_lt, if◌then◌else◌, Bool, true, false, IsTrue, List, [], ◌∷◌, ◌++◌, length}
 use Rattle.std.specs.Prelude.{map, get_or, All, Option, Some, None, ◌⊎◌}
-use Rattle.wasm_types_limits.specs.Settings.{Settings}
-use Rattle.wasm_types_features.specs.Features.{MultiValue, SharedEverythingThreads, Gc, GcTypes, StackSwitching, CustomDescriptors}
+use Rattle.wasm_types_settings.specs.Settings.{Settings}
+use Rattle.wasm_types_settings.specs.Features.{MultiValue, SharedEverythingThreads, Gc, GcTypes, StackSwitching, CustomDescriptors}
 use Rattle.wasm_types_trees.specs.Types.{ValueOf, StorageOf, i8, i16, value, FieldOf, InnerOf, function, array_of, struct_of, continuation, SubtypeOf}
 use Rattle.wasm_types_trees.specs.Types.{EntryOf, entry_of_subtype, entry_map}
 use Rattle.wasm_types_trees.specs.Each.{EachOption, EachEntry}

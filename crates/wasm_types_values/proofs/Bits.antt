@@ -3,10 +3,10 @@ use Rattle.std.proofs.Common.{◌≡◌, ℕ, ◌+◌, ◌-◌, ◌*◌, ◌/◌
 use Rattle.std.proofs.lemmas.Bool.{lt-ltb, le-ltb}
 use Rattle.std.proofs.lemmas.Bool.Decides.{nat_tests}
 use Rattle.std.specs.Ordering.{nat_cmp, ordering_then}
-use Rattle.wasm_types_indices.specs.declared.index.UnpackedIndex.{UnpackedIndex}
-use Rattle.wasm_types_indices.specs.declared.index.UnpackedIndex.TheVariants.{Module, RecGroup, Id}
-use Rattle.wasm_types_indices.specs.Indices.{number_of, kind_of}
-use Rattle.wasm_types_indices.specs.Bits.{packed, unpacked-packed}
+use Rattle.wasm_types_trees.specs.declared.index.UnpackedIndex.{UnpackedIndex}
+use Rattle.wasm_types_trees.specs.declared.index.UnpackedIndex.TheVariants.{Module, RecGroup, Id}
+use Rattle.wasm_types_trees.specs.Indices.{number_of, kind_of}
+use Rattle.wasm_types_trees.specs.Bits.{packed, unpacked-packed}
 use Rattle.wasm_types_values.specs.declared.heap.AbstractHeapType.{AbstractHeapType}
 use Rattle.wasm_types_values.specs.declared.heap.AbstractHeapType.TheVariants as heap
 use Rattle.wasm_types_values.specs.declared.heap.HeapType.{HeapType}

@@ -1,8 +1,8 @@
 -- The index of a value type is replaced, or refused.
 use Rattle.std.proofs.Common.{◌≡◌, refl, sym, subst, Some, Bool, true, false}
 use Rattle.std.specs.Prelude.{Result, Ok, Err}
-use Rattle.wasm_types_reader.specs.error.ErrorValue.{ErrorValue}
-use Rattle.wasm_types_indices.specs.declared.index.UnpackedIndex.{UnpackedIndex}
+use Rattle.wasm_types_reader.specs.decoding.ErrorValue.{ErrorValue}
+use Rattle.wasm_types_trees.specs.declared.index.UnpackedIndex.{UnpackedIndex}
 use Rattle.wasm_types_trees.specs.Types as tree
 use Rattle.wasm_types_trees.specs.Types.{HeapOf}
 use Rattle.wasm_types_values.specs.declared.heap.HeapType.{HeapType}

@@ -2,8 +2,8 @@
 -- be null, and 22 bits of the index; or, without an index, whether it is shared, at bit 20, and the number of an
 -- abstract type.
 use Rattle.std.specs.Prelude.{◌≡◌, ℕ, ◌+◌, ◌*◌, ◌/◌, ◌%◌, ◌<◌, ◌^◌, ◌==◌, nat_lt, Bool, true, false, if◌then◌else◌}
-use Rattle.wasm_types_indices.specs.Indices.{number_of}
-use Rattle.wasm_types_indices.specs.Bits.{packed, unpacked}
+use Rattle.wasm_types_trees.specs.Indices.{number_of}
+use Rattle.wasm_types_trees.specs.Bits.{packed, unpacked}
 use Rattle.wasm_types_values.specs.declared.heap.AbstractHeapType.{AbstractHeapType}
 use Rattle.wasm_types_values.specs.declared.heap.AbstractHeapType.TheVariants as heap
 use Rattle.wasm_types_values.specs.declared.heap.HeapType.{HeapType}

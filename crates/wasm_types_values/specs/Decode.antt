@@ -4,7 +4,7 @@ use Rattle.wasm_types_reader.specs.decoding.declared.Refusal.TheVariants.{Other}
 use Rattle.wasm_types_reader.specs.decoding.Decoder.{Decoder, ◌>>=◌, pure, refuse, byte, look}
 use Rattle.wasm_types_reader.specs.decoding.Lists.{refuse_at}
 use Rattle.wasm_types_reader.specs.decoding.Leb.{u32, s33}
-use Rattle.wasm_types_indices.specs.declared.index.UnpackedIndex.TheVariants.{Module}
+use Rattle.wasm_types_trees.specs.declared.index.UnpackedIndex.TheVariants.{Module}
 use Rattle.wasm_types_values.specs.declared.heap.AbstractHeapType.{AbstractHeapType}
 use Rattle.wasm_types_values.specs.declared.heap.AbstractHeapType.TheVariants as heap
 use Rattle.wasm_types_values.specs.declared.heap.HeapType.{HeapType}

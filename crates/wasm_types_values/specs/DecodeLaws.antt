@@ -8,7 +8,7 @@ use Rattle.wasm_types_reader.specs.decoding.ListLaws.{lawful-from_place, lawful-
 use Rattle.wasm_types_reader.specs.decoding.Leb.{u32, s33, signed, seven_bits}
 use Rattle.wasm_types_reader.specs.decoding.LebLaws.{lawful-unsigned}
 use Rattle.wasm_types_reader.specs.decoding.SignedLaws.{lawful-signed}
-use Rattle.wasm_types_indices.specs.declared.index.UnpackedIndex.TheVariants.{Module}
+use Rattle.wasm_types_trees.specs.declared.index.UnpackedIndex.TheVariants.{Module}
 use Rattle.wasm_types_values.specs.declared.heap.AbstractHeapType.{AbstractHeapType}
 use Rattle.wasm_types_values.specs.declared.heap.HeapType.TheVariants.{Abstract, Concrete, Exact}
 use Rattle.wasm_types_values.specs.declared.value.ValType.TheVariants.{I32, I64, F32, F64, V128, Ref}

@@ -12,7 +12,7 @@ use Rattle.wasm_types_reader.specs.decoding.ListLaws.{decides-from_place, decide
 use Rattle.wasm_types_reader.specs.decoding.Leb.{u32, s33, IsUnsigned, IsSigned, nonnegative, negative, longer}
 use Rattle.wasm_types_reader.specs.decoding.LebLaws.{decides-u32}
 use Rattle.wasm_types_reader.specs.decoding.SignedLaws.{decides-s33}
-use Rattle.wasm_types_indices.specs.declared.index.UnpackedIndex.TheVariants.{Module, RecGroup, Id}
+use Rattle.wasm_types_trees.specs.declared.index.UnpackedIndex.TheVariants.{Module, RecGroup, Id}
 use Rattle.wasm_types_values.specs.declared.heap.AbstractHeapType.{AbstractHeapType}
 use Rattle.wasm_types_values.specs.declared.heap.AbstractHeapType.TheVariants as heap
 use Rattle.wasm_types_values.specs.declared.heap.HeapType.{HeapType}

@@ -2,13 +2,13 @@
 use Rattle.std.specs.Prelude.{◌≡◌, ℕ, Bool, true, false, ◌==◌, Option, Some, None}
 use Rattle.std.specs.Ordering.{nat_cmp, on, then_cmp, eq_of_both}
 use Rattle.std.specs.declared.cmp.Ordering.{Ordering}
-use Rattle.wasm_types_indices.specs.declared.index.UnpackedIndex.{UnpackedIndex}
+use Rattle.wasm_types_trees.specs.declared.index.UnpackedIndex.{UnpackedIndex}
 use Rattle.wasm_types_values.specs.declared.heap.AbstractHeapType.{AbstractHeapType}
 use Rattle.wasm_types_values.specs.declared.heap.HeapType.{HeapType}
 use Rattle.wasm_types_values.specs.declared.heap.HeapType.TheVariants.{Abstract, Concrete, Exact}
 use Rattle.wasm_types_values.specs.Reference.{Reference}
 use Rattle.wasm_types_values.specs.Bits.{code_of, bit, class_of}
-use Rattle.wasm_types_indices.specs.Indices.{kind_of, number_of}
+use Rattle.wasm_types_trees.specs.Indices.{kind_of, number_of}
 
 -- whether it refers by an index
 abbrev pub is_concrete : HeapType → Bool

@@ -25,12 +25,8 @@ pub mod ReferenceLaws
 pub mod ValueLaws
 pub mod RemapLaws
 pub mod WorkedTypeLaws
--- The rules and laws of the crates below, under their names: crates above cite them here.
-pub use Rattle.wasm_types_reader.specs.limits as limits
+-- The rules of crates below, under their names: crates above cite them here.
 pub use Rattle.wasm_types_reader.specs.decoding as decoding
-pub use Rattle.wasm_types_reader.specs.features as features
-pub use Rattle.wasm_types_reader.specs.error as error
-pub use Rattle.wasm_types_reader.specs.numbers as numbers
 pub use Rattle.wasm_types_reader.specs as reader
-pub use Rattle.wasm_types_indices.specs as indices
-pub use Rattle.wasm_types_trees.specs as trees
+pub use Rattle.wasm_types_reader.specs.settings as settings
+pub use Rattle.wasm_types_trees.specs as types_trees

@@ -1,8 +1,8 @@
 -- The bytes of types (WebAssembly 3.0, binary format, types; shared, exact and continuation types by their proposals).
 use Rattle.std.specs.Prelude.{◌≡◌, ℕ, ◌<◌, ◌^◌, ◌⊎◌, List, [], ◌∷◌, Bool, true, false, pos}
 use Rattle.wasm_types_reader.specs.decoding.Leb.{IsUnsigned, IsSigned}
-use Rattle.wasm_types_indices.specs.declared.index.UnpackedIndex.{UnpackedIndex}
-use Rattle.wasm_types_indices.specs.declared.index.UnpackedIndex.TheVariants.{Module, RecGroup, Id}
+use Rattle.wasm_types_trees.specs.declared.index.UnpackedIndex.{UnpackedIndex}
+use Rattle.wasm_types_trees.specs.declared.index.UnpackedIndex.TheVariants.{Module, RecGroup, Id}
 use Rattle.wasm_types_trees.specs.Types as tree
 use Rattle.wasm_types_trees.specs.Types.{Number, Abstract, HeapOf, ValueOf, StorageOf}
 

@@ -1,6 +1,6 @@
 -- How types are written, in the words of the text format.
 use Rattle.std.specs.Prelude.{ℕ, List, ◌++◌, codes, Bool, true, false}
-use Rattle.wasm_types_indices.specs.Text.{index_text}
+use Rattle.wasm_types_trees.specs.Text.{index_text}
 use Rattle.wasm_types_values.specs.declared.heap.AbstractHeapType.{AbstractHeapType}
 use Rattle.wasm_types_values.specs.declared.heap.AbstractHeapType.TheVariants as heap
 use Rattle.wasm_types_values.specs.declared.heap.HeapType.{HeapType}

@@ -1,5 +1,5 @@
 -- The plain trees of heap types.
-use Rattle.wasm_types_indices.specs.declared.index.UnpackedIndex.{UnpackedIndex}
+use Rattle.wasm_types_trees.specs.declared.index.UnpackedIndex.{UnpackedIndex}
 use Rattle.wasm_types_trees.specs.Types as tree
 use Rattle.wasm_types_trees.specs.Types.{Abstract, HeapOf}
 use Rattle.wasm_types_values.specs.declared.heap.AbstractHeapType.{AbstractHeapType}

@@ -1,5 +1,5 @@
 -- The plain trees of value types and of storage types.
-use Rattle.wasm_types_indices.specs.declared.index.UnpackedIndex.{UnpackedIndex}
+use Rattle.wasm_types_trees.specs.declared.index.UnpackedIndex.{UnpackedIndex}
 use Rattle.wasm_types_trees.specs.Types as tree
 use Rattle.wasm_types_trees.specs.Types.{ValueOf, StorageOf}
 use Rattle.wasm_types_values.specs.Trees.{heap_of}

@@ -6,8 +6,8 @@ use Rattle.std.specs.declared.cmp.Ordering.TheVariants.{Less, Greater}
 use Rattle.wasm_types_reader.specs.decoding.declared.Refusal.TheVariants.{Other}
 use Rattle.wasm_types_reader.specs.decoding.Decoder.{State, Done, Short, Fault}
 use Rattle.wasm_types_reader.specs.decoding.Leb.{unsigned, signed, last_bits}
-use Rattle.wasm_types_reader.specs.limits.Settings.{no_features}
-use Rattle.wasm_types_indices.specs.declared.index.UnpackedIndex.TheVariants.{Module, RecGroup}
+use Rattle.wasm_types_reader.specs.settings.Settings.{no_features}
+use Rattle.wasm_types_trees.specs.declared.index.UnpackedIndex.TheVariants.{Module, RecGroup}
 use Rattle.wasm_types_values.specs.declared.heap.AbstractHeapType.{AbstractHeapType}
 use Rattle.wasm_types_values.specs.declared.heap.AbstractHeapType.TheVariants as heap
 use Rattle.wasm_types_values.specs.declared.heap.HeapType.{HeapType}

@@ -1,5 +1,5 @@
 //! Heap types: what a reference may refer to.
-use wasm_types_indices::UnpackedIndex;
+use wasm_types_trees::UnpackedIndex;
 
 /// An abstract heap type (WebAssembly 3.0, structure, heap types; `Cont` and `NoCont` by the proposal for stack
 /// switching), ordered as they stand here.

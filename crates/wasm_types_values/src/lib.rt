@@ -17,8 +17,8 @@ pub use heap::{AbstractHeapType, HeapType};
 pub use read_heap::index_error;
 pub use reference::RefType;
 pub use value::{StorageType, ValType};
-pub use wasm_types_indices::{CoreTypeId, PackedIndex, UnpackedIndex};
 pub use wasm_types_reader::{
     BinaryReader, BinaryReaderError, BinaryReaderIter, Error, ErrorKind, FromReader, Ieee32,
     Ieee64, Limits, Result, WasmFeatures, WasmFeaturesInflated, limits, read_list, read_many,
 };
+pub use wasm_types_trees::{CoreTypeId, PackedIndex, UnpackedIndex};

@@ -1,14 +1,14 @@
 //! Heap types from their bytes (WebAssembly 3.0, binary format, types).
 ghost use Rattle.std.specs.Prelude.{◌≡◌, ◌<◌};
 ghost use Rattle.wasm_types_reader.specs.decoding.Decoder.{Reaches};
-ghost use Rattle.wasm_types_reader.specs.error.declared.error.ErrorKind.TheVariants.{Other};
+ghost use Rattle.wasm_types_reader.specs.decoding.declared.error.ErrorKind.TheVariants.{Other};
 ghost use Rattle.wasm_types_reader.specs.Reading.{Gives, NeedsNoMemory};
 ghost use Rattle.wasm_types_values.specs.Decode.{type_of_byte, concrete_heap_type, exact_heap_type};
 
 use crate::heap::{AbstractHeapType, HeapType};
 use std::alloc::Global;
-use wasm_types_indices::UnpackedIndex;
 use wasm_types_reader::{BinaryReader, Error, FromReader, Result};
+use wasm_types_trees::UnpackedIndex;
 
 // An index of a type is below this number.
 const INDEX_LIMIT: u32 = 1 << 20;

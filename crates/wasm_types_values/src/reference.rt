@@ -7,7 +7,7 @@ use std::cmp::Ordering;
 use std::fmt::{self, Display};
 use std::hash::{Hash, Hasher};
 use std::marker::Model;
-use wasm_types_indices::PackedIndex;
+use wasm_types_trees::PackedIndex;
 
 // The bits above the 22 of an index, and that of a shared abstract type.
 const EXACT: u32 = 1 << 23;

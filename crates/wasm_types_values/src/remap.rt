@@ -5,8 +5,8 @@ ghost use Rattle.wasm_types_values.specs.Remap.{Remapped, value_shape, value_ind
 ghost use Rattle.wasm_types_values.specs.Values.{value_of, storage_of};
 
 use crate::{RefType, StorageType, ValType};
-use wasm_types_indices::PackedIndex;
 use wasm_types_reader::Result;
+use wasm_types_trees::PackedIndex;
 
 impl ValType {
     /// Replaces its index, if it has one, by what `f` makes of it. Where `f` refuses, so does the call, and the type stays.

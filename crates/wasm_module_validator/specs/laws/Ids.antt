@@ -1,8 +1,8 @@
 -- An id means the same type for as long as the list of a validator grows.
 use Rattle.std.proofs.Common.{◌≡◌, ◌∙◌, ◌+◌, ◌<◌, ◌≤◌, ◌++◌, ℕ, List, [], ◌∷◌, ap, refl, sym, subst, arith}
-use Rattle.wasm_module_validator_sharing.specs.reading.progress.standing.type_trees.Groups.{Group, count, tree_of}
-use Rattle.wasm_module_validator_sharing.specs.reading.progress.standing.type_trees.laws.Unrolled.{tree_old, count_push}
-use Rattle.wasm_module_validator_sharing.specs.reading.progress.standing.Standing.{IsGrown}
+use Rattle.wasm_module_validator_type_storage.specs.trees.Groups.{Group, count, tree_of}
+use Rattle.wasm_module_validator_type_storage.specs.trees.laws.Unrolled.{tree_old, count_push}
+use Rattle.wasm_module_validator_drivers.specs.state.invariant.Standing.{IsGrown}
 
 counts_on : (more old : List Group) → count old ≤ count (more ++ old)
 counts_on [] old = omega arith

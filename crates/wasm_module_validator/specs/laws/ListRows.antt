@@ -1,14 +1,14 @@
 -- Lists of verdicts: worked rows.
 use Rattle.std.specs.Prelude.{◌≡◌, ◌⊎◌, ℕ, List, [], ◌∷◌, true, false}
 use Rattle.std.proofs.Common.{refl, inl, inr}
-use Rattle.wasm_types.specs.error.ErrorValue.{ErrorValue}
-use Rattle.wasm_types.specs.limits.Limits.{IsWithinCeilings}
-use Rattle.wasm_types.specs.limits.Settings.{Settings}
-use Rattle.wasm_module_validator_module.specs.declared.view.validator_id.ValidatorId.{ValidatorId}
-use Rattle.wasm_module_validator_sharing.specs.reading.progress.declaring.Total.{IsPastTotal}
-use Rattle.wasm_module_validator_sharing.specs.reading.progress.declaring.TotalLaws.{none_past}
-use Rattle.wasm_module_validator_sharing.specs.reading.progress.standing.items.Items.{no_items}
-use Rattle.wasm_module_validator_sharing.specs.reading.progress.standing.type_trees.Groups.{Group}
+use Rattle.wasm_types.specs.decoding.ErrorValue.{ErrorValue}
+use Rattle.wasm_types.specs.settings.Limits.{IsWithinCeilings}
+use Rattle.wasm_types.specs.settings.Settings.{Settings}
+use Rattle.wasm_module_validator_index_spaces.specs.declared.view.validator_id.ValidatorId.{ValidatorId}
+use Rattle.wasm_module_validator_drivers.specs.declarations.Total.{IsPastTotal}
+use Rattle.wasm_module_validator_drivers.specs.declarations.TotalLaws.{none_past}
+use Rattle.wasm_module_validator_drivers.specs.state.Items.{no_items}
+use Rattle.wasm_module_validator_type_storage.specs.trees.Groups.{Group}
 use Rattle.wasm_module_validator.specs.declared.lists.Verdict.{Verdict}
 use Rattle.wasm_module_validator.specs.declared.lists.Verdict.TheVariants.{Accepted, Refused}
 use Rattle.wasm_module_validator.specs.declared.validator.State.TheVariants.{Unparsed, Ended, Failed}

@@ -3,20 +3,20 @@ use Rattle.std.proofs.Common.{◌≡◌, ◌∙◌, ◌⊎◌, ◌↔◌, ◌<�
 use Rattle.std.specs.Prelude.{Contains, ◌==◌, ◌&&◌, if◌then◌else◌}
 use Rattle.std.proofs.lemmas.List.{append-nil}
 use Rattle.std.proofs.lemmas.Cmp.{nat_eq_equiv}
-use Rattle.wasm_types.specs.limits.contracts.LimitsEq.TheImpl.Laws as limits_laws
-use Rattle.wasm_types.specs.limits.contracts.LimitsPartialEq.TheImpl as limits
-use Rattle.wasm_types.specs.limits.Settings.{Settings}
-use Rattle.wasm_types.specs.error.ErrorValue.{ErrorValue}
-use Rattle.wasm_types.specs.error.declared.error.ErrorKind.TheVariants.{OutOfMemory}
+use Rattle.wasm_types.specs.settings.contracts.LimitsEq.TheImpl.Laws as limits_laws
+use Rattle.wasm_types.specs.settings.contracts.LimitsPartialEq.TheImpl as limits
+use Rattle.wasm_types.specs.settings.Settings.{Settings}
+use Rattle.wasm_types.specs.decoding.ErrorValue.{ErrorValue}
+use Rattle.wasm_types.specs.decoding.declared.error.ErrorKind.TheVariants.{OutOfMemory}
 use Rattle.wasm_types.specs.reader.Reading.{IsNotMemory}
 use Rattle.wasm_sections_parser.specs.Parsing.{one_of}
-use Rattle.wasm_module_validator_module.specs.declared.view.validator_id.ValidatorId.{ValidatorId}
-use Rattle.wasm_module_validator_sharing.specs.Sharing.{renewed_behind}
-use Rattle.wasm_module_validator_sharing.specs.reading.progress.Progress.{are_same}
-use Rattle.wasm_module_validator_sharing.specs.reading.progress.standing.Standing.{IsGrown}
-use Rattle.wasm_module_validator_sharing.specs.reading.progress.standing.type_trees.Groups.{Group, count, tree_of}
-use Rattle.wasm_module_validator_sharing.specs.reading.progress.standing.type_trees.Formed.{IsFormed, AreCanonical}
-use Rattle.wasm_module_validator_sharing.specs.reading.progress.standing.type_trees.laws.Apart.{apart}
+use Rattle.wasm_module_validator_index_spaces.specs.declared.view.validator_id.ValidatorId.{ValidatorId}
+use Rattle.wasm_module_validator_drivers.specs.Sharing.{renewed_behind}
+use Rattle.wasm_module_validator_drivers.specs.payloads.Progress.{are_same}
+use Rattle.wasm_module_validator_drivers.specs.state.invariant.Standing.{IsGrown}
+use Rattle.wasm_module_validator_type_storage.specs.trees.Groups.{Group, count, tree_of}
+use Rattle.wasm_module_validator_type_storage.specs.trees.Formed.{IsFormed, AreCanonical}
+use Rattle.wasm_module_validator_type_storage.specs.trees.laws.Apart.{apart}
 use Rattle.wasm_module_validator.specs.declared.lists.Verdict.{Verdict}
 use Rattle.wasm_module_validator.specs.declared.lists.Verdict.TheVariants.{Accepted, Refused}
 use Rattle.wasm_module_validator.specs.declared.validator.State.{State}

@@ -1,10 +1,10 @@
 -- How far a validator is behind a module: worked rows.
 use Rattle.std.proofs.Common.{◌≡◌, ℕ, List, [], Ok}
-use Rattle.wasm_types.specs.error.declared.error.ErrorKind.TheVariants.{OutOfMemory, Other}
-use Rattle.wasm_types.specs.limits.Limits.{default_limits}
-use Rattle.wasm_types.specs.limits.Settings.{Settings}
-use Rattle.wasm_module_validator_sharing.specs.reading.progress.Progress.{Kept, kept_groups, nothing_over, renewed}
-use Rattle.wasm_module_validator_sharing.specs.reading.progress.standing.type_trees.Groups.{Group}
+use Rattle.wasm_types.specs.decoding.declared.error.ErrorKind.TheVariants.{OutOfMemory, Other}
+use Rattle.wasm_types.specs.settings.Limits.{default_limits}
+use Rattle.wasm_types.specs.settings.Settings.{Settings}
+use Rattle.wasm_module_validator_drivers.specs.payloads.Progress.{Kept, kept_groups, nothing_over, renewed}
+use Rattle.wasm_module_validator_type_storage.specs.trees.Groups.{Group}
 use Rattle.wasm_module_validator.specs.declared.validator.State.TheVariants.{Ended, Failed}
 use Rattle.wasm_module_validator.specs.States.{IsLeft, Leaves}
 

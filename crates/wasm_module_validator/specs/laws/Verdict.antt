@@ -1,29 +1,29 @@
 -- A module is accepted exactly where it is read and each of its bodies is judged valid.
 use Rattle.std.proofs.Common.{◌≡◌, ◌∙◌, ◌⊎◌, ◌≤◌, ◌+◌, ℕ, Bool, true, false, if◌then◌else◌, List, [], length, Result, Ok, Err, refl, sym, ap, subst, arith, inl, inr}
 use Rattle.std.proofs.lemmas.List.{length-map}
-use Rattle.wasm_types.specs.error.Denials.{Denies, Tells}
-use Rattle.wasm_types.specs.error.ErrorValue.{ErrorValue}
-use Rattle.wasm_types.specs.error.declared.error.ErrorKind.{ErrorKind}
-use Rattle.wasm_types.specs.error.declared.error.ErrorKind.TheVariants.{EndOfData, MissingFeature, OutOfMemory, Failed, Other}
-use Rattle.wasm_types.specs.indices.declared.index.CoreTypeId.{CoreTypeId}
-use Rattle.wasm_types.specs.limits.Limits.{IsWithinCeilings}
-use Rattle.wasm_types.specs.limits.Settings.{Settings}
+use Rattle.wasm_types.specs.decoding.Denials.{Denies, Tells}
+use Rattle.wasm_types.specs.decoding.ErrorValue.{ErrorValue}
+use Rattle.wasm_types.specs.decoding.declared.error.ErrorKind.{ErrorKind}
+use Rattle.wasm_types.specs.decoding.declared.error.ErrorKind.TheVariants.{EndOfData, MissingFeature, OutOfMemory, Failed, Other}
+use Rattle.wasm_types.specs.trees.declared.index.CoreTypeId.{CoreTypeId}
+use Rattle.wasm_types.specs.settings.Limits.{IsWithinCeilings}
+use Rattle.wasm_types.specs.settings.Settings.{Settings}
 use Rattle.wasm_types.specs.reader.Reading.{IsNotMemory}
-use Rattle.wasm_module_validator_sharing.specs.reading.progress.adding.declared.bodies.Body.{Body}
-use Rattle.wasm_module_validator_sharing.specs.reading.progress.standing.steps.contexts.rules.Accepts.{AcceptsUnder, Judges}
-use Rattle.wasm_module_validator_sharing.specs.reading.progress.standing.steps.contexts.rules.Spaces.{types_behind}
-use Rattle.wasm_module_validator_sharing.specs.reading.progress.standing.steps.contexts.rules.Syntax.{ModuleTree}
-use Rattle.wasm_module_validator_sharing.specs.reading.progress.standing.steps.Steps.{SoFar}
-use Rattle.wasm_module_validator_sharing.specs.reading.progress.standing.Standing.{Stands}
-use Rattle.wasm_module_validator_sharing.specs.reading.progress.standing.items.Items.{no_items}
-use Rattle.wasm_module_validator_sharing.specs.reading.progress.standing.type_trees.Groups.{Group, count, tree_of}
-use Rattle.wasm_module_validator_sharing.specs.reading.progress.declaring.Total.{TellsWithinTotal}
-use Rattle.wasm_module_validator_sharing.specs.reading.progress.declaring.TotalLaws.{within_total}
-use Rattle.wasm_module_validator_fronts.specs.framed.laws.Complete.{module_comes}
-use Rattle.wasm_module_validator_fronts.specs.framed.laws.Accepted.{accepted_comes, accepted_exactly, bodies_of_functions}
-use Rattle.wasm_module_validator_sharing.specs.reading.progress.Progress.{Kept, Progress, IsAt, are_same, kept_groups}
-use Rattle.wasm_module_validator_sharing.specs.reading.Reading.{IsReadAs}
-use Rattle.wasm_module_validator_sharing.specs.reading.judging.Bodies.{AreBodies}
+use Rattle.wasm_module_validator_section_order.specs.declared.items.bodies.Body.{Body}
+use Rattle.wasm_module_validator_rules.specs.Accepts.{AcceptsUnder, Judges}
+use Rattle.wasm_module_validator_rules.specs.Spaces.{types_behind}
+use Rattle.wasm_module_validator_rules.specs.Syntax.{ModuleTree}
+use Rattle.wasm_module_validator_section_order.specs.rules_in_order.Steps.{SoFar}
+use Rattle.wasm_module_validator_drivers.specs.state.invariant.Standing.{Stands}
+use Rattle.wasm_module_validator_drivers.specs.state.Items.{no_items}
+use Rattle.wasm_module_validator_type_storage.specs.trees.Groups.{Group, count, tree_of}
+use Rattle.wasm_module_validator_drivers.specs.declarations.Total.{TellsWithinTotal}
+use Rattle.wasm_module_validator_drivers.specs.declarations.TotalLaws.{within_total}
+use Rattle.wasm_module_validator_section_order.specs.frames.framed.laws.Complete.{module_comes}
+use Rattle.wasm_module_validator_section_order.specs.frames.framed.laws.Accepted.{accepted_comes, accepted_exactly, bodies_of_functions}
+use Rattle.wasm_module_validator_drivers.specs.payloads.Progress.{Kept, Progress, IsAt, are_same, kept_groups}
+use Rattle.wasm_module_validator_drivers.specs.reading.Reading.{IsReadAs}
+use Rattle.wasm_module_validator_drivers.specs.judging.Bodies.{AreBodies}
 use Rattle.wasm_module_validator.specs.declared.validator.State.{State}
 use Rattle.wasm_module_validator.specs.declared.validator.State.TheVariants as states
 use Rattle.wasm_module_validator.specs.Lists.{TakesNoMore}

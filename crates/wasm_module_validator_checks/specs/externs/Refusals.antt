@@ -1,11 +1,11 @@
 -- Of which kind the refusal of a type is. A feature is named where it is missing, and every other refusal is one that no set of
 -- features takes back.
 use Rattle.std.specs.Prelude.{◌≡◌, ◌==◌, ℕ, Bool, true, false, bit_and}
-use Rattle.wasm_types.specs.limits.Settings.{Settings}
-use Rattle.wasm_types.specs.error.declared.error.ErrorKind.{ErrorKind}
-use Rattle.wasm_types.specs.error.declared.error.ErrorKind.TheVariants as kinds
+use Rattle.wasm_types.specs.settings.Settings.{Settings}
+use Rattle.wasm_types.specs.decoding.declared.error.ErrorKind.{ErrorKind}
+use Rattle.wasm_types.specs.decoding.declared.error.ErrorKind.TheVariants as kinds
 -- for attributes that unfold them
-unfoldable pub use Rattle.wasm_types.specs.features.Features.{has}
+unfoldable pub use Rattle.wasm_types.specs.settings.Features.{has}
 unfoldable pub use Rattle.wasm_operator_validator_state.specs.resources.Meaning.{type_in}
 
 -- the same limits under other features

@@ -2,9 +2,9 @@
 use Rattle.std.specs.Prelude.{◌≡◌, ℕ, Some, slice_get}
 use Rattle.wasm_types.specs.trees.Trees.{TypeTree}
 use Rattle.wasm_types.specs.fields.declared.func.FuncType.{FuncType}
-use Rattle.wasm_module_validator_checks.specs.externs.state.rules.Context.{Signature, IsFunctionType}
-use Rattle.wasm_module_validator_checks.specs.externs.state.resources.Meaning.{Meaning}
-use Rattle.wasm_module_validator_checks.specs.externs.state.State.{types_in}
+use Rattle.wasm_operator_validator_rules.specs.Context.{Signature, IsFunctionType}
+use Rattle.wasm_operator_validator_state.specs.resources.Meaning.{Meaning}
+use Rattle.wasm_operator_validator_state.specs.State.{types_in}
 
 -- the function at an index has a function type
 abbrev pub HasFunction : Meaning → ℕ → Type 0

@@ -1,13 +1,13 @@
 //! Function types by their index.
 
 ghost use Rattle.std.specs.Prelude.{◌≡◌, IfErr, IfOk, Some};
-ghost use Rattle.wasm_types.specs.error.Denials.{Tells};
-ghost use Rattle.wasm_types.specs.error.declared.error.ErrorKind.TheVariants.{Other};
-ghost use Rattle.wasm_operator_validator_blocks.specs.Signatures.{signature_in, IsFunctionAt};
-ghost use Rattle.wasm_module_validator_checks.specs.limits.rules.Valid.{IsFunctionIndex};
+ghost use Rattle.wasm_types.specs.decoding.Denials.{Tells};
+ghost use Rattle.wasm_types.specs.decoding.declared.error.ErrorKind.TheVariants.{Other};
+ghost use Rattle.wasm_operator_validator_state.specs.blocks.Signatures.{signature_in, IsFunctionAt};
+ghost use Rattle.wasm_module_validator_rules.specs.Valid.{IsFunctionIndex};
 
-use wasm_operator_validator_blocks::function_at;
 use wasm_operator_validator_state::WasmModuleResources;
+use wasm_operator_validator_state::blocks::function_at;
 use wasm_types::{Error, FuncType, Result};
 
 // The refusal of an index that is no function type's.

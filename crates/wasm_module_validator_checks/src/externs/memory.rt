@@ -1,11 +1,11 @@
 //! Memory types.
 
 ghost use Rattle.std.specs.Prelude.{◌≡◌, ◌⊎◌, IsTrue, IfErr, IfOk};
-ghost use Rattle.wasm_types.specs.error.Denials.{Tells};
-ghost use Rattle.wasm_types.specs.error.declared.error.ErrorKind.TheVariants.{Other};
-ghost use Rattle.wasm_types.specs.features.Features.{CustomPageSizes, Memory64, Threads};
+ghost use Rattle.wasm_types.specs.decoding.Denials.{Tells};
+ghost use Rattle.wasm_types.specs.decoding.declared.error.ErrorKind.TheVariants.{Other};
+ghost use Rattle.wasm_types.specs.settings.Features.{CustomPageSizes, Memory64, Threads};
 ghost use Rattle.wasm_types.specs.trees.Gates.{Has};
-ghost use Rattle.wasm_module_validator_checks.specs.limits.rules.Valid.{IfThere, IsValidMemoryType, page_size as bytes_in_page, most_pages};
+ghost use Rattle.wasm_module_validator_rules.specs.Valid.{IfThere, IsValidMemoryType, page_size as bytes_in_page, most_pages};
 ghost use Rattle.wasm_module_validator_checks.specs.externs.Refusals.{IsNeeded, allowing};
 
 use crate::externs::sizes::{are_within, check_limits, require};

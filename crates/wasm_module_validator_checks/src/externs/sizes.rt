@@ -1,9 +1,9 @@
 //! Sizes of tables and memories: a minimum, and a maximum if there is one.
 
 ghost use Rattle.std.specs.Prelude.{◌≡◌, ◌↔◌, ◌≤◌, IsTrue, IfErr, false};
-ghost use Rattle.wasm_types.specs.error.Denials.{Tells};
-ghost use Rattle.wasm_types.specs.error.declared.error.ErrorKind.TheVariants.{Other, MissingFeature};
-ghost use Rattle.wasm_module_validator_checks.specs.limits.rules.Valid.{IfThere};
+ghost use Rattle.wasm_types.specs.decoding.Denials.{Tells};
+ghost use Rattle.wasm_types.specs.decoding.declared.error.ErrorKind.TheVariants.{Other, MissingFeature};
+ghost use Rattle.wasm_module_validator_rules.specs.Valid.{IfThere};
 
 use wasm_types::{Error, Result, WasmFeatures};
 

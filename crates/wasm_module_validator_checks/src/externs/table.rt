@@ -1,16 +1,16 @@
 //! Table types.
 
 ghost use Rattle.std.specs.Prelude.{◌≡◌, IsTrue, IfErr, OnOk, OnErr};
-ghost use Rattle.wasm_types.specs.error.Denials.{Tells};
-ghost use Rattle.wasm_types.specs.error.declared.error.ErrorKind.TheVariants.{Other};
-ghost use Rattle.wasm_types.specs.features.Features.{Memory64, SharedEverythingThreads};
+ghost use Rattle.wasm_types.specs.decoding.Denials.{Tells};
+ghost use Rattle.wasm_types.specs.decoding.declared.error.ErrorKind.TheVariants.{Other};
+ghost use Rattle.wasm_types.specs.settings.Features.{Memory64, SharedEverythingThreads};
 ghost use Rattle.wasm_types.specs.trees.Each.{EachHeap};
 ghost use Rattle.wasm_types.specs.trees.Gates.{Has};
 ghost use Rattle.wasm_types.specs.values.Trees.{heap_of};
 ghost use Rattle.wasm_types.specs.values.declared.value.ValType.TheVariants as value;
 ghost use Rattle.wasm_operator_validator_state.specs.resources.Meaning.{reference_in, table_in, IsKnownIndex};
-ghost use Rattle.wasm_module_validator_checks.specs.limits.rules.Spaces.{value_in, table_in as table_written};
-ghost use Rattle.wasm_module_validator_checks.specs.limits.rules.Valid.{IsValidElementType, IsValidTableType, IfThere, most_elements};
+ghost use Rattle.wasm_module_validator_rules.specs.Spaces.{value_in, table_in as table_written};
+ghost use Rattle.wasm_module_validator_rules.specs.Valid.{IsValidElementType, IsValidTableType, IfThere, most_elements};
 ghost use Rattle.wasm_module_validator_checks.specs.externs.Refusals.{IsRefusal, IsNeeded, allowing};
 
 use crate::externs::sizes::{are_within, check_limits, require};

@@ -1,9 +1,9 @@
 //! Tag types.
 
 ghost use Rattle.std.specs.Prelude.{◌≡◌, IfErr, IfOk, Some};
-ghost use Rattle.wasm_types.specs.error.Denials.{Tells};
-ghost use Rattle.wasm_operator_validator_blocks.specs.Signatures.{signature_in, IsFunctionAt};
-ghost use Rattle.wasm_module_validator_checks.specs.limits.rules.Valid.{IsValidTagType};
+ghost use Rattle.wasm_types.specs.decoding.Denials.{Tells};
+ghost use Rattle.wasm_operator_validator_state.specs.blocks.Signatures.{signature_in, IsFunctionAt};
+ghost use Rattle.wasm_module_validator_rules.specs.Valid.{IsValidTagType};
 ghost use Rattle.wasm_module_validator_checks.specs.externs.Refusals.{IsNeeded, allowing};
 
 use crate::externs::functions::func_type_at;

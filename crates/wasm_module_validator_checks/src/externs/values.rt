@@ -1,14 +1,14 @@
 //! Value types, and globals of them.
 
 ghost use Rattle.std.specs.Prelude.{◌≡◌, IsTrue, IfErr, OnOk, OnErr};
-ghost use Rattle.wasm_types.specs.error.Denials.{Tells};
-ghost use Rattle.wasm_types.specs.error.declared.error.ErrorKind.TheVariants.{Other};
-ghost use Rattle.wasm_types.specs.features.Features.{SharedEverythingThreads};
+ghost use Rattle.wasm_types.specs.decoding.Denials.{Tells};
+ghost use Rattle.wasm_types.specs.decoding.declared.error.ErrorKind.TheVariants.{Other};
+ghost use Rattle.wasm_types.specs.settings.Features.{SharedEverythingThreads};
 ghost use Rattle.wasm_types.specs.trees.Below.{value_is_shared};
 ghost use Rattle.wasm_types.specs.trees.Gates.{Has};
 ghost use Rattle.wasm_operator_validator_state.specs.resources.Meaning.{type_in, global_in};
-ghost use Rattle.wasm_module_validator_checks.specs.limits.rules.Spaces.{value_in, global_in as global_written};
-ghost use Rattle.wasm_module_validator_checks.specs.limits.rules.Valid.{IsValidValueType, IsValidGlobalType};
+ghost use Rattle.wasm_module_validator_rules.specs.Spaces.{value_in, global_in as global_written};
+ghost use Rattle.wasm_module_validator_rules.specs.Valid.{IsValidValueType, IsValidGlobalType};
 ghost use Rattle.wasm_module_validator_checks.specs.externs.Refusals.{IsRefusal, allowing};
 
 use crate::externs::sizes::require;

@@ -1,8 +1,8 @@
 //! Counts and sizes against their limits.
 
 ghost use Rattle.std.specs.Prelude.{◌≡◌, ◌+◌, ◌≤◌, ◌<◌, IfErr, IfOk};
-ghost use Rattle.wasm_types.specs.error.Denials.{Tells};
-ghost use Rattle.wasm_types.specs.error.declared.error.ErrorKind.TheVariants.{Other};
+ghost use Rattle.wasm_types.specs.decoding.Denials.{Tells};
+ghost use Rattle.wasm_types.specs.decoding.declared.error.ErrorKind.TheVariants.{Other};
 
 use wasm_types::{Error, Result};
 

@@ -15,7 +15,7 @@ pub struct Settings {
 
 impl Model for Settings {
     ghost use Rattle.std.proofs.Common.{refl};
-    ghost use Rattle.wasm_types.specs.limits.Settings.{Settings as Judged};
+    ghost use Rattle.wasm_types.specs.settings.Settings.{Settings as Judged};
 
     ghost Value = { Judged };
 

@@ -1,11 +1,11 @@
 //! The start function and the data count.
 
 ghost use Rattle.std.specs.Prelude.{◌≡◌, ◌≤◌, IfErr, IfOk, slice_get, Some};
-ghost use Rattle.wasm_types.specs.error.Denials.{Tells};
-ghost use Rattle.wasm_types.specs.error.declared.error.ErrorKind.TheVariants.{Other};
-ghost use Rattle.wasm_types.specs.features.Features.{BulkMemory};
+ghost use Rattle.wasm_types.specs.decoding.Denials.{Tells};
+ghost use Rattle.wasm_types.specs.decoding.declared.error.ErrorKind.TheVariants.{Other};
+ghost use Rattle.wasm_types.specs.settings.Features.{BulkMemory};
 ghost use Rattle.wasm_types.specs.trees.Gates.{Has};
-ghost use Rattle.wasm_module_validator_checks.specs.limits.rules.Valid.{IsValidStart};
+ghost use Rattle.wasm_module_validator_rules.specs.Valid.{IsValidStart};
 ghost use Rattle.wasm_module_validator_checks.specs.sections.Functions.{IsFunctionOf, HasFunction};
 
 use crate::externs::{Settings, WasmModuleResources, func_type_at};

@@ -1,8 +1,8 @@
 //! Exports, by their names.
 
 ghost use Rattle.std.specs.Prelude.{◌≡◌, ◌++◌, ◌∷◌, ◌<◌, [], map, vec_len, vec_capacity, IfErr, OnOk, OnErr};
-ghost use Rattle.wasm_types.specs.error.Denials.{Tells, UnlessMemory};
-ghost use Rattle.wasm_types.specs.error.declared.error.ErrorKind.TheVariants.{Other};
+ghost use Rattle.wasm_types.specs.decoding.Denials.{Tells, UnlessMemory};
+ghost use Rattle.wasm_types.specs.decoding.declared.error.ErrorKind.TheVariants.{Other};
 ghost use Rattle.wasm_module_validator_exports.specs.names.Exports.{HasTried, IsNew, export_of, names_of};
 
 use crate::names::slots::{Tried, after, rebuilt, settle};

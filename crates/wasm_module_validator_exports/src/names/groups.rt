@@ -1,7 +1,7 @@
 //! Imports grouped by their names.
 
 ghost use Rattle.std.specs.Prelude.{◌≡◌, ◌++◌, ◌∷◌, ◌<◌, [], map, length, vec_len, vec_capacity, List, ℕ, IfErr, OnOk, OnErr, Some, None};
-ghost use Rattle.wasm_types.specs.error.declared.error.ErrorKind.TheVariants.{OutOfMemory};
+ghost use Rattle.wasm_types.specs.decoding.declared.error.ErrorKind.TheVariants.{OutOfMemory};
 ghost use Rattle.wasm_module_validator_exports.specs.names.Imports.{Finds, find_names, index_of, named_of, with_import};
 
 use crate::names::Place;

@@ -1,7 +1,7 @@
 //! Imports, by their names.
 
 ghost use Rattle.std.specs.Prelude.{◌≡◌, ◌<◌, [], map, length, IfErr, IfOk, IfSome, OnOk, OnErr};
-ghost use Rattle.wasm_types.specs.error.declared.error.ErrorKind.TheVariants.{OutOfMemory};
+ghost use Rattle.wasm_types.specs.decoding.declared.error.ErrorKind.TheVariants.{OutOfMemory};
 ghost use Rattle.wasm_module_validator_exports.specs.names.Imports.{HasAdded, HasKept, grouped, module_at, named_of, with_import};
 
 use crate::names::groups::{Groups, NamedImports};

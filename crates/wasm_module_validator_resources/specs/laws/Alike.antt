@@ -2,19 +2,19 @@
 use Rattle.std.proofs.Common.{◌≡◌, ◌∙◌, ◌↔◌, ℕ, ◌+◌, ◌-◌, ◌<◌, ◌≤◌, false, List, [], ◌∷◌, length, map, get_or, refl, ap, sym, subst, Option, Some, arith}
 use Rattle.std.specs.Prelude.{slice_get, unwrap_or}
 use Rattle.std.proofs.lemmas.List.{length-map, get_or-map, same_lists}
-use Rattle.wasm_types.specs.features.Features.{needs_canonical_types}
-use Rattle.wasm_types.specs.indices.declared.index.UnpackedIndex.{UnpackedIndex}
+use Rattle.wasm_types.specs.settings.Features.{needs_canonical_types}
+use Rattle.wasm_types.specs.trees.declared.index.UnpackedIndex.{UnpackedIndex}
 use Rattle.wasm_types.specs.trees.Types.{EntryOf, entry_map}
 use Rattle.wasm_types.specs.trees.Trees.{RefTree, TypeTree, group_tree, entries_of}
 use Rattle.wasm_types.specs.trees.Unfold.{reference_tree}
 use Rattle.wasm_types.specs.trees.laws.Trees.{entries_back}
 use Rattle.wasm_types.specs.trees.laws.Types.{entries_twice}
-use Rattle.wasm_types.specs.groups.Entries.{Declared}
-use Rattle.wasm_types.specs.groups.Remap.{declared_map}
-use Rattle.wasm_module_validator_type_trees.specs.Groups.{Group, count, tree_of, tree_behind, by_id, declared_by_id, reference_of, group_numbers, group_ranges}
-use Rattle.wasm_module_validator_type_trees.specs.Formed.{IsFormed}
-use Rattle.wasm_module_validator_type_trees.specs.BelowIds.{undeclared}
-use Rattle.wasm_module_validator_types.specs.Lookups.{HasIds}
+use Rattle.wasm_types.specs.Entries.{Declared}
+use Rattle.wasm_types.specs.Remap.{declared_map}
+use Rattle.wasm_module_validator_type_storage.specs.trees.Groups.{Group, count, tree_of, tree_behind, by_id, declared_by_id, reference_of, group_numbers, group_ranges}
+use Rattle.wasm_module_validator_type_storage.specs.trees.Formed.{IsFormed}
+use Rattle.wasm_module_validator_type_storage.specs.trees.BelowIds.{undeclared}
+use Rattle.wasm_module_validator_type_list.specs.Lookups.{HasIds}
 use Rattle.wasm_module_validator_resources.specs.Named.{AreStoredAlike, HasSpan, IsSettled}
 use Rattle.wasm_module_validator_resources.specs.laws.Homes.{IsHome, Home, home_of}
 use Rattle.wasm_module_validator_resources.specs.laws.Stored.{shapes, plain_alike, plain_same, AreAlone, declared_same, place_plain, home_plain, home_alone}

@@ -3,7 +3,7 @@ use Rattle.std.proofs.Common.{◌≡◌, ℕ, Bool, true, false, ◌&&◌, IsTru
 use Rattle.std.specs.Option.{option_map}
 use Rattle.wasm_types.specs.trees.Types.{abstract, concrete, exact, ValueOf, number, ref, InnerOf, function, array_of, struct_of, continuation, EntryOf, value_map, inner_map, entry_map}
 use Rattle.wasm_types.specs.trees.Each.{EachOption, EachValue, EachValues, EachInner, EachEntry}
-use Rattle.wasm_module_validator_groups.proofs.Plain.{IsPlainPart, ArePlainParts, IsPlainInner, IsPlain}
+use Rattle.wasm_module_validator_type_groups.proofs.Plain.{IsPlainPart, ArePlainParts, IsPlainInner, IsPlain}
 use Rattle.wasm_module_validator_resources.specs.Bare.{option_is_bare, value_is_bare, values_are_bare, inner_is_bare, is_bare}
 
 pub no_truth : IsTrue false → ⊥

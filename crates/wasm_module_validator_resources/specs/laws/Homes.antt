@@ -4,12 +4,12 @@ use Rattle.std.specs.Prelude.{slice_get}
 use Rattle.std.proofs.lemmas.Bool.{cases_lt}
 use Rattle.std.proofs.lemmas.List.{length-append, get_or-map, get_or_append_left, get_or-append_right}
 use Rattle.wasm_types.specs.trees.Unfold.{type_count}
-use Rattle.wasm_types.specs.groups.Entries.{Declared}
-use Rattle.wasm_types.specs.groups.Remap.{declared_map}
-use Rattle.wasm_module_validator_type_trees.specs.Groups.{Group, count, tree_of, tree_behind, by_id, declared_by_id, group_numbers, group_ranges}
-use Rattle.wasm_module_validator_type_trees.specs.Formed.{IsGroupFormed, IsFormed}
-use Rattle.wasm_module_validator_type_trees.specs.laws.Unrolled.{count_push, tree_old, tree_new}
-use Rattle.wasm_module_validator_type_trees.specs.laws.Ids.{stored_push, length_stored}
+use Rattle.wasm_types.specs.Entries.{Declared}
+use Rattle.wasm_types.specs.Remap.{declared_map}
+use Rattle.wasm_module_validator_type_storage.specs.trees.Groups.{Group, count, tree_of, tree_behind, by_id, declared_by_id, group_numbers, group_ranges}
+use Rattle.wasm_module_validator_type_storage.specs.trees.Formed.{IsGroupFormed, IsFormed}
+use Rattle.wasm_module_validator_type_storage.specs.trees.laws.Unrolled.{count_push, tree_old, tree_new}
+use Rattle.wasm_module_validator_type_storage.specs.trees.laws.Ids.{stored_push, length_stored}
 use Rattle.wasm_module_validator_resources.specs.laws.Trees.{none_counted}
 
 -- the group number k holds the type of the id: its ids begin at `first`, behind the groups `earlier`

@@ -1,8 +1,8 @@
 -- The places of the functions that are so.
 use Rattle.std.proofs.Common.{◌≡◌, ◌↔◌, ◌⊎◌, inl, inr, ⊎_elim, ℕ, zero, suc, ◌+◌, ◌<◌, Bool, true, false, IsTrue, List, [], ◌∷◌, refl, subst, Option, Some, None, arith}
 use Rattle.std.specs.Prelude.{slice_get, if◌then◌else◌}
-use Rattle.wasm_operator_validator_resources.specs.rules.Row.{IsOneOf}
-use Rattle.wasm_module_validator_module.specs.declared.module.Function.{Function}
+use Rattle.wasm_operator_validator_rules.specs.Row.{IsOneOf}
+use Rattle.wasm_module_validator_index_spaces.specs.declared.module.Function.{Function}
 use Rattle.wasm_module_validator_resources.specs.Reading.{places}
 use Rattle.wasm_module_validator_resources.specs.laws.Bare.{no_truth}
 

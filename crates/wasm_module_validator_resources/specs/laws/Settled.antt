@@ -3,17 +3,17 @@ use Rattle.std.proofs.Common.{◌≡◌, ◌∙◌, ◌⊎◌, inl, inr, ⊎_eli
 use Rattle.std.specs.Prelude.{All}
 use Rattle.std.specs.Option.{option_map}
 use Rattle.std.proofs.lemmas.List.Elements.{All-map, All-weaker}
-use Rattle.wasm_types.specs.features.Features.{needs_canonical_types}
-use Rattle.wasm_types.specs.indices.declared.index.CoreTypeId.{CoreTypeId}
+use Rattle.wasm_types.specs.settings.Features.{needs_canonical_types}
+use Rattle.wasm_types.specs.trees.declared.index.CoreTypeId.{CoreTypeId}
 use Rattle.wasm_types.specs.trees.Types.{InnerOf, function, array_of, struct_of, continuation}
 use Rattle.wasm_types.specs.trees.Trees.{TypeTree, opened}
 use Rattle.wasm_types.specs.trees.Below.{expanded, supertype, abstract_above, DeclaredBelow, itself, declared}
 use Rattle.wasm_types.specs.trees.Chains.{IsSound}
-use Rattle.wasm_module_validator_type_trees.specs.Groups.{Group, count, tree_of}
-use Rattle.wasm_module_validator_type_trees.specs.Formed.{IsFormed, AreCanonical}
-use Rattle.wasm_module_validator_type_trees.specs.ByIds.{supertype_of}
-use Rattle.wasm_module_validator_type_trees.specs.laws.Ids.{supertype_tree, supertype_below}
-use Rattle.wasm_module_validator_groups.specs.adding.Interned.{space_of, AreIdsKnown}
+use Rattle.wasm_module_validator_type_storage.specs.trees.Groups.{Group, count, tree_of}
+use Rattle.wasm_module_validator_type_storage.specs.trees.Formed.{IsFormed, AreCanonical}
+use Rattle.wasm_module_validator_type_storage.specs.trees.ByIds.{supertype_of}
+use Rattle.wasm_module_validator_type_storage.specs.trees.laws.Ids.{supertype_tree, supertype_below}
+use Rattle.wasm_module_validator_type_groups.specs.adding.Interned.{space_of, AreIdsKnown}
 use Rattle.wasm_module_validator_resources.specs.Bare.{is_bare}
 use Rattle.wasm_module_validator_resources.specs.Reading.{types_by_id}
 use Rattle.wasm_module_validator_resources.specs.Named.{nowhere, tree_meant, IsInList, kind_number, are_canonical, IsSettled}

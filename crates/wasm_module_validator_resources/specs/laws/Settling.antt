@@ -1,9 +1,9 @@
 -- A list whose types are valid is settled.
 use Rattle.std.proofs.Common.{◌≡◌, ◌∙◌, ◌⊎◌, inl, inr, ⊎_elim, ℕ, ◌<◌, Bool, true, false, ◌&&◌, IsTrue, List, [], ◌∷◌, refl, ap, sym, subst, Some}
 use Rattle.std.proofs.lemmas.List.Elements.{All-weaker}
-use Rattle.wasm_types.specs.limits.Settings.{Settings}
-use Rattle.wasm_types.specs.features.Features.{needs_canonical_types}
-use Rattle.wasm_types.specs.indices.declared.index.CoreTypeId.{CoreTypeId}
+use Rattle.wasm_types.specs.settings.Settings.{Settings}
+use Rattle.wasm_types.specs.settings.Features.{needs_canonical_types}
+use Rattle.wasm_types.specs.trees.declared.index.CoreTypeId.{CoreTypeId}
 use Rattle.wasm_types.specs.trees.Types.{Abstract, func, array, struct, cont, InnerOf, function, array_of, struct_of, continuation}
 use Rattle.wasm_types.specs.trees.Trees.{TypeTree, opened}
 use Rattle.wasm_types.specs.trees.Below.{expanded, supertype, abstract_above, DeclaredBelow}
@@ -11,11 +11,11 @@ use Rattle.wasm_types.specs.trees.Matches.{Matches}
 use Rattle.wasm_types.specs.trees.Chains.{LinksMatch}
 use Rattle.wasm_types.specs.trees.ValidGroup.{IsFunction, IsValidSupertype}
 use Rattle.wasm_types.specs.trees.laws.Matches.{links_are_sound}
-use Rattle.wasm_module_validator_type_trees.specs.Groups.{Group, count, tree_of}
-use Rattle.wasm_module_validator_type_trees.specs.Formed.{IsFormed, AreCanonical}
-use Rattle.wasm_module_validator_groups.specs.adding.Interned.{IsChecked}
-use Rattle.wasm_module_validator_groups.proofs.Plain.{tree_plain}
-use Rattle.wasm_module_validator_module.specs.Spaces.{Spaces}
+use Rattle.wasm_module_validator_type_storage.specs.trees.Groups.{Group, count, tree_of}
+use Rattle.wasm_module_validator_type_storage.specs.trees.Formed.{IsFormed, AreCanonical}
+use Rattle.wasm_module_validator_type_groups.specs.adding.Interned.{IsChecked}
+use Rattle.wasm_module_validator_type_groups.proofs.Plain.{tree_plain}
+use Rattle.wasm_module_validator_index_spaces.specs.Spaces.{Spaces}
 use Rattle.wasm_module_validator_resources.specs.Bare.{is_bare}
 use Rattle.wasm_module_validator_resources.specs.Named.{kind_number, are_canonical, IsSettled, IsFunctionId, IsFunctionKind, IsReadOver, IsSettledIn}
 use Rattle.wasm_module_validator_resources.specs.laws.Bare.{plain_bare}

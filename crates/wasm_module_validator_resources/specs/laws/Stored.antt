@@ -1,27 +1,27 @@
 -- What a list stores of a type is the type opened; and types without references unroll alike where they are stored alike.
 use Rattle.std.proofs.Common.{◌≡◌, ◌∙◌, ℕ, suc, ◌+◌, ◌-◌, ◌<◌, Bool, false, IsTrue, List, [], ◌∷◌, length, map, get_or, refl, ap, sym, subst, None, arith}
 use Rattle.std.proofs.lemmas.List.{length-map, get_or-map}
-use Rattle.wasm_types.specs.features.Features.{needs_canonical_types}
-use Rattle.wasm_types.specs.indices.declared.index.CoreTypeId.{CoreTypeId}
-use Rattle.wasm_types.specs.indices.declared.index.UnpackedIndex.{UnpackedIndex}
-use Rattle.wasm_types.specs.indices.declared.index.UnpackedIndex.TheVariants.{Module, RecGroup, Id}
+use Rattle.wasm_types.specs.settings.Features.{needs_canonical_types}
+use Rattle.wasm_types.specs.trees.declared.index.CoreTypeId.{CoreTypeId}
+use Rattle.wasm_types.specs.trees.declared.index.UnpackedIndex.{UnpackedIndex}
+use Rattle.wasm_types.specs.trees.declared.index.UnpackedIndex.TheVariants.{Module, RecGroup, Id}
 use Rattle.wasm_types.specs.trees.Types.{EntryOf, entry_map}
 use Rattle.wasm_types.specs.trees.Each.{EachEntries}
 use Rattle.wasm_types.specs.trees.Trees.{TypeTree, type_meant, past_the_end, opened}
 use Rattle.wasm_types.specs.trees.Unfold.{Entry, reference_tree}
 use Rattle.wasm_types.specs.trees.laws.Types.{each_entry, entry_twice, entry_agrees, entries_same}
 use Rattle.wasm_types.specs.trees.laws.Unfold.{open_place}
-use Rattle.wasm_types.specs.groups.Entries.{Declared, first_of}
-use Rattle.wasm_types.specs.groups.Remap.{declared_map}
+use Rattle.wasm_types.specs.Entries.{Declared, first_of}
+use Rattle.wasm_types.specs.Remap.{declared_map}
 use Rattle.wasm_operator_validator_resources.specs.Meaning.{named_type}
-use Rattle.wasm_module_validator_type_trees.specs.Groups.{Group, count, tree_of, tree_behind, by_id, declared_by_id, reference_of}
-use Rattle.wasm_module_validator_type_trees.specs.Groups as groups_of
-use Rattle.wasm_module_validator_type_trees.specs.Formed.{AreTypesFormed, IsFormed}
-use Rattle.wasm_module_validator_type_trees.specs.ByIds.{tree_named}
-use Rattle.wasm_module_validator_type_trees.specs.BelowIds.{IsIdBelow, undeclared, entry_by_id}
-use Rattle.wasm_module_validator_type_trees.specs.laws.Unrolled.{length_entries}
-use Rattle.wasm_module_validator_type_trees.specs.laws.Ids.{opens}
-use Rattle.wasm_module_validator_matches.specs.laws.Known.{entry_known}
+use Rattle.wasm_module_validator_type_storage.specs.trees.Groups.{Group, count, tree_of, tree_behind, by_id, declared_by_id, reference_of}
+use Rattle.wasm_module_validator_type_storage.specs.trees.Groups as groups_of
+use Rattle.wasm_module_validator_type_storage.specs.trees.Formed.{AreTypesFormed, IsFormed}
+use Rattle.wasm_module_validator_type_storage.specs.trees.ByIds.{tree_named}
+use Rattle.wasm_module_validator_type_storage.specs.trees.BelowIds.{IsIdBelow, undeclared, entry_by_id}
+use Rattle.wasm_module_validator_type_storage.specs.trees.laws.Unrolled.{length_entries}
+use Rattle.wasm_module_validator_type_storage.specs.trees.laws.Ids.{opens}
+use Rattle.wasm_module_validator_canonical_types.specs.matches.laws.Known.{entry_known}
 use Rattle.wasm_module_validator_resources.specs.Bare.{is_bare}
 use Rattle.wasm_module_validator_resources.specs.Reading.{names_in}
 use Rattle.wasm_module_validator_resources.specs.laws.Trees.{id_known}

@@ -4,8 +4,8 @@ use Rattle.std.specs.Prelude.{slice_get}
 use Rattle.std.proofs.lemmas.Bool.{cases_lt}
 use Rattle.std.proofs.lemmas.Option.{get_or_from_slice_get, slice_get_within}
 use Rattle.std.proofs.lemmas.List.{length-map, length-append, get_or-map, get_or_append_left, get_or-append_right, get_or_past}
-use Rattle.wasm_types.specs.indices.declared.index.CoreTypeId.{CoreTypeId}
-use Rattle.wasm_types.specs.indices.declared.index.UnpackedIndex.TheVariants.{Id}
+use Rattle.wasm_types.specs.trees.declared.index.CoreTypeId.{CoreTypeId}
+use Rattle.wasm_types.specs.trees.declared.index.UnpackedIndex.TheVariants.{Id}
 use Rattle.wasm_types.specs.trees.Types.{entry_map}
 use Rattle.wasm_types.specs.trees.Trees.{TypeTree, entries_of}
 use Rattle.wasm_types.specs.trees.Unfold.{Entry, reference_tree, type_count}
@@ -13,10 +13,10 @@ use Rattle.wasm_types.specs.trees.ValidGroup.{type_at, types_from}
 use Rattle.wasm_types.specs.trees.laws.Trees.{entries_back}
 use Rattle.wasm_types.specs.trees.laws.Valid.{length_types, get_types}
 use Rattle.wasm_operator_validator_resources.specs.Meaning.{named_type}
-use Rattle.wasm_module_validator_type_trees.specs.Groups.{Group, count, tree_of, tree_behind}
-use Rattle.wasm_module_validator_type_trees.specs.Groups as groups_of
-use Rattle.wasm_module_validator_type_trees.specs.laws.Unrolled.{length_entries, count_push, tree_old, tree_new}
-use Rattle.wasm_module_validator_groups.specs.adding.Interned.{space_of}
+use Rattle.wasm_module_validator_type_storage.specs.trees.Groups.{Group, count, tree_of, tree_behind}
+use Rattle.wasm_module_validator_type_storage.specs.trees.Groups as groups_of
+use Rattle.wasm_module_validator_type_storage.specs.trees.laws.Unrolled.{length_entries, count_push, tree_old, tree_new}
+use Rattle.wasm_module_validator_type_groups.specs.adding.Interned.{space_of}
 use Rattle.wasm_module_validator_resources.specs.Reading.{types_by_id, names_in}
 use Rattle.wasm_module_validator_resources.specs.Named.{nowhere}
 

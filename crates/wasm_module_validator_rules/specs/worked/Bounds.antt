@@ -1,6 +1,6 @@
 -- The bounds of tables and memories, and the sum of the sizes of what crosses a module's border.
 use Rattle.std.specs.Prelude.{ℕ, suc, [], ◌∷◌, Some, None}
-use Rattle.wasm_types.specs.limits.Limits.{default_limits}
+use Rattle.wasm_types.specs.settings.Limits.{default_limits}
 use Rattle.wasm_types.specs.values.declared.value.ValType.TheVariants as value
 use Rattle.wasm_types.specs.externs.declared.memory.MemoryType.{MemoryType}
 use Rattle.wasm_sections_items.specs.declared.imports.kind.ExternalKind.TheVariants as kind

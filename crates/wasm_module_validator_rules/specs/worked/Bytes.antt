@@ -1,6 +1,6 @@
 -- Bytes that are accepted and bytes that are not, by their sections.
 use Rattle.std.specs.Prelude.{ℕ, List, [], ◌∷◌, ◌++◌}
-use Rattle.wasm_types.specs.features.Features.{Exceptions}
+use Rattle.wasm_types.specs.settings.Features.{Exceptions}
 use Rattle.wasm_module_validator_rules.specs.Accepts.{AcceptsUnder}
 use Rattle.wasm_module_validator_rules.specs.worked.Trees.{everything, without}
 

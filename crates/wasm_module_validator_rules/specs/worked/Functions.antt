@@ -1,15 +1,15 @@
 -- Code in functions of a module: blocks and their labels, branches out of them, and locals across them.
 use Rattle.std.specs.Prelude.{ℕ, ℤ, false, [], ◌∷◌}
-use Rattle.wasm_types.specs.features.Features.{MultiValue}
+use Rattle.wasm_types.specs.settings.Features.{MultiValue}
 use Rattle.wasm_types.specs.trees.Types.{i32, number, ref, abstract, func}
 use Rattle.wasm_types.specs.trees.ValidGroup.{Written}
 use Rattle.wasm_types.specs.values.declared.value.ValType.TheVariants as value
-use Rattle.wasm_operators_bodies.specs.reader.expression.immediates.declared.block.BlockType.{BlockType}
-use Rattle.wasm_operators_bodies.specs.reader.expression.immediates.declared.block.BlockType.TheVariants as block
-use Rattle.wasm_operators_bodies.specs.reader.expression.groups.declared.control.ControlOperator.TheVariants as control
-use Rattle.wasm_operators_bodies.specs.reader.expression.operator.Op as op
-use Rattle.wasm_operators_bodies.specs.reader.expression.operator.Op.{Op}
-use Rattle.wasm_operators_bodies.specs.reader.expression.Code.{Code, plain, nested, turn}
+use Rattle.wasm_operators_immediates.specs.declared.block.BlockType.{BlockType}
+use Rattle.wasm_operators_immediates.specs.declared.block.BlockType.TheVariants as block
+use Rattle.wasm_operators_enums.specs.declared.control.ControlOperator.TheVariants as control
+use Rattle.wasm_operators_enums.specs.Op as op
+use Rattle.wasm_operators_enums.specs.Op.{Op}
+use Rattle.wasm_operators_encoding.specs.expressions.Code.{Code, plain, nested, turn}
 use Rattle.wasm_module_validator_rules.specs.Syntax.{ModuleTree}
 use Rattle.wasm_module_validator_rules.specs.worked.Trees.{Yes, No, Needs, one_function, procedure, takes_i32, gives_i32, taking_and_giving, empty_struct, end, only}
 use Rattle.wasm_module_validator_rules.specs.worked.Trees.{constant, long, drop, local_get, local_set, some_function, does, locals_of}

@@ -1,7 +1,7 @@
 -- Imports, types, shared items, segments of expressions, and spaces of more than one item.
 use Rattle.std.specs.Prelude.{ℕ, ℤ, true, false, List, [], ◌∷◌, Some, None}
-use Rattle.wasm_types.specs.features.Features.{ReferenceTypes, BulkMemory, FunctionReferences, SharedEverythingThreads, StackSwitching}
-use Rattle.wasm_types.specs.features.Sets.{mvp}
+use Rattle.wasm_types.specs.settings.Features.{ReferenceTypes, BulkMemory, FunctionReferences, SharedEverythingThreads, StackSwitching}
+use Rattle.wasm_types.specs.settings.Sets.{mvp}
 use Rattle.wasm_types.specs.trees.Types.{i64, number, struct_of, function}
 use Rattle.wasm_types.specs.trees.ValidGroup.{Written}
 use Rattle.wasm_types.specs.trees.worked.Groups.{single, together, final_type, open_type, to}
@@ -11,7 +11,7 @@ use Rattle.wasm_types.specs.values.declared.heap.HeapType.TheVariants.{Abstract}
 use Rattle.wasm_types.specs.values.declared.value.ValType.TheVariants as value
 use Rattle.wasm_types.specs.externs.declared.table.TableType.{TableType}
 use Rattle.wasm_types.specs.externs.declared.global.GlobalType.{GlobalType}
-use Rattle.wasm_operators_bodies.specs.reader.expression.Code.{Code, plain}
+use Rattle.wasm_operators_encoding.specs.expressions.Code.{Code, plain}
 use Rattle.wasm_sections_items.specs.declared.imports.type_ref.TypeRef.TheVariants as import
 use Rattle.wasm_sections_items.specs.elements.Spells.{ElementItems, functions, expressions}
 use Rattle.wasm_module_validator_rules.specs.Syntax.{ModuleTree}

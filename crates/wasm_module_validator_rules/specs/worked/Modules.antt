@@ -1,13 +1,13 @@
 -- Modules that are valid and modules that are not: for each rule one at least of each kind.
 use Rattle.std.specs.Prelude.{◌≡◌, map, false, ℕ, ℤ, List, [], ◌∷◌, Some, None, true}
-use Rattle.wasm_types.specs.features.Features.{ReferenceTypes, Floats, SharedEverythingThreads, Memory64, CustomPageSizes, StackSwitching}
-use Rattle.wasm_types.specs.features.Features.{MutableGlobal, BulkMemory, MultiMemory, Exceptions, ExtendedConst, Gc, CustomDescriptors, FunctionReferences, Threads}
-use Rattle.wasm_types.specs.limits.declared.Limits.{Limits}
-use Rattle.wasm_types.specs.limits.Limits.{default_limits}
-use Rattle.wasm_types.specs.limits.Settings.{Settings}
+use Rattle.wasm_types.specs.settings.Features.{ReferenceTypes, Floats, SharedEverythingThreads, Memory64, CustomPageSizes, StackSwitching}
+use Rattle.wasm_types.specs.settings.Features.{MutableGlobal, BulkMemory, MultiMemory, Exceptions, ExtendedConst, Gc, CustomDescriptors, FunctionReferences, Threads}
+use Rattle.wasm_types.specs.settings.declared.Limits.{Limits}
+use Rattle.wasm_types.specs.settings.Limits.{default_limits}
+use Rattle.wasm_types.specs.settings.Settings.{Settings}
 use Rattle.wasm_types.specs.trees.worked.Groups.{together}
 use Rattle.wasm_types.specs.values.declared.value.ValType.TheVariants as value
-use Rattle.wasm_operators_bodies.specs.reader.expression.Code.{Code, plain}
+use Rattle.wasm_operators_encoding.specs.expressions.Code.{Code, plain}
 use Rattle.wasm_sections_items.specs.declared.imports.kind.ExternalKind.TheVariants as kind
 use Rattle.wasm_sections_items.specs.declared.imports.type_ref.TypeRef.TheVariants as import
 use Rattle.wasm_sections_items.specs.imports.Spells.{ExportTree}

@@ -1,14 +1,14 @@
 -- What the features of the first release allow by themselves, and what they do not.
 use Rattle.std.specs.Prelude.{ℤ, [], ◌∷◌, Some, None, true}
-use Rattle.wasm_types.specs.features.Features.{Floats, GcTypes}
-use Rattle.wasm_types.specs.features.Sets.{mvp, wasm1}
+use Rattle.wasm_types.specs.settings.Features.{Floats, GcTypes}
+use Rattle.wasm_types.specs.settings.Sets.{mvp, wasm1}
 use Rattle.wasm_types.specs.trees.Types.{f32, number}
 use Rattle.wasm_types.specs.trees.ValidGroup.{Written}
 use Rattle.wasm_types.specs.values.declared.value.ValType.TheVariants as value
-use Rattle.wasm_operators_bodies.specs.reader.expression.groups.declared.numeric.NumericOperator.TheVariants as numeric
-use Rattle.wasm_operators_bodies.specs.reader.expression.operator.Op as op
-use Rattle.wasm_operators_bodies.specs.reader.expression.operator.Op.{Op}
-use Rattle.wasm_operators_bodies.specs.reader.expression.Code.{Code, plain}
+use Rattle.wasm_operators_enums.specs.declared.numeric.NumericOperator.TheVariants as numeric
+use Rattle.wasm_operators_enums.specs.Op as op
+use Rattle.wasm_operators_enums.specs.Op.{Op}
+use Rattle.wasm_operators_encoding.specs.expressions.Code.{Code, plain}
 use Rattle.wasm_sections_items.specs.declared.imports.kind.ExternalKind.TheVariants as kind
 use Rattle.wasm_sections_items.specs.declared.imports.type_ref.TypeRef.TheVariants as import
 use Rattle.wasm_sections_items.specs.elements.Spells.{expressions}

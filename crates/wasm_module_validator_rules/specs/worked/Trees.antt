@@ -1,9 +1,9 @@
 -- The parts of which the worked modules are made.
 use Rattle.std.specs.Prelude.{ℕ, ℤ, true, false, List, [], ◌∷◌, map, Option, Some, None}
-use Rattle.wasm_types.specs.limits.Settings.{Settings}
-use Rattle.wasm_types.specs.features.Features.{Feature}
-use Rattle.wasm_types.specs.features.Sets.{bits_of}
-use Rattle.wasm_types.specs.indices.declared.index.UnpackedIndex.TheVariants as index
+use Rattle.wasm_types.specs.settings.Settings.{Settings}
+use Rattle.wasm_types.specs.settings.Features.{Feature}
+use Rattle.wasm_types.specs.settings.Sets.{bits_of}
+use Rattle.wasm_types.specs.trees.declared.index.UnpackedIndex.TheVariants as index
 use Rattle.wasm_types.specs.trees.Types.{ValueOf, i32, number, function, struct_of}
 use Rattle.wasm_types.specs.trees.ValidGroup.{Written}
 use Rattle.wasm_types.specs.trees.worked.Gates.{all_but}
@@ -18,14 +18,14 @@ use Rattle.wasm_types.specs.externs.declared.memory.MemoryType.{MemoryType}
 use Rattle.wasm_types.specs.externs.declared.global.GlobalType.{GlobalType}
 use Rattle.wasm_types.specs.externs.declared.tag.TagType.{TagType}
 use Rattle.wasm_types.specs.externs.declared.tag.TagKind.TheVariants as tag_kind
-use Rattle.wasm_operators_bodies.specs.reader.expression.groups.declared.control.ControlOperator.TheVariants as control
-use Rattle.wasm_operators_bodies.specs.reader.expression.groups.declared.memory.MemoryOperator.TheVariants as memory
-use Rattle.wasm_operators_bodies.specs.reader.expression.groups.declared.constant.ConstOperator.TheVariants as const
-use Rattle.wasm_operators_bodies.specs.reader.expression.groups.declared.bulk.BulkOperator.TheVariants as bulk
-use Rattle.wasm_operators_bodies.specs.reader.expression.groups.declared.numeric.NumericOperator.TheVariants as numeric
-use Rattle.wasm_operators_bodies.specs.reader.expression.operator.Op as op
-use Rattle.wasm_operators_bodies.specs.reader.expression.operator.Op.{Op}
-use Rattle.wasm_operators_bodies.specs.reader.expression.Code.{Code, close, plain}
+use Rattle.wasm_operators_enums.specs.declared.control.ControlOperator.TheVariants as control
+use Rattle.wasm_operators_enums.specs.declared.memory.MemoryOperator.TheVariants as memory
+use Rattle.wasm_operators_enums.specs.declared.constant.ConstOperator.TheVariants as const
+use Rattle.wasm_operators_enums.specs.declared.bulk.BulkOperator.TheVariants as bulk
+use Rattle.wasm_operators_enums.specs.declared.numeric.NumericOperator.TheVariants as numeric
+use Rattle.wasm_operators_enums.specs.Op as op
+use Rattle.wasm_operators_enums.specs.Op.{Op}
+use Rattle.wasm_operators_encoding.specs.expressions.Code.{Code, close, plain}
 use Rattle.wasm_operators_bodies.specs.Locals.{LocalGroup}
 use Rattle.wasm_sections_items.specs.declared.imports.kind.ExternalKind.{ExternalKind}
 use Rattle.wasm_sections_items.specs.declared.imports.type_ref.TypeRef.{TypeRef}

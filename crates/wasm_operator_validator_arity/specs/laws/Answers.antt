@@ -1,7 +1,7 @@
 -- The answers beside the rules.
 use Rattle.std.proofs.Common.{◌≡◌, ◌∙◌, ℕ, List, ◌∷◌, Option, Some, ap}
-use Rattle.wasm_operator_validator_rules.specs.expression.operator.Op as op
-use Rattle.wasm_operator_validator_rules.specs.expression.operator.Op.{Op, ContinuationTree}
+use Rattle.wasm_operators_enums.specs.Op as op
+use Rattle.wasm_operators_enums.specs.Op.{Op, ContinuationTree}
 use Rattle.wasm_operator_validator_rules.specs.Context.{Context, Initialised}
 use Rattle.wasm_operator_validator_rules.specs.arity.Arity.{Known, Counts, in_u32, counts_of}
 use Rattle.wasm_operator_validator_rules.specs.arity.Exchanges.{Standing, IsAround, Exchanges, CountsAreExact, by_row, opened, turned, closed}

@@ -1,20 +1,20 @@
 -- Where a constant begins, what is accepted with each operator constant is a constant expression.
 use Rattle.std.proofs.Common.{◌≡◌, ◌↔◌, ℕ, List, [], ◌∷◌, Result, Ok, Err, false, refl, sym, subst}
 use Rattle.wasm_types.specs.decoding.Decoder.{State as Bytes}
-use Rattle.wasm_types.specs.error.Denials.{Tells, UnlessMemory}
-use Rattle.wasm_types.specs.error.DenialLaws.{denies_from}
-use Rattle.wasm_types.specs.error.ErrorValue.{ErrorValue}
-use Rattle.wasm_types.specs.error.declared.error.ErrorKind.{ErrorKind}
-use Rattle.wasm_types.specs.error.declared.error.ErrorKind.TheVariants as kinds
+use Rattle.wasm_types.specs.decoding.Denials.{Tells, UnlessMemory}
+use Rattle.wasm_types.specs.decoding.DenialLaws.{denies_from}
+use Rattle.wasm_types.specs.decoding.ErrorValue.{ErrorValue}
+use Rattle.wasm_types.specs.decoding.declared.error.ErrorKind.{ErrorKind}
+use Rattle.wasm_types.specs.decoding.declared.error.ErrorKind.TheVariants as kinds
 use Rattle.wasm_types.specs.values.declared.value.ValType.{ValType}
-use Rattle.wasm_operators_walking.specs.reader.immediates.declared.block.BlockType.TheVariants as block
-use Rattle.wasm_operators_walking.specs.reader.operator.Op.{Op}
-use Rattle.wasm_operators_walking.specs.reader.expression.Code.{Code, walk}
-use Rattle.wasm_operators_walking.specs.reader.expression.Spelling.{SpelledOperators, SpelledExpression}
+use Rattle.wasm_operators_immediates.specs.declared.block.BlockType.TheVariants as block
+use Rattle.wasm_operators_enums.specs.Op.{Op}
+use Rattle.wasm_operators_encoding.specs.expressions.Code.{Code, walk}
+use Rattle.wasm_operators_encoding.specs.expressions.Spelling.{SpelledOperators, SpelledExpression}
 use Rattle.wasm_operator_validator_rules.specs.constants.Constants.{IsConstantOperator, AreConstantOperators, IsConstant}
 use Rattle.wasm_operator_validator_rules.specs.Context.{Module}
-use Rattle.wasm_operator_validator_expression.specs.state.laws.Bodies.{bodies_are_accepted}
-use Rattle.wasm_operator_validator_expression.specs.state.State.{Given}
+use Rattle.wasm_operator_validator_state.specs.laws.Bodies.{bodies_are_accepted}
+use Rattle.wasm_operator_validator_state.specs.State.{Given}
 use Rattle.wasm_operator_validator_stacks.specs.Layout.{none_saved}
 use Rattle.wasm_operator_validator_constants.specs.Beginning.{constant_begins}
 use Rattle.wasm_operator_validator_constants.specs.Tested.{EachPasses, AcceptsTested, ValidatesTested}

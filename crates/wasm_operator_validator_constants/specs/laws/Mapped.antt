@@ -1,8 +1,8 @@
 -- A walk of a visitor, by what its visits do to a state that it holds.
 use Rattle.std.proofs.Common.{◌≡◌, ℕ, List, [], ◌∷◌, refl, sym, subst}
-use Rattle.wasm_operators_walking.specs.reader.operator.Op.{Op}
-use Rattle.wasm_operators_walking.specs.reader.Standing.{Standing}
-use Rattle.wasm_operators_walking.specs.Walking.{VisitsAll, WalksTo, WalksUntilAt}
+use Rattle.wasm_operators_enums.specs.Op.{Op}
+use Rattle.wasm_operators_reader.specs.Standing.{Standing}
+use Rattle.wasm_operators_reader.specs.Walking.{VisitsAll, WalksTo, WalksUntilAt}
 
 -- A visitor's relation says of the state what another relation does, and keeps this of the visitor.
 module _ {V S A B : Type 0} (visits : V → Op → A → V → Type 0) (does : S → Op → B → S → Type 0) (state : V → S) (told : A → B) (keeps : V → Type 0)

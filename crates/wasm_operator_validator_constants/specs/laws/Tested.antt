@@ -1,24 +1,24 @@
 -- Each way in which the validation of an expression ends whose operators are tested.
 use Rattle.std.proofs.Common.{◌≡◌, ◌↔◌, ◌+◌, ℕ, length, List, [], ◌∷◌, ◌++◌, Some, None, Ok, Err, false, inl, inr, sym, subst, append-nil}
 use Rattle.wasm_types.specs.decoding.Decoder.{State as Bytes}
-use Rattle.wasm_types.specs.error.Denials.{Denies}
-use Rattle.wasm_types.specs.error.DenialLaws.{denies, denies_from}
-use Rattle.wasm_types.specs.error.ErrorValue.{ErrorValue}
-use Rattle.wasm_types.specs.error.declared.error.ErrorKind.{ErrorKind}
-use Rattle.wasm_types.specs.error.declared.error.ErrorKind.TheVariants as kinds
+use Rattle.wasm_types.specs.decoding.Denials.{Denies}
+use Rattle.wasm_types.specs.decoding.DenialLaws.{denies, denies_from}
+use Rattle.wasm_types.specs.decoding.ErrorValue.{ErrorValue}
+use Rattle.wasm_types.specs.decoding.declared.error.ErrorKind.{ErrorKind}
+use Rattle.wasm_types.specs.decoding.declared.error.ErrorKind.TheVariants as kinds
 use Rattle.wasm_types.specs.reader.Reading.{IsNotMemory}
-use Rattle.wasm_operators_walking.specs.reader.operator.Op.{Op}
-use Rattle.wasm_operators_walking.specs.reader.expression.Code.{Code, walk}
-use Rattle.wasm_operators_walking.specs.reader.expression.Spelling.{SpelledExpression}
-use Rattle.wasm_operators_walking.specs.reader.expression.SpellingLaws.{one_expression}
-use Rattle.wasm_operators_walking.specs.reader.Standing.{Standing, at_start}
-use Rattle.wasm_operators_walking.specs.reader.RunLaws.{expression_run}
-use Rattle.wasm_operators_walking.specs.reader.MeetLaws.{meets_end}
-use Rattle.wasm_operators_walking.specs.Walking.{HasNoVectors, VisitsAll, WalksTo, WalksUntilAt, StopsPlain}
-use Rattle.wasm_operator_validator_expression.specs.resources.Meaning.{Meaning}
-use Rattle.wasm_operator_validator_expression.specs.state.Refusals.{OfContent}
-use Rattle.wasm_operator_validator_expression.specs.state.State.{State, Accepts, Visits}
-use Rattle.wasm_operator_validator_expression.specs.state.laws.Accepting.{accepts_nothing}
+use Rattle.wasm_operators_enums.specs.Op.{Op}
+use Rattle.wasm_operators_encoding.specs.expressions.Code.{Code, walk}
+use Rattle.wasm_operators_encoding.specs.expressions.Spelling.{SpelledExpression}
+use Rattle.wasm_operators_encoding.specs.expressions.SpellingLaws.{one_expression}
+use Rattle.wasm_operators_reader.specs.Standing.{Standing, at_start}
+use Rattle.wasm_operators_reader.specs.RunLaws.{expression_run}
+use Rattle.wasm_operators_reader.specs.MeetLaws.{meets_end}
+use Rattle.wasm_operators_reader.specs.Walking.{HasNoVectors, VisitsAll, WalksTo, WalksUntilAt, StopsPlain}
+use Rattle.wasm_operator_validator_state.specs.resources.Meaning.{Meaning}
+use Rattle.wasm_operator_validator_state.specs.Refusals.{OfContent}
+use Rattle.wasm_operator_validator_state.specs.State.{State, Accepts, Visits}
+use Rattle.wasm_operator_validator_state.specs.laws.Accepting.{accepts_nothing}
 use Rattle.wasm_operator_validator_expression.specs.laws.Vectors.{accepted_no_vectors}
 use Rattle.wasm_operator_validator_expression.specs.laws.Walked.{all_stay, accepted_on}
 use Rattle.wasm_operator_validator_constants.specs.Tested.{IsRefused, VisitsTested, EachPasses, AcceptsTested, ValidatesTested}

@@ -1,12 +1,12 @@
 -- What a label names, as the code looks it up.
 use Rattle.std.proofs.Common.{◌≡◌, ◌∙◌, ℕ, zero, suc, List, [], ◌∷◌, Option, Some, None, refl, sym, ap, slice_get, option_map, map, length, ◌-◌, arith}
-use Rattle.wasm_operator_validator_determined.specs.expression.immediates.declared.block.BlockType.{BlockType}
-use Rattle.wasm_operator_validator_determined.specs.expression.immediates.declared.frames.FrameKind.{FrameKind}
-use Rattle.wasm_operator_validator_determined.specs.rules.Operands.{ValueType}
-use Rattle.wasm_operator_validator_determined.specs.rules.Context.{label_of}
-use Rattle.wasm_operator_validator_determined.specs.resources.Meaning.{Meaning}
-use Rattle.wasm_operator_validator_determined.specs.state.State.{Open, signature_of, label, outermost_results}
-use Rattle.wasm_operator_validator_determined.specs.state.Steps.{IsOpen, SameFrames}
+use Rattle.wasm_operators_immediates.specs.declared.block.BlockType.{BlockType}
+use Rattle.wasm_operators_immediates.specs.declared.frames.FrameKind.{FrameKind}
+use Rattle.wasm_operator_validator_rules.specs.Operands.{ValueType}
+use Rattle.wasm_operator_validator_rules.specs.Context.{label_of}
+use Rattle.wasm_operator_validator_state.specs.resources.Meaning.{Meaning}
+use Rattle.wasm_operator_validator_state.specs.State.{Open, signature_of, label, outermost_results}
+use Rattle.wasm_operator_validator_state.specs.Steps.{IsOpen, SameFrames}
 
 -- the type and the kind of the frame that a label names
 abbrev pub frame_at : List Open → ℕ → Option (BlockType × FrameKind)

@@ -1,7 +1,7 @@
 -- Operands against others, in order and as stacks.
 use Rattle.std.proofs.Common.{◌≡◌, ◌↔◌, List, [], ◌∷◌, ◌++◌, reverse}
 use Rattle.std.proofs.lemmas.List.{reverse-append, reverse-reverse}
-use Rattle.wasm_operator_validator_determined.specs.rules.Operands.{ValueType, Operand, AllBelow, all_known, stack}
+use Rattle.wasm_operator_validator_rules.specs.Operands.{ValueType, Operand, AllBelow, all_known, stack}
 
 reverse_cons : (t : Operand) (s : List Operand) → reverse (t ∷ s) ≡ reverse s ++ t ∷ []
 reverse_cons t s = reverse-append (t ∷ []) s

@@ -1,20 +1,20 @@
 -- Typed code has no operators on vectors: these have no rows.
 use Rattle.std.proofs.Common.{◌≡◌, List, [], ◌∷◌, ◌++◌, Option, Some, false, refl, sym, subst}
-use Rattle.wasm_operators_walking.specs.reader.immediates.declared.frames.FrameKind.{FrameKind}
-use Rattle.wasm_operators_walking.specs.reader.operator.Op as op
-use Rattle.wasm_operators_walking.specs.reader.operator.Op.{Op}
-use Rattle.wasm_operators_walking.specs.reader.operator.declared.role.Role.{Role}
-use Rattle.wasm_operators_walking.specs.reader.operator.declared.role.Role.TheVariants as role
-use Rattle.wasm_operators_walking.specs.reader.operator.declared.role.Effect.{Effect}
-use Rattle.wasm_operators_walking.specs.reader.operator.declared.role.Effect.TheVariants as effects
-use Rattle.wasm_operators_walking.specs.reader.operator.Roles.{role_of, effect}
-use Rattle.wasm_operators_walking.specs.reader.visit_operator.Vectors.{is_simd}
-use Rattle.wasm_operators_walking.specs.reader.expression.Code.{Code, close, plain, nested, turn, walk, IsIn}
-use Rattle.wasm_operators_walking.specs.Walking.{HasNoVectors}
-use Rattle.wasm_operator_validator_state.specs.rules.Operands.{Operand, stack}
-use Rattle.wasm_operator_validator_state.specs.rules.Context.{Context, Initialised, Frame, inside, label_of}
-use Rattle.wasm_operator_validator_state.specs.rules.Row.{Row, after}
-use Rattle.wasm_operator_validator_state.specs.rules.Typed.{Typed, other_part, in_part}
+use Rattle.wasm_operators_immediates.specs.declared.frames.FrameKind.{FrameKind}
+use Rattle.wasm_operators_enums.specs.Op as op
+use Rattle.wasm_operators_enums.specs.Op.{Op}
+use Rattle.wasm_operators_enums.specs.declared.role.Role.{Role}
+use Rattle.wasm_operators_enums.specs.declared.role.Role.TheVariants as role
+use Rattle.wasm_operators_enums.specs.declared.role.Effect.{Effect}
+use Rattle.wasm_operators_enums.specs.declared.role.Effect.TheVariants as effects
+use Rattle.wasm_operators_enums.specs.Roles.{role_of, effect}
+use Rattle.wasm_operators_reader.specs.visit_operator.Vectors.{is_simd}
+use Rattle.wasm_operators_encoding.specs.expressions.Code.{Code, close, plain, nested, turn, walk, IsIn}
+use Rattle.wasm_operators_reader.specs.Walking.{HasNoVectors}
+use Rattle.wasm_operator_validator_rules.specs.Operands.{Operand, stack}
+use Rattle.wasm_operator_validator_rules.specs.Context.{Context, Initialised, Frame, inside, label_of}
+use Rattle.wasm_operator_validator_rules.specs.Row.{Row, after}
+use Rattle.wasm_operator_validator_rules.specs.Typed.{Typed, other_part, in_part}
 use Rattle.wasm_operator_validator_state.specs.resources.Meaning.{Meaning}
 use Rattle.wasm_operator_validator_state.specs.State.{Given, Open, State, ClosesAll, Accepts, results, initialised, context, frame_of}
 

@@ -1,9 +1,9 @@
 -- What visits of operators one after the other do to a validator.
 use Rattle.std.proofs.Common.{◌≡◌, ◌↔◌, ◌∙◌, ℕ, List, [], ◌∷◌, ◌++◌, Option, None, false, refl, sym, subst}
-use Rattle.wasm_types.specs.error.declared.error.ErrorKind.{ErrorKind}
-use Rattle.wasm_operators_walking.specs.reader.operator.Op.{Op}
-use Rattle.wasm_operators_walking.specs.reader.Standing.{Standing}
-use Rattle.wasm_operators_walking.specs.Walking.{VisitsAll, WalksTo, WalksUntilAt}
+use Rattle.wasm_types.specs.decoding.declared.error.ErrorKind.{ErrorKind}
+use Rattle.wasm_operators_enums.specs.Op.{Op}
+use Rattle.wasm_operators_reader.specs.Standing.{Standing}
+use Rattle.wasm_operators_reader.specs.Walking.{VisitsAll, WalksTo, WalksUntilAt}
 use Rattle.wasm_operator_validator_state.specs.resources.Meaning.{Meaning}
 use Rattle.wasm_operator_validator_state.specs.State.{State, Accepts, Visits}
 

@@ -1,20 +1,20 @@
 -- Each way in which a validation of an expression ends.
 use Rattle.std.proofs.Common.{◌≡◌, ◌↔◌, ◌∙◌, ◌+◌, ℕ, length, List, [], ◌∷◌, ◌++◌, Some, None, Ok, Err, Bool, true, false, inl, inr, refl, sym, ap, subst, append-nil}
 use Rattle.wasm_types.specs.decoding.Decoder.{State as Bytes}
-use Rattle.wasm_types.specs.error.Denials.{Denies}
-use Rattle.wasm_types.specs.error.DenialLaws.{denies, denies_from}
-use Rattle.wasm_types.specs.error.ErrorValue.{ErrorValue}
-use Rattle.wasm_types.specs.error.declared.error.ErrorKind.{ErrorKind}
-use Rattle.wasm_types.specs.error.declared.error.ErrorKind.TheVariants as kinds
+use Rattle.wasm_types.specs.decoding.Denials.{Denies}
+use Rattle.wasm_types.specs.decoding.DenialLaws.{denies, denies_from}
+use Rattle.wasm_types.specs.decoding.ErrorValue.{ErrorValue}
+use Rattle.wasm_types.specs.decoding.declared.error.ErrorKind.{ErrorKind}
+use Rattle.wasm_types.specs.decoding.declared.error.ErrorKind.TheVariants as kinds
 use Rattle.wasm_types.specs.reader.Reading.{IsNotMemory}
-use Rattle.wasm_operators_walking.specs.reader.operator.Op.{Op}
-use Rattle.wasm_operators_walking.specs.reader.expression.Code.{Code, walk}
-use Rattle.wasm_operators_walking.specs.reader.expression.Spelling.{SpelledOperators, SpelledExpression}
-use Rattle.wasm_operators_walking.specs.reader.expression.SpellingLaws.{one_expression}
-use Rattle.wasm_operators_walking.specs.reader.Standing.{Standing, at_start}
-use Rattle.wasm_operators_walking.specs.reader.RunLaws.{expression_run}
-use Rattle.wasm_operators_walking.specs.reader.MeetLaws.{meets_end}
-use Rattle.wasm_operators_walking.specs.Walking.{HasNoVectors, VisitsAll, WalksTo, WalksUntilAt, StopsPlain}
+use Rattle.wasm_operators_enums.specs.Op.{Op}
+use Rattle.wasm_operators_encoding.specs.expressions.Code.{Code, walk}
+use Rattle.wasm_operators_encoding.specs.expressions.Spelling.{SpelledOperators, SpelledExpression}
+use Rattle.wasm_operators_encoding.specs.expressions.SpellingLaws.{one_expression}
+use Rattle.wasm_operators_reader.specs.Standing.{Standing, at_start}
+use Rattle.wasm_operators_reader.specs.RunLaws.{expression_run}
+use Rattle.wasm_operators_reader.specs.MeetLaws.{meets_end}
+use Rattle.wasm_operators_reader.specs.Walking.{HasNoVectors, VisitsAll, WalksTo, WalksUntilAt, StopsPlain}
 use Rattle.wasm_operator_validator_state.specs.resources.Meaning.{Meaning}
 use Rattle.wasm_operator_validator_state.specs.Refusals.{OfContent}
 use Rattle.wasm_operator_validator_state.specs.State.{State, Accepts, Visits}

@@ -1,13 +1,13 @@
 -- What an access takes and gives, by the type of addresses of the memory that it reaches into.
 use Rattle.std.proofs.Common.{◌≡◌, ◌∷◌, Bool, true, false, Option, Some, None, refl, ap, slice_get, if◌then◌else◌}
 use Rattle.wasm_types.specs.externs.declared.memory.MemoryType.{MemoryType}
-use Rattle.wasm_operator_validator_determined.specs.rules.Operands.{ValueType}
-use Rattle.wasm_operator_validator_determined.specs.rules.Numbers.{numbers}
-use Rattle.wasm_operator_validator_determined.specs.rules.Context.{address_type}
-use Rattle.wasm_operator_validator_determined.specs.rules.Accesses.{AccessOf, operands_of, results_of, may_access}
-use Rattle.wasm_operator_validator_determined.specs.rules.InstructionTypes.{InstructionType, ◌⟶◌, provided, named, accesses}
-use Rattle.wasm_operator_validator_determined.specs.resources.Meaning.{Meaning}
-use Rattle.wasm_operator_validator_determined.specs.state.State.{State, context}
+use Rattle.wasm_operator_validator_rules.specs.Operands.{ValueType}
+use Rattle.wasm_operator_validator_rules.specs.Numbers.{numbers}
+use Rattle.wasm_operator_validator_rules.specs.Context.{address_type}
+use Rattle.wasm_operator_validator_rules.specs.Accesses.{AccessOf, operands_of, results_of, may_access}
+use Rattle.wasm_operator_validator_rules.specs.InstructionTypes.{InstructionType, ◌⟶◌, provided, named, accesses}
+use Rattle.wasm_operator_validator_state.specs.resources.Meaning.{Meaning}
+use Rattle.wasm_operator_validator_state.specs.State.{State, context}
 use Rattle.wasm_operator_validator_memory.specs.Reaching.{reached}
 
 by_test : (b : Bool) (t u : ValueType) (f : ValueType → InstructionType) → ◌≡◌ {A = Option ValueType} (if b then Some t else None) (Some u) → provided b (f t) ≡ Some (f u)

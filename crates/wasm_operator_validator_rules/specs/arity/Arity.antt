@@ -1,29 +1,29 @@
 -- How many operands each operator takes and gives, as a table (WebAssembly 3.0, validation, instructions; vectors have no row).
 -- A number that the module or the open frames determine is looked up, and there is none where they do not know it.
 use Rattle.std.specs.Prelude.{ℕ, ◌+◌, ◌-◌, ◌*◌, ◌^◌, List, [], ◌∷◌, length, Option, Some, None, option_map, option_and_then, slice_get, min}
-use Rattle.wasm_operator_validator_rules.specs.expression.types.trees.Types.{InnerOf, function, array_of, struct_of, continuation, number, ref, abstract, concrete, exact}
-use Rattle.wasm_operator_validator_rules.specs.expression.types.trees.Trees.{TypeTree}
-use Rattle.wasm_operator_validator_rules.specs.expression.types.trees.Below.{expanded}
-use Rattle.wasm_operator_validator_rules.specs.expression.immediates.declared.block.BlockType.{BlockType}
-use Rattle.wasm_operator_validator_rules.specs.expression.immediates.declared.block.BlockType.TheVariants as block
-use Rattle.wasm_operator_validator_rules.specs.expression.immediates.declared.frames.FrameKind.{FrameKind}
-use Rattle.wasm_operator_validator_rules.specs.expression.immediates.declared.frames.FrameKind.TheVariants as frames
-use Rattle.wasm_operator_validator_rules.specs.expression.groups.declared.control.ControlOperator.{ControlOperator}
-use Rattle.wasm_operator_validator_rules.specs.expression.groups.declared.control.ControlOperator.TheVariants as control
-use Rattle.wasm_operator_validator_rules.specs.expression.groups.declared.memory.MemoryOperator.{MemoryOperator}
-use Rattle.wasm_operator_validator_rules.specs.expression.groups.declared.memory.MemoryOperator.TheVariants as memory
-use Rattle.wasm_operator_validator_rules.specs.expression.groups.declared.bulk.BulkOperator.{BulkOperator}
-use Rattle.wasm_operator_validator_rules.specs.expression.groups.declared.bulk.BulkOperator.TheVariants as bulk
-use Rattle.wasm_operator_validator_rules.specs.expression.operator.groups.declared.gc.GcOperator.{GcOperator}
-use Rattle.wasm_operator_validator_rules.specs.expression.operator.groups.declared.gc.GcOperator.TheVariants as gc
-use Rattle.wasm_operator_validator_rules.specs.expression.operator.groups.declared.gc.DescriptorOperator.{DescriptorOperator}
-use Rattle.wasm_operator_validator_rules.specs.expression.operator.groups.declared.gc.DescriptorOperator.TheVariants as descriptor
-use Rattle.wasm_operator_validator_rules.specs.expression.groups.declared.atomic.AtomicOperator.{AtomicOperator}
-use Rattle.wasm_operator_validator_rules.specs.expression.groups.declared.atomic.AtomicOperator.TheVariants as atomic
-use Rattle.wasm_operator_validator_rules.specs.expression.groups.declared.atomic.SharedOperator.{SharedOperator}
-use Rattle.wasm_operator_validator_rules.specs.expression.groups.declared.atomic.SharedOperator.TheVariants as shared
-use Rattle.wasm_operator_validator_rules.specs.expression.operator.Op as op
-use Rattle.wasm_operator_validator_rules.specs.expression.operator.Op.{Op, ParametricTree, ExceptionTree, ContinuationTree}
+use Rattle.wasm_types.specs.trees.Types.{InnerOf, function, array_of, struct_of, continuation, number, ref, abstract, concrete, exact}
+use Rattle.wasm_types.specs.trees.Trees.{TypeTree}
+use Rattle.wasm_types.specs.trees.Below.{expanded}
+use Rattle.wasm_operators_immediates.specs.declared.block.BlockType.{BlockType}
+use Rattle.wasm_operators_immediates.specs.declared.block.BlockType.TheVariants as block
+use Rattle.wasm_operators_immediates.specs.declared.frames.FrameKind.{FrameKind}
+use Rattle.wasm_operators_immediates.specs.declared.frames.FrameKind.TheVariants as frames
+use Rattle.wasm_operators_enums.specs.declared.control.ControlOperator.{ControlOperator}
+use Rattle.wasm_operators_enums.specs.declared.control.ControlOperator.TheVariants as control
+use Rattle.wasm_operators_enums.specs.declared.memory.MemoryOperator.{MemoryOperator}
+use Rattle.wasm_operators_enums.specs.declared.memory.MemoryOperator.TheVariants as memory
+use Rattle.wasm_operators_enums.specs.declared.bulk.BulkOperator.{BulkOperator}
+use Rattle.wasm_operators_enums.specs.declared.bulk.BulkOperator.TheVariants as bulk
+use Rattle.wasm_operators_enums.specs.declared.gc.GcOperator.{GcOperator}
+use Rattle.wasm_operators_enums.specs.declared.gc.GcOperator.TheVariants as gc
+use Rattle.wasm_operators_enums.specs.declared.gc.DescriptorOperator.{DescriptorOperator}
+use Rattle.wasm_operators_enums.specs.declared.gc.DescriptorOperator.TheVariants as descriptor
+use Rattle.wasm_operators_enums.specs.declared.atomic.AtomicOperator.{AtomicOperator}
+use Rattle.wasm_operators_enums.specs.declared.atomic.AtomicOperator.TheVariants as atomic
+use Rattle.wasm_operators_enums.specs.declared.atomic.SharedOperator.{SharedOperator}
+use Rattle.wasm_operators_enums.specs.declared.atomic.SharedOperator.TheVariants as shared
+use Rattle.wasm_operators_enums.specs.Op as op
+use Rattle.wasm_operators_enums.specs.Op.{Op, ParametricTree, ExceptionTree, ContinuationTree}
 use Rattle.wasm_operator_validator_rules.specs.Operands.{ValueType}
 use Rattle.wasm_operator_validator_rules.specs.Context.{Module}
 use Rattle.wasm_operator_validator_rules.specs.Numbers.{class_of, taken_by, given_by}

@@ -1,11 +1,11 @@
 -- How many operands an operator takes and gives by the rules: by its row, or by the frame that it opens, turns or closes
 -- (WebAssembly 3.0, validation, instructions).
 use Rattle.std.specs.Prelude.{◌≡◌, ◌≤◌, ◌<◌, ◌^◌, ℕ, List, [], ◌∷◌, length, map, Some, slice_get}
-use Rattle.wasm_operator_validator_rules.specs.expression.types.trees.Trees.{TypeTree}
-use Rattle.wasm_operator_validator_rules.specs.expression.immediates.declared.block.BlockType.{BlockType}
-use Rattle.wasm_operator_validator_rules.specs.expression.immediates.declared.block.BlockType.TheVariants as block
-use Rattle.wasm_operator_validator_rules.specs.expression.immediates.declared.frames.FrameKind.{FrameKind}
-use Rattle.wasm_operator_validator_rules.specs.expression.operator.Op.{Op}
+use Rattle.wasm_types.specs.trees.Trees.{TypeTree}
+use Rattle.wasm_operators_immediates.specs.declared.block.BlockType.{BlockType}
+use Rattle.wasm_operators_immediates.specs.declared.block.BlockType.TheVariants as block
+use Rattle.wasm_operators_immediates.specs.declared.frames.FrameKind.{FrameKind}
+use Rattle.wasm_operators_enums.specs.Op.{Op}
 use Rattle.wasm_operator_validator_rules.specs.Operands.{ValueType, Operand}
 use Rattle.wasm_operator_validator_rules.specs.Context.{Module, Context, Initialised, Signature, IsFunctionType, label_of}
 use Rattle.wasm_operator_validator_rules.specs.Row.{Row}

@@ -1,18 +1,18 @@
 -- Worked rows of the table, of a module with a function type of one parameter and two results, a struct of two fields, an array
 -- and a continuation, within a loop of the function type inside a block that gives one value.
 use Rattle.std.specs.Prelude.{◌≡◌, true, false, [], ◌∷◌, Option, Some, None}
-use Rattle.wasm_operator_validator_rules.specs.expression.types.trees.Types.{i32, i64, number, function, struct_of, array_of, continuation, value}
-use Rattle.wasm_operator_validator_rules.specs.expression.types.trees.Trees.{TypeTree}
-use Rattle.wasm_operator_validator_rules.specs.expression.types.trees.worked.Types.{alone, declared_entry}
-use Rattle.wasm_operator_validator_rules.specs.expression.types.values.declared.value.ValType.TheVariants as value_type
-use Rattle.wasm_operator_validator_rules.specs.expression.immediates.declared.block.BlockType.TheVariants as block
-use Rattle.wasm_operator_validator_rules.specs.expression.immediates.declared.frames.FrameKind.TheVariants as frames
-use Rattle.wasm_operator_validator_rules.specs.expression.groups.declared.control.ControlOperator.TheVariants as control
-use Rattle.wasm_operator_validator_rules.specs.expression.groups.declared.memory.MemoryOperator.TheVariants as memory
-use Rattle.wasm_operator_validator_rules.specs.expression.groups.declared.numeric.NumericOperator.TheVariants as numeric
-use Rattle.wasm_operator_validator_rules.specs.expression.operator.groups.declared.gc.GcOperator.TheVariants as gc
-use Rattle.wasm_operator_validator_rules.specs.expression.operator.Op as op
-use Rattle.wasm_operator_validator_rules.specs.expression.operator.Op.{Op}
+use Rattle.wasm_types.specs.trees.Types.{i32, i64, number, function, struct_of, array_of, continuation, value}
+use Rattle.wasm_types.specs.trees.Trees.{TypeTree}
+use Rattle.wasm_types.specs.trees.worked.Types.{alone, declared_entry}
+use Rattle.wasm_types.specs.values.declared.value.ValType.TheVariants as value_type
+use Rattle.wasm_operators_immediates.specs.declared.block.BlockType.TheVariants as block
+use Rattle.wasm_operators_immediates.specs.declared.frames.FrameKind.TheVariants as frames
+use Rattle.wasm_operators_enums.specs.declared.control.ControlOperator.TheVariants as control
+use Rattle.wasm_operators_enums.specs.declared.memory.MemoryOperator.TheVariants as memory
+use Rattle.wasm_operators_enums.specs.declared.numeric.NumericOperator.TheVariants as numeric
+use Rattle.wasm_operators_enums.specs.declared.gc.GcOperator.TheVariants as gc
+use Rattle.wasm_operators_enums.specs.Op as op
+use Rattle.wasm_operators_enums.specs.Op.{Op}
 use Rattle.wasm_operator_validator_rules.specs.Context.{Module}
 use Rattle.wasm_operator_validator_rules.specs.worked.Contexts.{argument}
 use Rattle.wasm_operator_validator_rules.specs.arity.Arity.{Known, Counts, counts_of}

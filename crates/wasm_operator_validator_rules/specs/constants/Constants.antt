@@ -4,25 +4,25 @@
 -- in the context of what stands before it. Which globals it sees is the caller's to say; of these it may read the immutable ones,
 -- and those of the module itself by the features of garbage collection alone.
 use Rattle.std.specs.Prelude.{◌≡◌, ℕ, ◌≤◌, false, List, [], ◌∷◌, Some, slice_get, take}
-use Rattle.wasm_operator_validator_rules.specs.expression.types.features.Features.{ExtendedConst, Gc, SharedEverythingThreads}
-use Rattle.wasm_operator_validator_rules.specs.expression.types.trees.Gates.{Has}
-use Rattle.wasm_operator_validator_rules.specs.expression.groups.declared.control.ControlOperator.{ControlOperator}
-use Rattle.wasm_operator_validator_rules.specs.expression.groups.declared.control.ControlOperator.TheVariants as control
-use Rattle.wasm_operator_validator_rules.specs.expression.groups.declared.memory.MemoryOperator.{MemoryOperator}
-use Rattle.wasm_operator_validator_rules.specs.expression.groups.declared.memory.MemoryOperator.TheVariants as memory
-use Rattle.wasm_operator_validator_rules.specs.expression.groups.declared.bulk.BulkOperator.{BulkOperator}
-use Rattle.wasm_operator_validator_rules.specs.expression.groups.declared.bulk.BulkOperator.TheVariants as bulk
-use Rattle.wasm_operator_validator_rules.specs.expression.groups.declared.numeric.NumericOperator.{NumericOperator}
-use Rattle.wasm_operator_validator_rules.specs.expression.groups.declared.numeric.NumericOperator.TheVariants as numeric
-use Rattle.wasm_operator_validator_rules.specs.expression.groups.declared.atomic.SharedOperator.{SharedOperator}
-use Rattle.wasm_operator_validator_rules.specs.expression.groups.declared.atomic.SharedOperator.TheVariants as shared
-use Rattle.wasm_operator_validator_rules.specs.expression.operator.groups.declared.gc.GcOperator.{GcOperator}
-use Rattle.wasm_operator_validator_rules.specs.expression.operator.groups.declared.gc.GcOperator.TheVariants as gc
-use Rattle.wasm_operator_validator_rules.specs.expression.operator.groups.declared.gc.DescriptorOperator.{DescriptorOperator}
-use Rattle.wasm_operator_validator_rules.specs.expression.operator.groups.declared.gc.DescriptorOperator.TheVariants as descriptor
-use Rattle.wasm_operator_validator_rules.specs.expression.operator.Op as op
-use Rattle.wasm_operator_validator_rules.specs.expression.operator.Op.{Op}
-use Rattle.wasm_operator_validator_rules.specs.expression.Code.{Code, walk}
+use Rattle.wasm_types.specs.settings.Features.{ExtendedConst, Gc, SharedEverythingThreads}
+use Rattle.wasm_types.specs.trees.Gates.{Has}
+use Rattle.wasm_operators_enums.specs.declared.control.ControlOperator.{ControlOperator}
+use Rattle.wasm_operators_enums.specs.declared.control.ControlOperator.TheVariants as control
+use Rattle.wasm_operators_enums.specs.declared.memory.MemoryOperator.{MemoryOperator}
+use Rattle.wasm_operators_enums.specs.declared.memory.MemoryOperator.TheVariants as memory
+use Rattle.wasm_operators_enums.specs.declared.bulk.BulkOperator.{BulkOperator}
+use Rattle.wasm_operators_enums.specs.declared.bulk.BulkOperator.TheVariants as bulk
+use Rattle.wasm_operators_enums.specs.declared.numeric.NumericOperator.{NumericOperator}
+use Rattle.wasm_operators_enums.specs.declared.numeric.NumericOperator.TheVariants as numeric
+use Rattle.wasm_operators_enums.specs.declared.atomic.SharedOperator.{SharedOperator}
+use Rattle.wasm_operators_enums.specs.declared.atomic.SharedOperator.TheVariants as shared
+use Rattle.wasm_operators_enums.specs.declared.gc.GcOperator.{GcOperator}
+use Rattle.wasm_operators_enums.specs.declared.gc.GcOperator.TheVariants as gc
+use Rattle.wasm_operators_enums.specs.declared.gc.DescriptorOperator.{DescriptorOperator}
+use Rattle.wasm_operators_enums.specs.declared.gc.DescriptorOperator.TheVariants as descriptor
+use Rattle.wasm_operators_enums.specs.Op as op
+use Rattle.wasm_operators_enums.specs.Op.{Op}
+use Rattle.wasm_operators_encoding.specs.expressions.Code.{Code, walk}
 use Rattle.wasm_operator_validator_rules.specs.Operands.{ValueType}
 use Rattle.wasm_operator_validator_rules.specs.Context.{Module, Global, Context}
 use Rattle.wasm_operator_validator_rules.specs.Typed.{IsBody}

@@ -1,20 +1,20 @@
 -- Worked constant operators: for each rule one that is constant and one that is not, and a feature that is asked.
 use Rattle.std.specs.Prelude.{ℕ, ℤ, ◌-◌, Bool, true, false, [], ◌∷◌, None}
 -- for attributes that unfold it
-unfoldable pub use Rattle.wasm_operator_validator_rules.specs.expression.types.features.Features.{has}
-use Rattle.wasm_operator_validator_rules.specs.expression.types.features.Features.{Feature, mask, ExtendedConst, Gc, SharedEverythingThreads}
-use Rattle.wasm_operator_validator_rules.specs.expression.types.trees.Types.{i32, number}
-use Rattle.wasm_operator_validator_rules.specs.expression.groups.declared.control.ControlOperator.TheVariants as control
-use Rattle.wasm_operator_validator_rules.specs.expression.immediates.declared.memory.Ordering.TheVariants as ordering
-use Rattle.wasm_operator_validator_rules.specs.expression.groups.declared.memory.MemoryOperator.TheVariants as memory
-use Rattle.wasm_operator_validator_rules.specs.expression.groups.declared.constant.ConstOperator.TheVariants as const
-use Rattle.wasm_operator_validator_rules.specs.expression.groups.declared.bulk.BulkOperator.TheVariants as bulk
-use Rattle.wasm_operator_validator_rules.specs.expression.groups.declared.numeric.NumericOperator.TheVariants as numeric
-use Rattle.wasm_operator_validator_rules.specs.expression.groups.declared.atomic.SharedOperator.TheVariants as shared
-use Rattle.wasm_operator_validator_rules.specs.expression.operator.groups.declared.gc.GcOperator.TheVariants as gc
-use Rattle.wasm_operator_validator_rules.specs.expression.operator.groups.declared.gc.DescriptorOperator.TheVariants as descriptor
-use Rattle.wasm_operator_validator_rules.specs.expression.operator.Op as op
-use Rattle.wasm_operator_validator_rules.specs.expression.operator.Op.{Op}
+unfoldable pub use Rattle.wasm_types.specs.settings.Features.{has}
+use Rattle.wasm_types.specs.settings.Features.{Feature, mask, ExtendedConst, Gc, SharedEverythingThreads}
+use Rattle.wasm_types.specs.trees.Types.{i32, number}
+use Rattle.wasm_operators_enums.specs.declared.control.ControlOperator.TheVariants as control
+use Rattle.wasm_operators_immediates.specs.declared.memory.Ordering.TheVariants as ordering
+use Rattle.wasm_operators_enums.specs.declared.memory.MemoryOperator.TheVariants as memory
+use Rattle.wasm_operators_enums.specs.declared.constant.ConstOperator.TheVariants as const
+use Rattle.wasm_operators_enums.specs.declared.bulk.BulkOperator.TheVariants as bulk
+use Rattle.wasm_operators_enums.specs.declared.numeric.NumericOperator.TheVariants as numeric
+use Rattle.wasm_operators_enums.specs.declared.atomic.SharedOperator.TheVariants as shared
+use Rattle.wasm_operators_enums.specs.declared.gc.GcOperator.TheVariants as gc
+use Rattle.wasm_operators_enums.specs.declared.gc.DescriptorOperator.TheVariants as descriptor
+use Rattle.wasm_operators_enums.specs.Op as op
+use Rattle.wasm_operators_enums.specs.Op.{Op}
 use Rattle.wasm_operator_validator_rules.specs.Context.{Module, Global}
 use Rattle.wasm_operator_validator_rules.specs.constants.Constants.{IsConstantOperator}
 

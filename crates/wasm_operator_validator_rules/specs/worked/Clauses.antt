@@ -1,14 +1,14 @@
 -- Code with clauses that catch exceptions: some that is typed and some that is not.
 use Rattle.std.specs.Prelude.{ℕ, ℤ, ◌-◌, List, [], ◌∷◌}
-use Rattle.wasm_operators_expression.specs.types.features.Features.{mask, Exceptions, LegacyExceptions}
-use Rattle.wasm_operators_expression.specs.types.values.declared.value.ValType.TheVariants as value
-use Rattle.wasm_operators_expression.specs.immediates.declared.block.BlockType.{BlockType}
-use Rattle.wasm_operators_expression.specs.immediates.declared.block.BlockType.TheVariants as block
-use Rattle.wasm_operators_expression.specs.immediates.declared.handlers.Catch.{Catch}
-use Rattle.wasm_operators_expression.specs.immediates.declared.handlers.Catch.TheVariants as clause
-use Rattle.wasm_operators_expression.specs.operator.Op as op
-use Rattle.wasm_operators_expression.specs.operator.Op.{Op}
-use Rattle.wasm_operators_expression.specs.Code.{Code, close, plain, nested, turn}
+use Rattle.wasm_types.specs.settings.Features.{mask, Exceptions, LegacyExceptions}
+use Rattle.wasm_types.specs.values.declared.value.ValType.TheVariants as value
+use Rattle.wasm_operators_immediates.specs.declared.block.BlockType.{BlockType}
+use Rattle.wasm_operators_immediates.specs.declared.block.BlockType.TheVariants as block
+use Rattle.wasm_operators_immediates.specs.declared.handlers.Catch.{Catch}
+use Rattle.wasm_operators_immediates.specs.declared.handlers.Catch.TheVariants as clause
+use Rattle.wasm_operators_enums.specs.Op as op
+use Rattle.wasm_operators_enums.specs.Op.{Op}
+use Rattle.wasm_operators_encoding.specs.expressions.Code.{Code, close, plain, nested, turn}
 use Rattle.wasm_operator_validator_rules.specs.Context.{Context, Frame}
 use Rattle.wasm_operator_validator_rules.specs.Typed.{Typed}
 use Rattle.wasm_operator_validator_rules.specs.worked.Contexts.{all_bits}

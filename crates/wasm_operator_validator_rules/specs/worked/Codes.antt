@@ -1,16 +1,16 @@
 -- Code that is typed and code that is not.
 use Rattle.std.specs.Prelude.{◌≡◌, ℕ, ℤ, true, false, [], ◌∷◌}
-use Rattle.wasm_operators_expression.specs.types.trees.Types.{i32, i64, number}
-use Rattle.wasm_operators_expression.specs.types.values.declared.value.ValType.TheVariants as value
-use Rattle.wasm_operators_expression.specs.immediates.declared.block.BlockType.TheVariants as block
-use Rattle.wasm_operators_expression.specs.immediates.declared.frames.FrameKind.TheVariants as frames
-use Rattle.wasm_operators_expression.specs.groups.declared.control.ControlOperator.TheVariants as control
-use Rattle.wasm_operators_expression.specs.groups.declared.memory.MemoryOperator.TheVariants as memory
-use Rattle.wasm_operators_expression.specs.groups.declared.constant.ConstOperator.TheVariants as const
-use Rattle.wasm_operators_expression.specs.groups.declared.numeric.NumericOperator.TheVariants as numeric
-use Rattle.wasm_operators_expression.specs.operator.Op as op
-use Rattle.wasm_operators_expression.specs.operator.Op.{Op}
-use Rattle.wasm_operators_expression.specs.Code.{Code, close, plain, nested, turn}
+use Rattle.wasm_types.specs.trees.Types.{i32, i64, number}
+use Rattle.wasm_types.specs.values.declared.value.ValType.TheVariants as value
+use Rattle.wasm_operators_immediates.specs.declared.block.BlockType.TheVariants as block
+use Rattle.wasm_operators_immediates.specs.declared.frames.FrameKind.TheVariants as frames
+use Rattle.wasm_operators_enums.specs.declared.control.ControlOperator.TheVariants as control
+use Rattle.wasm_operators_enums.specs.declared.memory.MemoryOperator.TheVariants as memory
+use Rattle.wasm_operators_enums.specs.declared.constant.ConstOperator.TheVariants as const
+use Rattle.wasm_operators_enums.specs.declared.numeric.NumericOperator.TheVariants as numeric
+use Rattle.wasm_operators_enums.specs.Op as op
+use Rattle.wasm_operators_enums.specs.Op.{Op}
+use Rattle.wasm_operators_encoding.specs.expressions.Code.{Code, close, plain, nested, turn}
 use Rattle.wasm_operator_validator_rules.specs.Context.{Signature, Frame, Initialised, inside, initialised_at_first}
 use Rattle.wasm_operator_validator_rules.specs.Typed.{Typed, other_part, in_part}
 use Rattle.wasm_operator_validator_rules.specs.worked.Contexts.{somewhere}

@@ -1,10 +1,10 @@
 -- Operators on exceptions: rows that hold and rows that do not, and clauses of `try_table`.
 use Rattle.std.specs.Prelude.{true, false, List, [], ◌∷◌, None}
-use Rattle.wasm_operators_expression.specs.types.trees.Types.{i32, i64, func, number, ref, abstract, function}
-use Rattle.wasm_operators_expression.specs.types.trees.Trees.{TypeTree}
-use Rattle.wasm_operators_expression.specs.types.trees.worked.Types.{alone, declared_entry}
-use Rattle.wasm_operators_expression.specs.immediates.declared.handlers.Catch.TheVariants as clause
-use Rattle.wasm_operators_expression.specs.operator.Op as op
+use Rattle.wasm_types.specs.trees.Types.{i32, i64, func, number, ref, abstract, function}
+use Rattle.wasm_types.specs.trees.Trees.{TypeTree}
+use Rattle.wasm_types.specs.trees.worked.Types.{alone, declared_entry}
+use Rattle.wasm_operators_immediates.specs.declared.handlers.Catch.TheVariants as clause
+use Rattle.wasm_operators_enums.specs.Op as op
 use Rattle.wasm_operator_validator_rules.specs.Operands.{ValueType, Operand, bottom, known}
 use Rattle.wasm_operator_validator_rules.specs.Context.{Module, Context}
 use Rattle.wasm_operator_validator_rules.specs.Exceptions.{ExceptionRow, Catches, exception}

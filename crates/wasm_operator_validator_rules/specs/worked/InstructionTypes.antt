@@ -1,14 +1,14 @@
 -- Instruction types by the table, and operators for which it has none.
 use Rattle.std.specs.Prelude.{◌≡◌, ℤ, List, [], ◌∷◌, Some, None}
-use Rattle.wasm_operators_expression.specs.types.trees.Types.{Number, i32, i64, f32, f64, number}
-use Rattle.wasm_operators_expression.specs.groups.declared.control.ControlOperator.TheVariants as control
-use Rattle.wasm_operators_expression.specs.groups.declared.memory.MemoryOperator.TheVariants as memory
-use Rattle.wasm_operators_expression.specs.groups.declared.constant.ConstOperator.TheVariants as const
-use Rattle.wasm_operators_expression.specs.groups.declared.bulk.BulkOperator.TheVariants as bulk
-use Rattle.wasm_operators_expression.specs.groups.declared.numeric.NumericOperator.TheVariants as numeric
-use Rattle.wasm_operators_expression.specs.groups.declared.atomic.AtomicOperator.TheVariants as atomic
-use Rattle.wasm_operators_expression.specs.operator.Op as op
-use Rattle.wasm_operators_expression.specs.operator.Op.{Op}
+use Rattle.wasm_types.specs.trees.Types.{Number, i32, i64, f32, f64, number}
+use Rattle.wasm_operators_enums.specs.declared.control.ControlOperator.TheVariants as control
+use Rattle.wasm_operators_enums.specs.declared.memory.MemoryOperator.TheVariants as memory
+use Rattle.wasm_operators_enums.specs.declared.constant.ConstOperator.TheVariants as const
+use Rattle.wasm_operators_enums.specs.declared.bulk.BulkOperator.TheVariants as bulk
+use Rattle.wasm_operators_enums.specs.declared.numeric.NumericOperator.TheVariants as numeric
+use Rattle.wasm_operators_enums.specs.declared.atomic.AtomicOperator.TheVariants as atomic
+use Rattle.wasm_operators_enums.specs.Op as op
+use Rattle.wasm_operators_enums.specs.Op.{Op}
 use Rattle.wasm_operator_validator_rules.specs.Context.{Context}
 use Rattle.wasm_operator_validator_rules.specs.Numbers.{numbers}
 use Rattle.wasm_operator_validator_rules.specs.InstructionTypes.{◌⟶◌, instruction_type}

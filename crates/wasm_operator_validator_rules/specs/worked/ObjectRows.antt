@@ -1,11 +1,11 @@
 -- Rows of operators on structs, arrays and references that hold, and rows that do not.
 use Rattle.std.specs.Prelude.{◌≡◌, ℕ, Bool, true, false, List, [], ◌∷◌, ◌++◌, reverse}
-use Rattle.wasm_operators_expression.specs.types.indices.declared.index.UnpackedIndex.TheVariants as index
-use Rattle.wasm_operators_expression.specs.types.trees.Types.{any, eq, extern, i31, array, Abstract, ref, abstract, exact}
-use Rattle.wasm_operators_expression.specs.types.values.declared.heap.HeapType.TheVariants as heap
-use Rattle.wasm_operators_expression.specs.types.values.Reference.{Reference}
-use Rattle.wasm_operators_expression.specs.groups.declared.gc.GcOperator.{GcOperator}
-use Rattle.wasm_operators_expression.specs.groups.declared.gc.GcOperator.TheVariants as gc
+use Rattle.wasm_types.specs.trees.declared.index.UnpackedIndex.TheVariants as index
+use Rattle.wasm_types.specs.trees.Types.{any, eq, extern, i31, array, Abstract, ref, abstract, exact}
+use Rattle.wasm_types.specs.values.declared.heap.HeapType.TheVariants as heap
+use Rattle.wasm_types.specs.values.Reference.{Reference}
+use Rattle.wasm_operators_enums.specs.declared.gc.GcOperator.{GcOperator}
+use Rattle.wasm_operators_enums.specs.declared.gc.GcOperator.TheVariants as gc
 use Rattle.wasm_operator_validator_rules.specs.Operands.{Operand, bottom, some_reference, known, AllBelow}
 use Rattle.wasm_operator_validator_rules.specs.Objects.{GcRow}
 use Rattle.wasm_operator_validator_rules.specs.worked.Operators.{i32_known}

@@ -1,13 +1,13 @@
 -- Instruction types of structs, arrays, tests and casts by the table, and operators for which it has none.
 use Rattle.std.specs.Prelude.{◌≡◌, true, false, List, [], ◌∷◌, Some}
-use Rattle.wasm_operators_expression.specs.types.indices.declared.index.UnpackedIndex.TheVariants as index
-use Rattle.wasm_operators_expression.specs.types.trees.Types.{i32, i64, i31, any, func, extern, noextern, number, ref, abstract, exact}
-use Rattle.wasm_operators_expression.specs.types.trees.Trees.{TypeTree}
-use Rattle.wasm_operators_expression.specs.types.values.declared.heap.AbstractHeapType.TheVariants as kind
-use Rattle.wasm_operators_expression.specs.types.values.declared.heap.HeapType.TheVariants as heap
-use Rattle.wasm_operators_expression.specs.groups.declared.gc.GcOperator.{GcOperator}
-use Rattle.wasm_operators_expression.specs.groups.declared.gc.GcOperator.TheVariants as gc
-use Rattle.wasm_operators_expression.specs.operator.Op as op
+use Rattle.wasm_types.specs.trees.declared.index.UnpackedIndex.TheVariants as index
+use Rattle.wasm_types.specs.trees.Types.{i32, i64, i31, any, func, extern, noextern, number, ref, abstract, exact}
+use Rattle.wasm_types.specs.trees.Trees.{TypeTree}
+use Rattle.wasm_types.specs.values.declared.heap.AbstractHeapType.TheVariants as kind
+use Rattle.wasm_types.specs.values.declared.heap.HeapType.TheVariants as heap
+use Rattle.wasm_operators_enums.specs.declared.gc.GcOperator.{GcOperator}
+use Rattle.wasm_operators_enums.specs.declared.gc.GcOperator.TheVariants as gc
+use Rattle.wasm_operators_enums.specs.Op as op
 use Rattle.wasm_operator_validator_rules.specs.Operands.{ValueType}
 use Rattle.wasm_operator_validator_rules.specs.Context.{Context}
 use Rattle.wasm_operator_validator_rules.specs.InstructionTypes.{◌⟶◌, instruction_type}

@@ -1,9 +1,9 @@
 -- Operators on structs, arrays and references: the types and contexts that their worked rows speak of.
 use Rattle.std.specs.Prelude.{◌-◌, true, false, List, [], ◌∷◌, Some, None}
-use Rattle.wasm_operators_expression.specs.types.features.Features.{mask, CustomDescriptors}
-use Rattle.wasm_operators_expression.specs.types.trees.Types.{i32, i64, number, i8, FieldOf, EntryOf, function, array_of, struct_of, continuation}
-use Rattle.wasm_operators_expression.specs.types.trees.Trees.{RefTree, local, GroupTree, TypeTree, group_tree}
-use Rattle.wasm_operators_expression.specs.types.trees.worked.Types.{alone, declared_entry, constant, variable}
+use Rattle.wasm_types.specs.settings.Features.{mask, CustomDescriptors}
+use Rattle.wasm_types.specs.trees.Types.{i32, i64, number, i8, FieldOf, EntryOf, function, array_of, struct_of, continuation}
+use Rattle.wasm_types.specs.trees.Trees.{RefTree, local, GroupTree, TypeTree, group_tree}
+use Rattle.wasm_types.specs.trees.worked.Types.{alone, declared_entry, constant, variable}
 use Rattle.wasm_operator_validator_rules.specs.Operands.{ValueType}
 use Rattle.wasm_operator_validator_rules.specs.Context.{Module, Context}
 use Rattle.wasm_operator_validator_rules.specs.worked.Contexts.{some_module, somewhere, all_bits, widening}

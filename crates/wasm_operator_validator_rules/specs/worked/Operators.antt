@@ -1,13 +1,13 @@
 -- Rows that hold and rows that do not.
 use Rattle.std.specs.Prelude.{true, false, List, [], ◌∷◌}
-use Rattle.wasm_operators_expression.specs.types.trees.Types.{i32, i64, f32, number, ref, concrete}
-use Rattle.wasm_operators_expression.specs.types.values.declared.value.ValType.TheVariants as value
-use Rattle.wasm_operators_expression.specs.groups.declared.control.ControlOperator.TheVariants as control
-use Rattle.wasm_operators_expression.specs.groups.declared.memory.MemoryOperator.TheVariants as memory
-use Rattle.wasm_operators_expression.specs.groups.declared.bulk.BulkOperator.TheVariants as bulk
-use Rattle.wasm_operators_expression.specs.groups.declared.numeric.NumericOperator.TheVariants as numeric
-use Rattle.wasm_operators_expression.specs.operator.Op as op
-use Rattle.wasm_operators_expression.specs.operator.Op.{Op}
+use Rattle.wasm_types.specs.trees.Types.{i32, i64, f32, number, ref, concrete}
+use Rattle.wasm_types.specs.values.declared.value.ValType.TheVariants as value
+use Rattle.wasm_operators_enums.specs.declared.control.ControlOperator.TheVariants as control
+use Rattle.wasm_operators_enums.specs.declared.memory.MemoryOperator.TheVariants as memory
+use Rattle.wasm_operators_enums.specs.declared.bulk.BulkOperator.TheVariants as bulk
+use Rattle.wasm_operators_enums.specs.declared.numeric.NumericOperator.TheVariants as numeric
+use Rattle.wasm_operators_enums.specs.Op as op
+use Rattle.wasm_operators_enums.specs.Op.{Op}
 use Rattle.wasm_operator_validator_rules.specs.Operands.{Operand, bottom, some_reference, known}
 use Rattle.wasm_operator_validator_rules.specs.Context.{Context, Initialised}
 use Rattle.wasm_operator_validator_rules.specs.Row.{Row}

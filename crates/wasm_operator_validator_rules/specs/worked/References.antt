@@ -1,12 +1,12 @@
 -- Operators on references to functions and on null: instruction types by the table, rows that hold and rows that do not.
 use Rattle.std.specs.Prelude.{◌≡◌, true, false, List, [], ◌∷◌, Some, None}
-use Rattle.wasm_operators_expression.specs.types.trees.Types.{i32, i64, func, number, ref, abstract, concrete, struct_of}
-use Rattle.wasm_operators_expression.specs.types.trees.Trees.{TypeTree}
-use Rattle.wasm_operators_expression.specs.types.trees.worked.Types.{alone, declared_entry, constant}
-use Rattle.wasm_operators_expression.specs.groups.declared.control.ControlOperator.{ControlOperator}
-use Rattle.wasm_operators_expression.specs.groups.declared.control.ControlOperator.TheVariants as control
-use Rattle.wasm_operators_expression.specs.operator.Op as op
-use Rattle.wasm_operators_expression.specs.operator.Op.{Op}
+use Rattle.wasm_types.specs.trees.Types.{i32, i64, func, number, ref, abstract, concrete, struct_of}
+use Rattle.wasm_types.specs.trees.Trees.{TypeTree}
+use Rattle.wasm_types.specs.trees.worked.Types.{alone, declared_entry, constant}
+use Rattle.wasm_operators_enums.specs.declared.control.ControlOperator.{ControlOperator}
+use Rattle.wasm_operators_enums.specs.declared.control.ControlOperator.TheVariants as control
+use Rattle.wasm_operators_enums.specs.Op as op
+use Rattle.wasm_operators_enums.specs.Op.{Op}
 use Rattle.wasm_operator_validator_rules.specs.Operands.{ValueType, Operand, bottom, some_reference, known}
 use Rattle.wasm_operator_validator_rules.specs.Context.{Module, Context}
 use Rattle.wasm_operator_validator_rules.specs.InstructionTypes.{◌⟶◌, instruction_type}

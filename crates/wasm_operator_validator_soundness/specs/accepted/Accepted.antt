@@ -2,13 +2,13 @@
 -- code, and wherever that comes to from fitting locals by fitting answers, its next reduction is not stuck and ends well.
 use Rattle.std.specs.Prelude.{ℕ, List, Option}
 use Rattle.wasm_types.specs.decoding.Decoder.{State as Bytes}
-use Rattle.wasm_operator_validator_expression.specs.expression.Code.{Code}
-use Rattle.wasm_operator_validator_expression.specs.expression.Spelling.{SpelledExpression}
-use Rattle.wasm_operator_validator_expression.specs.expression.immediates.declared.block.BlockType.{BlockType}
-use Rattle.wasm_operator_validator_expression.specs.rules.Context.{Context}
-use Rattle.wasm_operator_validator_expression.specs.resources.Meaning.{Meaning}
-use Rattle.wasm_operator_validator_expression.specs.state.State.{Given, Saved}
-use Rattle.wasm_operator_validator_expression.specs.state.Bodies.{fresh, body_context}
+use Rattle.wasm_operators_encoding.specs.expressions.Code.{Code}
+use Rattle.wasm_operators_encoding.specs.expressions.Spelling.{SpelledExpression}
+use Rattle.wasm_operators_immediates.specs.declared.block.BlockType.{BlockType}
+use Rattle.wasm_operator_validator_rules.specs.Context.{Context}
+use Rattle.wasm_operator_validator_state.specs.resources.Meaning.{Meaning}
+use Rattle.wasm_operator_validator_state.specs.State.{Given, Saved}
+use Rattle.wasm_operator_validator_state.specs.Bodies.{fresh, body_context}
 use Rattle.wasm_operator_validator_expression.specs.Validating.{AcceptsExpression}
 use Rattle.wasm_operator_validator_soundness.specs.Values.{Value}
 use Rattle.wasm_operator_validator_soundness.specs.States.{Configuration, Answer}

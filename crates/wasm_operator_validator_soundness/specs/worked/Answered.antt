@@ -1,10 +1,10 @@
 -- For operators of each kind, answers that fit, by which they go on; and answers to operators by their rows that do not fit.
 use Rattle.std.specs.Prelude.{ℕ, ℤ, true, false, List, [], ◌∷◌, Some, None}
 use Rattle.wasm_types.specs.trees.Types.{i64, number}
-use Rattle.wasm_operator_validator_rules.specs.expression.groups.declared.control.ControlOperator.TheVariants as control
-use Rattle.wasm_operator_validator_rules.specs.expression.groups.declared.bulk.BulkOperator.TheVariants as bulk
-use Rattle.wasm_operator_validator_rules.specs.expression.operator.Op as op
-use Rattle.wasm_operator_validator_rules.specs.expression.Code.{plain, nested}
+use Rattle.wasm_operators_enums.specs.declared.control.ControlOperator.TheVariants as control
+use Rattle.wasm_operators_enums.specs.declared.bulk.BulkOperator.TheVariants as bulk
+use Rattle.wasm_operators_enums.specs.Op as op
+use Rattle.wasm_operators_encoding.specs.expressions.Code.{plain, nested}
 use Rattle.wasm_operator_validator_rules.specs.Context.{Context}
 use Rattle.wasm_operator_validator_rules.specs.worked.Codes.{end, constant, sum, drop, get, set}
 use Rattle.wasm_operator_validator_soundness.specs.Values.{Value}

@@ -1,7 +1,7 @@
 -- What an attempt leaves once it is taken back.
 use Rattle.std.proofs.Common.{◌≡◌, Option, refl, sym, ap, ◌∙◌}
-use Rattle.wasm_types.specs.error.declared.error.ErrorKind.{ErrorKind}
-use Rattle.wasm_operator_validator_state.specs.expression.operator.Op.{Op}
+use Rattle.wasm_types.specs.decoding.declared.error.ErrorKind.{ErrorKind}
+use Rattle.wasm_operators_enums.specs.Op.{Op}
 use Rattle.wasm_operator_validator_state.specs.resources.Meaning.{Meaning}
 use Rattle.wasm_operator_validator_state.specs.State.{Given, Saved, State, Checks, Visits}
 use Rattle.wasm_operator_validator_stacks.specs.Layout.{state_of, none_saved, restored, rolled_back, IsBegun, Begins}

@@ -1,6 +1,6 @@
 -- What a type that a module writes stands for.
 use Rattle.std.proofs.Common.{◌≡◌, ℕ, refl, ap}
-use Rattle.wasm_types.specs.indices.declared.index.UnpackedIndex.TheVariants as index
+use Rattle.wasm_types.specs.trees.declared.index.UnpackedIndex.TheVariants as index
 use Rattle.wasm_types.specs.trees.Types.{ref, heap_map, value_map}
 use Rattle.wasm_types.specs.trees.Each.{EachHeap, EachValue}
 use Rattle.wasm_types.specs.values.declared.heap.HeapType.{HeapType}
@@ -9,8 +9,8 @@ use Rattle.wasm_types.specs.values.declared.value.ValType.{ValType}
 use Rattle.wasm_types.specs.values.declared.value.ValType.TheVariants as vals
 use Rattle.wasm_types.specs.values.Trees.{heap_of}
 use Rattle.wasm_types.specs.values.Values.{value_of}
-use Rattle.wasm_operator_validator_state.specs.rules.Operands.{ValueType}
-use Rattle.wasm_operator_validator_state.specs.rules.Context.{IsTypeIndex, IsType, written_type}
+use Rattle.wasm_operator_validator_rules.specs.Operands.{ValueType}
+use Rattle.wasm_operator_validator_rules.specs.Context.{IsTypeIndex, IsType, written_type}
 use Rattle.wasm_operator_validator_state.specs.resources.Meaning.{Meaning, type_in, named_type}
 
 heap_written : (m : Meaning) (h : HeapType) → EachHeap (IsTypeIndex m.«module») (heap_of h) → heap_map (named_type m) (heap_of h) ≡ heap_map (written_type m.«module») (heap_of h)

@@ -3,8 +3,8 @@ use Rattle.std.specs.Prelude.{◌≡◌, ◌≤◌, ℕ, true, false, List, [], 
 use Rattle.wasm_operator_validator_state.specs.declared.operand.MaybeType.{MaybeType}
 use Rattle.wasm_operator_validator_state.specs.declared.operand.MaybeType.TheVariants as maybe
 use Rattle.wasm_operator_validator_state.specs.declared.frame.Frame.{Frame}
-use Rattle.wasm_operator_validator_state.specs.resources.expression.immediates.declared.block.BlockType.TheVariants as block
-use Rattle.wasm_operator_validator_state.specs.resources.expression.immediates.declared.frames.FrameKind.TheVariants as frames
+use Rattle.wasm_operators_immediates.specs.declared.block.BlockType.TheVariants as block
+use Rattle.wasm_operators_immediates.specs.declared.frames.FrameKind.TheVariants as frames
 use Rattle.wasm_operator_validator_state.specs.attempts.Log.{Stacks, Log, begun, undone, with_set}
 
 -- a loop that is reached, and that is not, over no operands

@@ -1,13 +1,13 @@
 -- What the check of an operator promises follows from its entry and from what it decides, and a visit's promise from its check's.
 use Rattle.std.proofs.Common.{◌≡◌, ◌∙◌, Bool, true, false, Option, Some, None, refl, sym}
-use Rattle.wasm_types.specs.error.declared.error.ErrorKind.{ErrorKind}
-use Rattle.wasm_types.specs.error.declared.error.ErrorKind.TheVariants as kinds
-use Rattle.wasm_types.specs.error.Denials.{Denies}
-use Rattle.wasm_operator_validator_resources.specs.expression.info.declared.proposal.Proposal.{Proposal}
-use Rattle.wasm_operator_validator_resources.specs.expression.info.declared.proposal.Proposal.TheVariants as proposals
-use Rattle.wasm_operator_validator_resources.specs.expression.operator.Op.{Op}
-use Rattle.wasm_operator_validator_resources.specs.expression.operator.declared.role.Role.TheVariants as role
-use Rattle.wasm_operator_validator_resources.specs.expression.operator.Roles.{role_of}
+use Rattle.wasm_types.specs.decoding.declared.error.ErrorKind.{ErrorKind}
+use Rattle.wasm_types.specs.decoding.declared.error.ErrorKind.TheVariants as kinds
+use Rattle.wasm_types.specs.decoding.Denials.{Denies}
+use Rattle.wasm_operators_immediates.specs.declared.proposal.Proposal.{Proposal}
+use Rattle.wasm_operators_immediates.specs.declared.proposal.Proposal.TheVariants as proposals
+use Rattle.wasm_operators_enums.specs.Op.{Op}
+use Rattle.wasm_operators_enums.specs.declared.role.Role.TheVariants as role
+use Rattle.wasm_operators_enums.specs.Roles.{role_of}
 use Rattle.wasm_operator_validator_resources.specs.Meaning.{Meaning}
 use Rattle.wasm_operator_validator_state.specs.Refusals.{kind_of}
 use Rattle.wasm_operator_validator_state.specs.declared.refusal.Refusal.{Refusal}

@@ -1,18 +1,18 @@
 -- What is accepted where a clause of an older `try` begins, and where `delegate` ends one.
 use Rattle.std.proofs.Common.{◌≡◌, ◌↔◌, ◌∙◌, ℕ, List, [], ◌∷◌, ◌++◌, Bool, true, false, Option, Some, refl, sym, ap, subst, append-nil}
-use Rattle.wasm_operator_validator_resources.specs.expression.immediates.declared.block.BlockType.{BlockType}
-use Rattle.wasm_operator_validator_resources.specs.expression.immediates.declared.frames.FrameKind.{FrameKind}
-use Rattle.wasm_operator_validator_resources.specs.expression.immediates.declared.frames.FrameKind.TheVariants as frames
-use Rattle.wasm_operator_validator_resources.specs.expression.operator.Op as op
-use Rattle.wasm_operator_validator_resources.specs.expression.operator.Op.{Op}
-use Rattle.wasm_operator_validator_resources.specs.expression.operator.declared.role.Role.TheVariants as role
-use Rattle.wasm_operator_validator_resources.specs.expression.operator.declared.role.Effect.{Effect}
-use Rattle.wasm_operator_validator_resources.specs.expression.operator.declared.role.Effect.TheVariants as effects
-use Rattle.wasm_operator_validator_resources.specs.expression.operator.Roles.{role_of, clause, effect}
-use Rattle.wasm_operator_validator_resources.specs.expression.Code.{Code, close, plain, nested, turn, walk, IsIn}
-use Rattle.wasm_operator_validator_resources.specs.rules.Operands.{ValueType, Operand, AllBelow, stack}
-use Rattle.wasm_operator_validator_resources.specs.rules.Context.{Context, Initialised, Signature, Frame, in_clause, is_catch}
-use Rattle.wasm_operator_validator_resources.specs.rules.Typed.{MayClose, EndsAt, Turns, part_kind, other_part, in_part, Typed}
+use Rattle.wasm_operators_immediates.specs.declared.block.BlockType.{BlockType}
+use Rattle.wasm_operators_immediates.specs.declared.frames.FrameKind.{FrameKind}
+use Rattle.wasm_operators_immediates.specs.declared.frames.FrameKind.TheVariants as frames
+use Rattle.wasm_operators_enums.specs.Op as op
+use Rattle.wasm_operators_enums.specs.Op.{Op}
+use Rattle.wasm_operators_enums.specs.declared.role.Role.TheVariants as role
+use Rattle.wasm_operators_enums.specs.declared.role.Effect.{Effect}
+use Rattle.wasm_operators_enums.specs.declared.role.Effect.TheVariants as effects
+use Rattle.wasm_operators_enums.specs.Roles.{role_of, clause, effect}
+use Rattle.wasm_operators_encoding.specs.expressions.Code.{Code, close, plain, nested, turn, walk, IsIn}
+use Rattle.wasm_operator_validator_rules.specs.Operands.{ValueType, Operand, AllBelow, stack}
+use Rattle.wasm_operator_validator_rules.specs.Context.{Context, Initialised, Signature, Frame, in_clause, is_catch}
+use Rattle.wasm_operator_validator_rules.specs.Typed.{MayClose, EndsAt, Turns, part_kind, other_part, in_part, Typed}
 use Rattle.wasm_operator_validator_resources.specs.Meaning.{Meaning}
 use Rattle.wasm_operator_validator_state.specs.declared.frame.Frame.{Frame as OpenFrame}
 use Rattle.wasm_operator_validator_state.specs.State.{Given, Open, State, Covers, signature_of, initialised, results, context, frame_of, InFrame, ClosesAll, Accepts}

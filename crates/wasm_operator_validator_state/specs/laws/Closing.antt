@@ -1,21 +1,21 @@
 -- What an operator does in a frame, by its role.
 use Rattle.std.proofs.Common.{◌≡◌, ◌↔◌, ◌∙◌, List, [], ◌∷◌, ◌++◌, Option, Some, refl, sym, ap, subst}
-use Rattle.wasm_operator_validator_resources.specs.expression.immediates.declared.frames.FrameKind.{FrameKind}
-use Rattle.wasm_operator_validator_resources.specs.expression.immediates.declared.frames.FrameKind.TheVariants as frames
-use Rattle.wasm_operator_validator_resources.specs.expression.groups.declared.control.ControlOperator.TheVariants as control
-use Rattle.wasm_operator_validator_resources.specs.expression.operator.Op as op
-use Rattle.wasm_operator_validator_resources.specs.expression.operator.Op.{Op}
-use Rattle.wasm_operator_validator_resources.specs.expression.operator.declared.role.Role.{Role}
-use Rattle.wasm_operator_validator_resources.specs.expression.operator.declared.role.Role.TheVariants as role
-use Rattle.wasm_operator_validator_resources.specs.expression.operator.declared.role.Effect.{Effect}
-use Rattle.wasm_operator_validator_resources.specs.expression.operator.declared.role.Effect.TheVariants as effects
-use Rattle.wasm_operator_validator_resources.specs.expression.operator.Roles.{role_of, effect}
-use Rattle.wasm_operator_validator_resources.specs.expression.Code.{Code, close, plain, nested, turn, walk, IsIn}
-use Rattle.wasm_operator_validator_resources.specs.rules.Operands.{ValueType, Operand, AllBelow, stack}
+use Rattle.wasm_operators_immediates.specs.declared.frames.FrameKind.{FrameKind}
+use Rattle.wasm_operators_immediates.specs.declared.frames.FrameKind.TheVariants as frames
+use Rattle.wasm_operators_enums.specs.declared.control.ControlOperator.TheVariants as control
+use Rattle.wasm_operators_enums.specs.Op as op
+use Rattle.wasm_operators_enums.specs.Op.{Op}
+use Rattle.wasm_operators_enums.specs.declared.role.Role.{Role}
+use Rattle.wasm_operators_enums.specs.declared.role.Role.TheVariants as role
+use Rattle.wasm_operators_enums.specs.declared.role.Effect.{Effect}
+use Rattle.wasm_operators_enums.specs.declared.role.Effect.TheVariants as effects
+use Rattle.wasm_operators_enums.specs.Roles.{role_of, effect}
+use Rattle.wasm_operators_encoding.specs.expressions.Code.{Code, close, plain, nested, turn, walk, IsIn}
+use Rattle.wasm_operator_validator_rules.specs.Operands.{ValueType, Operand, AllBelow, stack}
 use Rattle.wasm_operator_validator_state.specs.laws.Operands.{all_below_trans}
-use Rattle.wasm_operator_validator_resources.specs.rules.Context.{Context, Initialised, Signature, Frame, inside, label_of}
-use Rattle.wasm_operator_validator_resources.specs.rules.Row.{after}
-use Rattle.wasm_operator_validator_resources.specs.rules.Typed.{Steps, OpensFrame, entry_of, MayClose, Turns, other_part, in_part, Typed}
+use Rattle.wasm_operator_validator_rules.specs.Context.{Context, Initialised, Signature, Frame, inside, label_of}
+use Rattle.wasm_operator_validator_rules.specs.Row.{after}
+use Rattle.wasm_operator_validator_rules.specs.Typed.{Steps, OpensFrame, entry_of, MayClose, Turns, other_part, in_part, Typed}
 use Rattle.wasm_operator_validator_state.specs.State.{InFrame}
 
 -- code that takes operands takes those below them

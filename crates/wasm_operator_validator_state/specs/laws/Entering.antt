@@ -2,19 +2,19 @@
 use Rattle.std.proofs.Common.{◌≡◌, ◌↔◌, ◌∙◌, ◌==◌, ℕ, Bool, true, false, IsTrue, List, [], ◌∷◌, arith, refl, sym, subst, eq-eqb, bit_and}
 use Rattle.std.proofs.lemmas.Bool.{eqb-true}
 use Rattle.std.proofs.lemmas.Nat.{and_le_r}
-use Rattle.wasm_types.specs.error.declared.error.ErrorKind.{ErrorKind}
-use Rattle.wasm_types.specs.features.Features.{Floats}
+use Rattle.wasm_types.specs.decoding.declared.error.ErrorKind.{ErrorKind}
+use Rattle.wasm_types.specs.settings.Features.{Floats}
 use Rattle.wasm_types.specs.trees.Gates.{Has}
-use Rattle.wasm_types.specs.error.Denials.{Denies}
-use Rattle.wasm_types.specs.error.DenialLaws.{denies_from}
-use Rattle.wasm_operator_validator_resources.specs.expression.info.Info.{features_of}
-use Rattle.wasm_operator_validator_resources.specs.expression.info.declared.proposal.Proposal.{Proposal}
-use Rattle.wasm_operator_validator_resources.specs.expression.info.declared.proposal.Proposal.TheVariants as proposals
-use Rattle.wasm_operator_validator_resources.specs.expression.operator.Op.{Op}
-use Rattle.wasm_operator_validator_resources.specs.expression.operator.Table.{info_of}
-use Rattle.wasm_operator_validator_resources.specs.expression.operator.declared.role.Role.TheVariants as role
-use Rattle.wasm_operator_validator_resources.specs.expression.operator.Roles.{role_of}
-use Rattle.wasm_operator_validator_resources.specs.rules.Row.{IsEnabled, names_float}
+use Rattle.wasm_types.specs.decoding.Denials.{Denies}
+use Rattle.wasm_types.specs.decoding.DenialLaws.{denies_from}
+use Rattle.wasm_operators_immediates.specs.Info.{features_of}
+use Rattle.wasm_operators_immediates.specs.declared.proposal.Proposal.{Proposal}
+use Rattle.wasm_operators_immediates.specs.declared.proposal.Proposal.TheVariants as proposals
+use Rattle.wasm_operators_enums.specs.Op.{Op}
+use Rattle.wasm_operators_enums.specs.Table.{info_of}
+use Rattle.wasm_operators_enums.specs.declared.role.Role.TheVariants as role
+use Rattle.wasm_operators_enums.specs.Roles.{role_of}
+use Rattle.wasm_operator_validator_rules.specs.Row.{IsEnabled, names_float}
 use Rattle.wasm_operator_validator_resources.specs.Meaning.{Meaning}
 use Rattle.wasm_operator_validator_state.specs.State.{Open, State, initialised, ClosesAll, Accepts}
 use Rattle.wasm_operator_validator_state.specs.Steps.{IsOpen}

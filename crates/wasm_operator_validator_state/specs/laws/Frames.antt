@@ -1,14 +1,14 @@
 -- What is accepted where operands were put on, where a frame begins, and where one ends.
 use Rattle.std.proofs.Common.{◌≡◌, ◌↔◌, ◌∙◌, ℕ, List, [], ◌∷◌, ◌++◌, Bool, true, false, refl, sym, ap, subst, append-nil, map}
-use Rattle.wasm_operator_validator_resources.specs.expression.immediates.declared.block.BlockType.{BlockType}
-use Rattle.wasm_operator_validator_resources.specs.expression.immediates.declared.frames.FrameKind.{FrameKind}
-use Rattle.wasm_operator_validator_resources.specs.expression.immediates.declared.frames.FrameKind.TheVariants as frames
-use Rattle.wasm_operator_validator_resources.specs.expression.operator.Op.{Op}
-use Rattle.wasm_operator_validator_resources.specs.expression.operator.declared.role.Role.TheVariants as role
-use Rattle.wasm_operator_validator_resources.specs.expression.operator.Roles.{role_of}
-use Rattle.wasm_operator_validator_resources.specs.rules.Operands.{Operand, AllBelow, stack}
-use Rattle.wasm_operator_validator_resources.specs.rules.Context.{Context, Initialised, Signature, inside, is_catch, label_of}
-use Rattle.wasm_operator_validator_resources.specs.rules.Typed.{OpensFrame, entry_of}
+use Rattle.wasm_operators_immediates.specs.declared.block.BlockType.{BlockType}
+use Rattle.wasm_operators_immediates.specs.declared.frames.FrameKind.{FrameKind}
+use Rattle.wasm_operators_immediates.specs.declared.frames.FrameKind.TheVariants as frames
+use Rattle.wasm_operators_enums.specs.Op.{Op}
+use Rattle.wasm_operators_enums.specs.declared.role.Role.TheVariants as role
+use Rattle.wasm_operators_enums.specs.Roles.{role_of}
+use Rattle.wasm_operator_validator_rules.specs.Operands.{Operand, AllBelow, stack}
+use Rattle.wasm_operator_validator_rules.specs.Context.{Context, Initialised, Signature, inside, is_catch, label_of}
+use Rattle.wasm_operator_validator_rules.specs.Typed.{OpensFrame, entry_of}
 use Rattle.wasm_operator_validator_resources.specs.Meaning.{Meaning}
 use Rattle.wasm_operator_validator_state.specs.declared.operand.MaybeType.{MaybeType}
 use Rattle.wasm_operator_validator_state.specs.declared.frame.Frame.{Frame as OpenFrame}

@@ -3,7 +3,7 @@ use Rattle.std.proofs.Common.{◌≡◌, ◌∙◌, ◌==◌, ◌||◌, ◌++◌
 use Rattle.std.specs.List.{list_any}
 use Rattle.std.proofs.lemmas.Bool.{eqb-true}
 use Rattle.std.proofs.lemmas.List.Folds.{list_any-append}
-use Rattle.wasm_operator_validator_resources.specs.rules.Context.{initialised_at_first}
+use Rattle.wasm_operator_validator_rules.specs.Context.{initialised_at_first}
 use Rattle.wasm_operator_validator_resources.specs.Meaning.{Meaning}
 use Rattle.wasm_operator_validator_state.specs.State.{Given, State, types_in, initialised}
 use Rattle.wasm_operator_validator_state.specs.Steps.{with_init}

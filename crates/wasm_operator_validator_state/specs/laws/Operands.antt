@@ -4,7 +4,7 @@ use Rattle.wasm_types.specs.trees.Types.{ValueOf, number, ref}
 use Rattle.wasm_types.specs.trees.Trees.{TypeTree}
 use Rattle.wasm_types.specs.trees.Below.{Below}
 use Rattle.wasm_types.specs.trees.laws.Below.{below_reflexive, below_transitive}
-use Rattle.wasm_operator_validator_resources.specs.rules.Operands.{Operand, bottom, some_reference, known, IsReference, OperandBelow, AllBelow}
+use Rattle.wasm_operator_validator_rules.specs.Operands.{Operand, bottom, some_reference, known, IsReference, OperandBelow, AllBelow}
 
 -- what is above a reference is a reference
 pub reference_above : (t u : ValueOf TypeTree) → IsReference (known t) → Below t u → IsReference (known u)

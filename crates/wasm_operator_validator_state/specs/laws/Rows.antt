@@ -1,15 +1,15 @@
 -- How a visit's contract follows from rows: what the code leaves some row gives, and it is the least.
 use Rattle.std.proofs.Common.{◌≡◌, ◌↔◌, List, [], ◌∷◌, ◌++◌, refl, subst, reverse, Option, Some, None}
-use Rattle.wasm_types.specs.error.declared.error.ErrorKind.{ErrorKind}
-use Rattle.wasm_operator_validator_resources.specs.expression.operator.Op.{Op}
-use Rattle.wasm_operator_validator_resources.specs.expression.operator.declared.role.Role.TheVariants as role
-use Rattle.wasm_operator_validator_resources.specs.expression.operator.Roles.{role_of}
-use Rattle.wasm_operator_validator_resources.specs.rules.Operands.{ValueType, Operand, AllBelow, all_known, stack}
+use Rattle.wasm_types.specs.decoding.declared.error.ErrorKind.{ErrorKind}
+use Rattle.wasm_operators_enums.specs.Op.{Op}
+use Rattle.wasm_operators_enums.specs.declared.role.Role.TheVariants as role
+use Rattle.wasm_operators_enums.specs.Roles.{role_of}
+use Rattle.wasm_operator_validator_rules.specs.Operands.{ValueType, Operand, AllBelow, all_known, stack}
 use Rattle.wasm_operator_validator_state.specs.laws.Operands.{all_below_refl}
 use Rattle.wasm_operator_validator_resources.specs.Meaning.{Meaning}
-use Rattle.wasm_types.specs.error.DenialLaws.{denies_from}
-use Rattle.wasm_operator_validator_resources.specs.rules.Context.{Initialised}
-use Rattle.wasm_operator_validator_resources.specs.rules.Row.{Takes, Row, after}
+use Rattle.wasm_types.specs.decoding.DenialLaws.{denies_from}
+use Rattle.wasm_operator_validator_rules.specs.Context.{Initialised}
+use Rattle.wasm_operator_validator_rules.specs.Row.{Takes, Row, after}
 use Rattle.wasm_operator_validator_state.specs.Refusals.{Does}
 use Rattle.wasm_operator_validator_state.specs.State.{State, initialised, context, Accepts, Decides}
 use Rattle.wasm_operator_validator_state.specs.Steps.{Stacks, IsOpen, SameFrames, Same, MayPop, Exchanged}

@@ -1,11 +1,11 @@
 -- Which operators may come where a body begins, and which not.
 use Rattle.std.specs.Prelude.{false, List, [], ◌∷◌, None}
 use Rattle.wasm_types.specs.values.declared.value.ValType.TheVariants.{I32}
-use Rattle.wasm_operator_validator_resources.specs.expression.immediates.declared.block.BlockType.{BlockType}
-use Rattle.wasm_operator_validator_resources.specs.expression.immediates.declared.block.BlockType.TheVariants as block
-use Rattle.wasm_operator_validator_resources.specs.expression.groups.declared.control.ControlOperator.TheVariants as control
-use Rattle.wasm_operator_validator_resources.specs.expression.operator.Op as op
-use Rattle.wasm_operator_validator_resources.specs.expression.operator.Op.{Op}
+use Rattle.wasm_operators_immediates.specs.declared.block.BlockType.{BlockType}
+use Rattle.wasm_operators_immediates.specs.declared.block.BlockType.TheVariants as block
+use Rattle.wasm_operators_enums.specs.declared.control.ControlOperator.TheVariants as control
+use Rattle.wasm_operators_enums.specs.Op as op
+use Rattle.wasm_operators_enums.specs.Op.{Op}
 use Rattle.wasm_operator_validator_resources.specs.Meaning.{Meaning}
 use Rattle.wasm_operator_validator_state.specs.State.{State, Accepts}
 use Rattle.wasm_operator_validator_state.specs.Bodies.{fresh}

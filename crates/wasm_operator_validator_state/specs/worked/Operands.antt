@@ -3,7 +3,7 @@ use Rattle.std.specs.Prelude.{true, false, [], ◌∷◌, Some, None}
 use Rattle.wasm_types.specs.trees.Types.{i32, i64, number, ref, abstract, any, struct, extern}
 use Rattle.wasm_types.specs.values.declared.value.ValType.TheVariants.{I32}
 use Rattle.wasm_types.specs.values.declared.heap.AbstractHeapType.TheVariants as heap
-use Rattle.wasm_operator_validator_resources.specs.rules.Operands.{Operand, bottom, some_reference, known}
+use Rattle.wasm_operator_validator_rules.specs.Operands.{Operand, bottom, some_reference, known}
 use Rattle.wasm_operator_validator_resources.specs.Meaning.{Meaning}
 use Rattle.wasm_operator_validator_state.specs.declared.operand.MaybeType.TheVariants as maybe
 use Rattle.wasm_operator_validator_state.specs.State.{Stands, Covers}

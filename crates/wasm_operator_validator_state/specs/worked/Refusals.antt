@@ -1,7 +1,7 @@
 -- The kinds of refusals.
 use Rattle.std.specs.Prelude.{◌≡◌, ℕ}
-use Rattle.wasm_types.specs.error.declared.error.ErrorKind.TheVariants as kinds
-use Rattle.wasm_types.specs.features.declared.WasmFeatures.{WasmFeatures}
+use Rattle.wasm_types.specs.decoding.declared.error.ErrorKind.TheVariants as kinds
+use Rattle.wasm_types.specs.settings.declared.WasmFeatures.{WasmFeatures}
 use Rattle.wasm_types.specs.values.declared.value.ValType.TheVariants.{I32}
 use Rattle.wasm_operator_validator_state.specs.declared.operand.MaybeType.TheVariants as maybe
 use Rattle.wasm_operator_validator_state.specs.declared.refusal.Reason.TheVariants as reasons

@@ -2,7 +2,7 @@
 use Rattle.std.specs.Prelude.{◌≡◌, ℕ, List, [], ◌∷◌, length}
 use Rattle.wasm_types.specs.decoding.declared.Refusal.TheVariants.{Other}
 use Rattle.wasm_types.specs.decoding.Decoder.{State, Decoder, Done, Short, Fault}
-use Rattle.wasm_types.specs.limits.Settings.{no_features}
+use Rattle.wasm_types.specs.settings.Settings.{no_features}
 use Rattle.wasm_types.specs.values.declared.value.ValType.TheVariants.{I32, I64, F64}
 use Rattle.wasm_operators_bodies.specs.Locals.{group_of, locals}
 use Rattle.wasm_operators_bodies.specs.Bodies.{body_bytes, OperatorsBegin}

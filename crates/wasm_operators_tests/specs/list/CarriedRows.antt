@@ -1,19 +1,19 @@
 -- What each operator carries behind its opcode, in the order of the bytes, as the list has it (written by
 -- docs/operators/make_list_rows.py).
 use Rattle.std.specs.Prelude.{List, [], ◌∷◌}
-use Rattle.wasm_operators_operator.specs.immediates.Kinds.{Types, Functions, Tables, Memories, Globals, Locals, Tags, Elements, DataSegments, Fields, Plain, Atomic, ReadModifyWrite}
-use Rattle.wasm_operators_operator.specs.immediates.Immediates.{Index, IndexOrZero, Label, Block, BranchTable, MemoryArgument, MemoryOrdering, Heap, CastBranch, ValueTypes, I32Constant}
-use Rattle.wasm_operators_operator.specs.immediates.Immediates.{I64Constant, F32Constant, F64Constant, V128Constant, Lane, Lanes, Count, TryTable, Handlers, ZeroByte}
-use Rattle.wasm_operators_operator.specs.groups.declared.control.ControlOperator.TheVariants as control
-use Rattle.wasm_operators_operator.specs.groups.declared.memory.MemoryOperator.TheVariants as memory
-use Rattle.wasm_operators_operator.specs.groups.declared.constant.ConstOperator.TheVariants as const
-use Rattle.wasm_operators_operator.specs.groups.declared.bulk.BulkOperator.TheVariants as bulk
-use Rattle.wasm_operators_operator.specs.groups.declared.gc.GcOperator.TheVariants as gc
-use Rattle.wasm_operators_operator.specs.groups.declared.gc.DescriptorOperator.TheVariants as descriptor
-use Rattle.wasm_operators_operator.specs.groups.declared.atomic.AtomicOperator.TheVariants as atomic
-use Rattle.wasm_operators_operator.specs.groups.declared.atomic.SharedOperator.TheVariants as shared
-use Rattle.wasm_operators_operator.specs.vectors.declared.vector.SimdOperator.TheVariants as simd
-use Rattle.wasm_operators_operator.specs.Op as op
+use Rattle.wasm_operators_immediates.specs.Kinds.{Types, Functions, Tables, Memories, Globals, Locals, Tags, Elements, DataSegments, Fields, Plain, Atomic, ReadModifyWrite}
+use Rattle.wasm_operators_immediates.specs.Immediates.{Index, IndexOrZero, Label, Block, BranchTable, MemoryArgument, MemoryOrdering, Heap, CastBranch, ValueTypes, I32Constant, I64Constant}
+use Rattle.wasm_operators_immediates.specs.Immediates.{F32Constant, F64Constant, V128Constant, Lane, Lanes, Count, TryTable, Handlers, ZeroByte}
+use Rattle.wasm_operators_enums.specs.declared.control.ControlOperator.TheVariants as control
+use Rattle.wasm_operators_enums.specs.declared.memory.MemoryOperator.TheVariants as memory
+use Rattle.wasm_operators_enums.specs.declared.constant.ConstOperator.TheVariants as const
+use Rattle.wasm_operators_enums.specs.declared.bulk.BulkOperator.TheVariants as bulk
+use Rattle.wasm_operators_enums.specs.declared.gc.GcOperator.TheVariants as gc
+use Rattle.wasm_operators_enums.specs.declared.gc.DescriptorOperator.TheVariants as descriptor
+use Rattle.wasm_operators_enums.specs.declared.atomic.AtomicOperator.TheVariants as atomic
+use Rattle.wasm_operators_enums.specs.declared.atomic.SharedOperator.TheVariants as shared
+use Rattle.wasm_operators_enums.specs.declared.vector.SimdOperator.TheVariants as simd
+use Rattle.wasm_operators_enums.specs.Op as op
 use Rattle.wasm_operators_tests.specs.list.Listed.{Carried, Carries, carries, to_non_null, to_null}
 
 abbrev pub control_carries : Carried → List Carries

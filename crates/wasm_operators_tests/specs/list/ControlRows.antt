@@ -1,9 +1,9 @@
 -- Operators of control, exceptions and continuations, as the list has them (written by docs/operators/make_list_rows.py).
 use Rattle.std.specs.Prelude.{List, [], ◌∷◌, codes, None}
-use Rattle.wasm_operators_operator.specs.info.declared.proposal.Proposal.TheVariants as proposal
-use Rattle.wasm_operators_operator.specs.immediates.Kinds.{Index, IndexOrZero, Label, Block, BranchTable, ValueTypes, TryTable, Handlers, Types, Functions, Tables, Tags}
-use Rattle.wasm_operators_operator.specs.groups.declared.control.ControlOperator.TheVariants as control
-use Rattle.wasm_operators_operator.specs.Op as op
+use Rattle.wasm_operators_immediates.specs.declared.proposal.Proposal.TheVariants as proposal
+use Rattle.wasm_operators_immediates.specs.Kinds.{Index, IndexOrZero, Label, Block, BranchTable, ValueTypes, TryTable, Handlers, Types, Functions, Tables, Tags}
+use Rattle.wasm_operators_enums.specs.declared.control.ControlOperator.TheVariants as control
+use Rattle.wasm_operators_enums.specs.Op as op
 use Rattle.wasm_operators_tests.specs.list.Listed.{Carried, Listed, listed}
 
 abbrev pub control_rows : Carried → List Listed

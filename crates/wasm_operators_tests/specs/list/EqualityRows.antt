@@ -1,10 +1,10 @@
 -- `==` of operators and of tables of labels, worked.
 use Rattle.std.specs.Prelude.{◌≡◌, true, false, [], ◌∷◌, pos, negsuc}
-use Rattle.wasm_operators_operator.specs.immediates.Tables.{same_labels}
-use Rattle.wasm_operators_operator.specs.groups.declared.constant.ConstOperator.TheVariants as const
-use Rattle.wasm_operators_operator.specs.groups.declared.control.ControlOperator.TheVariants as control
-use Rattle.wasm_operators_operator.specs.declared.operator.Operator.TheVariants as operator
-use Rattle.wasm_operators_operator.specs.contracts.operator.OperatorPartialEq.TheImpl as equality
+use Rattle.wasm_operators_immediates.specs.Tables.{same_labels}
+use Rattle.wasm_operators_enums.specs.declared.constant.ConstOperator.TheVariants as const
+use Rattle.wasm_operators_enums.specs.declared.control.ControlOperator.TheVariants as control
+use Rattle.wasm_operators_enums.specs.declared.operator.Operator.TheVariants as operator
+use Rattle.wasm_operators_enums.specs.contracts.operator.OperatorPartialEq.TheImpl as equality
 
 pub record EqualityRows : Type 0 where
   pub same_constant : equality.ghosts.eq (operator.Const (const.I32Const (pos 1))) (operator.Const (const.I32Const (pos 1))) ≡ true

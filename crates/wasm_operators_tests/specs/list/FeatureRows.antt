@@ -1,7 +1,7 @@
 -- The features that each proposal's operators ask for, as the bits that `WasmFeatures` has of them.
 use Rattle.std.specs.Prelude.{◌≡◌}
-use Rattle.wasm_operators_operator.specs.info.Info.{features_of}
-use Rattle.wasm_operators_operator.specs.info.declared.proposal.Proposal.TheVariants as proposal
+use Rattle.wasm_operators_immediates.specs.Info.{features_of}
+use Rattle.wasm_operators_immediates.specs.declared.proposal.Proposal.TheVariants as proposal
 
 pub record FeatureRows : Type 0 where
   pub mvp : features_of proposal.Mvp ≡ 0x0

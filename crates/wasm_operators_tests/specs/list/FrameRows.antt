@@ -1,10 +1,10 @@
 -- Which operators may come next where a frame is the innermost that is open, worked by hand (WebAssembly 3.0, binary format,
 -- instructions; the older exceptions by their proposal).
 use Rattle.std.specs.Prelude.{◌≡◌, true, false, Some, None}
-use Rattle.wasm_operators_operator.specs.immediates.declared.frames.FrameKind.TheVariants.{Block, If, Else, Loop, TryTable, LegacyTry, LegacyCatch, LegacyCatchAll}
-use Rattle.wasm_operators_operator.specs.groups.declared.control.ControlOperator.TheVariants as control
-use Rattle.wasm_operators_operator.specs.Op as op
-use Rattle.wasm_operators_operator.specs.Roles.{fits}
+use Rattle.wasm_operators_immediates.specs.declared.frames.FrameKind.TheVariants.{Block, If, Else, Loop, TryTable, LegacyTry, LegacyCatch, LegacyCatchAll}
+use Rattle.wasm_operators_enums.specs.declared.control.ControlOperator.TheVariants as control
+use Rattle.wasm_operators_enums.specs.Op as op
+use Rattle.wasm_operators_enums.specs.Roles.{fits}
 
 pub record FrameRows : Type 0 where
   pub else_in_if : fits (op.Control control.Else) (Some If) ≡ true

@@ -1,10 +1,10 @@
 -- Operators of aggregates, casts and descriptors, as the list has them (written by docs/operators/make_list_rows.py).
 use Rattle.std.specs.Prelude.{List, [], ◌∷◌, codes, Some, None}
-use Rattle.wasm_operators_operator.specs.info.declared.proposal.Proposal.TheVariants as proposal
-use Rattle.wasm_operators_operator.specs.immediates.Kinds.{Index, Heap, CastBranch, Count, Types, Elements, DataSegments, Fields}
-use Rattle.wasm_operators_operator.specs.groups.declared.gc.GcOperator.TheVariants as gc
-use Rattle.wasm_operators_operator.specs.groups.declared.gc.DescriptorOperator.TheVariants as descriptor
-use Rattle.wasm_operators_operator.specs.Op as op
+use Rattle.wasm_operators_immediates.specs.declared.proposal.Proposal.TheVariants as proposal
+use Rattle.wasm_operators_immediates.specs.Kinds.{Index, Heap, CastBranch, Count, Types, Elements, DataSegments, Fields}
+use Rattle.wasm_operators_enums.specs.declared.gc.GcOperator.TheVariants as gc
+use Rattle.wasm_operators_enums.specs.declared.gc.DescriptorOperator.TheVariants as descriptor
+use Rattle.wasm_operators_enums.specs.Op as op
 use Rattle.wasm_operators_tests.specs.list.Listed.{Carried, Listed, listed}
 
 abbrev pub gc_rows : Carried → List Listed

@@ -5,19 +5,19 @@ use Rattle.wasm_types.specs.reader.declared.words.Ieee64.{Ieee64}
 use Rattle.wasm_types.specs.values.declared.heap.HeapType.{HeapType}
 use Rattle.wasm_types.specs.values.declared.value.ValType.{ValType}
 use Rattle.wasm_types.specs.values.Reference.{Reference}
-use Rattle.wasm_operators_operator.specs.info.Info.{Info}
-use Rattle.wasm_operators_operator.specs.info.declared.proposal.Proposal.{Proposal}
-use Rattle.wasm_operators_operator.specs.immediates.declared.block.BlockType.{BlockType}
-use Rattle.wasm_operators_operator.specs.immediates.declared.handlers.Handle.{Handle}
-use Rattle.wasm_operators_operator.specs.immediates.declared.memory.MemArg.{MemArg}
-use Rattle.wasm_operators_operator.specs.immediates.declared.memory.Ordering.{Ordering}
-use Rattle.wasm_operators_operator.specs.immediates.declared.vector.V128.{V128}
-use Rattle.wasm_operators_operator.specs.immediates.Tables.{Labels, CatchTable}
-use Rattle.wasm_operators_operator.specs.immediates.Kinds.{Kind}
-use Rattle.wasm_operators_operator.specs.immediates.Immediates.{Immediate}
-use Rattle.wasm_operators_operator.specs.Op.{Op}
-use Rattle.wasm_operators_operator.specs.Table.{info_of}
-use Rattle.wasm_operators_operator.specs.Immediates.{immediates_of, kinds_of}
+use Rattle.wasm_operators_immediates.specs.Info.{Info}
+use Rattle.wasm_operators_immediates.specs.declared.proposal.Proposal.{Proposal}
+use Rattle.wasm_operators_immediates.specs.declared.block.BlockType.{BlockType}
+use Rattle.wasm_operators_immediates.specs.declared.handlers.Handle.{Handle}
+use Rattle.wasm_operators_immediates.specs.declared.memory.MemArg.{MemArg}
+use Rattle.wasm_operators_immediates.specs.declared.memory.Ordering.{Ordering}
+use Rattle.wasm_operators_immediates.specs.declared.vector.V128.{V128}
+use Rattle.wasm_operators_immediates.specs.Tables.{Labels, CatchTable}
+use Rattle.wasm_operators_immediates.specs.Kinds.{Kind}
+use Rattle.wasm_operators_immediates.specs.Immediates.{Immediate}
+use Rattle.wasm_operators_enums.specs.Op.{Op}
+use Rattle.wasm_operators_enums.specs.Table.{info_of}
+use Rattle.wasm_operators_enums.specs.Immediates.{immediates_of, kinds_of}
 
 -- a value for each field of an operator, by its type: the rows hold whatever it is
 pub record Carried : Type 0 where

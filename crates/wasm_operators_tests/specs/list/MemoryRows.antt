@@ -1,12 +1,12 @@
 -- Operators of variables, memories, constants, tables and references, as the list has them (written by docs/operators/make_list_rows.py).
 use Rattle.std.specs.Prelude.{List, [], ◌∷◌, codes, Some, None}
-use Rattle.wasm_operators_operator.specs.info.declared.proposal.Proposal.TheVariants as proposal
-use Rattle.wasm_operators_operator.specs.immediates.Kinds.{Index, IndexOrZero, MemoryArgument, Heap, I32Constant, I64Constant, F32Constant, F64Constant, Functions, Tables, Memories, Globals}
-use Rattle.wasm_operators_operator.specs.immediates.Kinds.{Locals, Elements, DataSegments, Plain}
-use Rattle.wasm_operators_operator.specs.groups.declared.memory.MemoryOperator.TheVariants as memory
-use Rattle.wasm_operators_operator.specs.groups.declared.constant.ConstOperator.TheVariants as const
-use Rattle.wasm_operators_operator.specs.groups.declared.bulk.BulkOperator.TheVariants as bulk
-use Rattle.wasm_operators_operator.specs.Op as op
+use Rattle.wasm_operators_immediates.specs.declared.proposal.Proposal.TheVariants as proposal
+use Rattle.wasm_operators_immediates.specs.Kinds.{Index, IndexOrZero, MemoryArgument, Heap, I32Constant, I64Constant, F32Constant, F64Constant, Functions, Tables, Memories, Globals, Locals}
+use Rattle.wasm_operators_immediates.specs.Kinds.{Elements, DataSegments, Plain}
+use Rattle.wasm_operators_enums.specs.declared.memory.MemoryOperator.TheVariants as memory
+use Rattle.wasm_operators_enums.specs.declared.constant.ConstOperator.TheVariants as const
+use Rattle.wasm_operators_enums.specs.declared.bulk.BulkOperator.TheVariants as bulk
+use Rattle.wasm_operators_enums.specs.Op as op
 use Rattle.wasm_operators_tests.specs.list.Listed.{Carried, Listed, listed}
 
 abbrev pub memory_rows : Carried → List Listed

@@ -1,8 +1,8 @@
 -- Operators on numbers, as the list has them (written by docs/operators/make_list_rows.py).
 use Rattle.std.specs.Prelude.{List, [], ◌∷◌, codes, Some, None}
-use Rattle.wasm_operators_operator.specs.info.declared.proposal.Proposal.TheVariants as proposal
-use Rattle.wasm_operators_operator.specs.groups.declared.numeric.NumericOperator.TheVariants as numeric
-use Rattle.wasm_operators_operator.specs.Op as op
+use Rattle.wasm_operators_immediates.specs.declared.proposal.Proposal.TheVariants as proposal
+use Rattle.wasm_operators_enums.specs.declared.numeric.NumericOperator.TheVariants as numeric
+use Rattle.wasm_operators_enums.specs.Op as op
 use Rattle.wasm_operators_tests.specs.list.Listed.{Carried, Listed, listed}
 
 abbrev pub numeric_rows : Carried → List Listed

@@ -3,43 +3,43 @@
 use Rattle.std.specs.Prelude.{◌≡◌, ℕ, List, [], ◌∷◌, codes, true, false, Some, None, Vec, map}
 use Rattle.std.specs.declared.alloc.Global.{Global}
 use Rattle.wasm_types.specs.decoding.Decoder.{State}
-use Rattle.wasm_types.specs.limits.Settings.{no_features}
+use Rattle.wasm_types.specs.settings.Settings.{no_features}
 use Rattle.wasm_types.specs.values.declared.value.ValType.{ValType}
 use Rattle.wasm_types.specs.values.declared.value.ValType.TheVariants.{I32, I64}
-use Rattle.wasm_operators_operator.specs.info.Info.{told}
-use Rattle.wasm_operators_operator.specs.info.declared.info.OperatorInfo.{OperatorInfo}
-use Rattle.wasm_operators_operator.specs.info.declared.proposal.Proposal.TheVariants.{Simd as OnVectors}
-use Rattle.wasm_operators_operator.specs.immediates.declared.block.BlockType.{BlockType}
-use Rattle.wasm_operators_operator.specs.immediates.declared.handlers.TryTable.{TryTable}
-use Rattle.wasm_operators_operator.specs.immediates.declared.handlers.ResumeTable.{ResumeTable}
-use Rattle.wasm_operators_operator.specs.immediates.declared.frames.FrameKind.TheVariants as frames
-use Rattle.wasm_operators_operator.specs.immediates.Kinds as kind
-use Rattle.wasm_operators_operator.specs.immediates.Tables.{CatchTable, catch_table_of}
-use Rattle.wasm_operators_operator.specs.groups.declared.control.ControlOperator.{ControlOperator}
-use Rattle.wasm_operators_operator.specs.groups.declared.control.ControlOperator.TheVariants as control
-use Rattle.wasm_operators_operator.specs.groups.declared.control.ParametricOperator.TheVariants as parametric
-use Rattle.wasm_operators_operator.specs.groups.declared.exceptions.ExceptionOperator.TheVariants as exception
-use Rattle.wasm_operators_operator.specs.groups.declared.continuation.ContinuationOperator.TheVariants as continuation
-use Rattle.wasm_operators_operator.specs.groups.declared.memory.MemoryOperator.{MemoryOperator}
-use Rattle.wasm_operators_operator.specs.groups.declared.constant.ConstOperator.{ConstOperator}
-use Rattle.wasm_operators_operator.specs.groups.declared.bulk.BulkOperator.{BulkOperator}
-use Rattle.wasm_operators_operator.specs.groups.declared.numeric.NumericOperator.{NumericOperator}
-use Rattle.wasm_operators_operator.specs.groups.declared.gc.GcOperator.{GcOperator}
-use Rattle.wasm_operators_operator.specs.groups.declared.gc.DescriptorOperator.{DescriptorOperator}
-use Rattle.wasm_operators_operator.specs.groups.declared.atomic.AtomicOperator.{AtomicOperator}
-use Rattle.wasm_operators_operator.specs.groups.declared.atomic.SharedOperator.{SharedOperator}
-use Rattle.wasm_operators_operator.specs.vectors.declared.vector.SimdOperator.{SimdOperator}
-use Rattle.wasm_operators_operator.specs.vectors.declared.vector_numeric.SimdNumericOperator.{SimdNumericOperator}
-use Rattle.wasm_operators_operator.specs.declared.operator.Operator.TheVariants as operator
-use Rattle.wasm_operators_operator.specs.declared.role.Role.TheVariants.{Plain, Opens, Else, Catch, CatchAll, Delegate, End}
-use Rattle.wasm_operators_operator.specs.Op as op
-use Rattle.wasm_operators_operator.specs.Op.{op_of}
-use Rattle.wasm_operators_operator.specs.Immediates.{is_canonical}
-use Rattle.wasm_operators_operator.specs.Roles.{role_of}
-use Rattle.wasm_operators_decode_encoding.specs.Opcodes.{plain, prefixed}
-use Rattle.wasm_operators_reader.specs.decode.Memory.{has_list, keeps_list as keeps_list_by_kinds, keeps_list_at}
-use Rattle.wasm_operators_visit.specs.Memory.{keeps_list}
-use Rattle.wasm_operators_decode_codes.specs.OpcodeRoles.{role_at}
+use Rattle.wasm_operators_immediates.specs.Info.{told}
+use Rattle.wasm_operators_immediates.specs.declared.info.OperatorInfo.{OperatorInfo}
+use Rattle.wasm_operators_immediates.specs.declared.proposal.Proposal.TheVariants.{Simd as OnVectors}
+use Rattle.wasm_operators_immediates.specs.declared.block.BlockType.{BlockType}
+use Rattle.wasm_operators_immediates.specs.declared.handlers.TryTable.{TryTable}
+use Rattle.wasm_operators_immediates.specs.declared.handlers.ResumeTable.{ResumeTable}
+use Rattle.wasm_operators_immediates.specs.declared.frames.FrameKind.TheVariants as frames
+use Rattle.wasm_operators_immediates.specs.Kinds as kind
+use Rattle.wasm_operators_immediates.specs.Tables.{CatchTable, catch_table_of}
+use Rattle.wasm_operators_enums.specs.declared.control.ControlOperator.{ControlOperator}
+use Rattle.wasm_operators_enums.specs.declared.control.ControlOperator.TheVariants as control
+use Rattle.wasm_operators_enums.specs.declared.control.ParametricOperator.TheVariants as parametric
+use Rattle.wasm_operators_enums.specs.declared.exceptions.ExceptionOperator.TheVariants as exception
+use Rattle.wasm_operators_enums.specs.declared.continuation.ContinuationOperator.TheVariants as continuation
+use Rattle.wasm_operators_enums.specs.declared.memory.MemoryOperator.{MemoryOperator}
+use Rattle.wasm_operators_enums.specs.declared.constant.ConstOperator.{ConstOperator}
+use Rattle.wasm_operators_enums.specs.declared.bulk.BulkOperator.{BulkOperator}
+use Rattle.wasm_operators_enums.specs.declared.numeric.NumericOperator.{NumericOperator}
+use Rattle.wasm_operators_enums.specs.declared.gc.GcOperator.{GcOperator}
+use Rattle.wasm_operators_enums.specs.declared.gc.DescriptorOperator.{DescriptorOperator}
+use Rattle.wasm_operators_enums.specs.declared.atomic.AtomicOperator.{AtomicOperator}
+use Rattle.wasm_operators_enums.specs.declared.atomic.SharedOperator.{SharedOperator}
+use Rattle.wasm_operators_enums.specs.declared.vector.SimdOperator.{SimdOperator}
+use Rattle.wasm_operators_enums.specs.declared.vector_numeric.SimdNumericOperator.{SimdNumericOperator}
+use Rattle.wasm_operators_enums.specs.declared.operator.Operator.TheVariants as operator
+use Rattle.wasm_operators_enums.specs.declared.role.Role.TheVariants.{Plain, Opens, Else, Catch, CatchAll, Delegate, End}
+use Rattle.wasm_operators_enums.specs.Op as op
+use Rattle.wasm_operators_enums.specs.Op.{op_of}
+use Rattle.wasm_operators_enums.specs.Immediates.{is_canonical}
+use Rattle.wasm_operators_enums.specs.Roles.{role_of}
+use Rattle.wasm_operators_encoding.specs.Opcodes.{plain, prefixed}
+use Rattle.wasm_operators_decode.specs.Memory.{has_list, keeps_list as keeps_list_by_kinds, keeps_list_at}
+use Rattle.wasm_operators_frequent.specs.visit.Memory.{keeps_list}
+use Rattle.wasm_operators_encoding.specs.codes.OpcodeRoles.{role_at}
 
 -- what is told of an operator, of a value of the code
 abbrev pub ToldAsWorked : Type 0

@@ -1,10 +1,10 @@
 -- The kinds of immediates of each shape, by which readers of operators are put together: what the shape's name says, in the order
 -- of the bytes (WebAssembly 3.0, binary format, instructions, and the proposals).
 use Rattle.std.specs.Prelude.{◌≡◌, [], ◌∷◌, map}
-use Rattle.wasm_operators_operator.specs.immediates.Kinds as kind
-use Rattle.wasm_operators_operator.specs.immediates.Kinds.{Types, Functions, Tables, Memories, Globals, Locals, Tags, Elements, DataSegments, Fields}
-use Rattle.wasm_operators_decode_immediates.specs.declared.memory_argument.Access.TheVariants as access
-use Rattle.wasm_operators_decode_immediates.specs.Accesses.{access_of}
+use Rattle.wasm_operators_immediates.specs.Kinds as kind
+use Rattle.wasm_operators_immediates.specs.Kinds.{Types, Functions, Tables, Memories, Globals, Locals, Tags, Elements, DataSegments, Fields}
+use Rattle.wasm_operators_encoding.specs.declared.immediates.memory_argument.Access.TheVariants as access
+use Rattle.wasm_operators_encoding.specs.immediates.Accesses.{access_of}
 use Rattle.wasm_operators_decode_control.specs.declared.control.ControlShape.TheVariants as control
 use Rattle.wasm_operators_decode_control.specs.declared.parametric.ParametricShape.TheVariants as parametric
 use Rattle.wasm_operators_decode_control.specs.declared.exception.ExceptionShape.TheVariants as exception
@@ -13,10 +13,10 @@ use Rattle.wasm_operators_decode_control.specs.Control.{control_shape_kinds}
 use Rattle.wasm_operators_decode_control.specs.Parametric.{parametric_shape_kinds}
 use Rattle.wasm_operators_decode_control.specs.Exception.{exception_shape_kinds}
 use Rattle.wasm_operators_decode_control.specs.Continuation.{continuation_shape_kinds}
-use Rattle.wasm_operators_decode_gc.specs.declared.gc.GcShape.TheVariants as gc
-use Rattle.wasm_operators_decode_gc.specs.declared.descriptor.DescriptorShape.TheVariants as descriptor
-use Rattle.wasm_operators_decode_gc.specs.Gc.{gc_shape_kinds}
-use Rattle.wasm_operators_decode_gc.specs.Descriptor.{descriptor_shape_kinds}
+use Rattle.wasm_operators_decode_control.specs.declared.gc.GcShape.TheVariants as gc
+use Rattle.wasm_operators_decode_control.specs.declared.descriptor.DescriptorShape.TheVariants as descriptor
+use Rattle.wasm_operators_decode_control.specs.Gc.{gc_shape_kinds}
+use Rattle.wasm_operators_decode_control.specs.Descriptor.{descriptor_shape_kinds}
 use Rattle.wasm_operators_decode_memory.specs.declared.memory.MemoryShape.TheVariants as memory
 use Rattle.wasm_operators_decode_memory.specs.declared.constant.ConstShape.TheVariants as const
 use Rattle.wasm_operators_decode_memory.specs.declared.bulk.BulkShape.TheVariants as bulk
@@ -25,12 +25,12 @@ use Rattle.wasm_operators_decode_memory.specs.Memory.{memory_shape_kinds}
 use Rattle.wasm_operators_decode_memory.specs.Const.{const_shape_kinds}
 use Rattle.wasm_operators_decode_memory.specs.Bulk.{bulk_shape_kinds}
 use Rattle.wasm_operators_decode_memory.specs.BulkPlain.{bulk_plain_shape_kinds}
-use Rattle.wasm_operators_decode_threads.specs.declared.atomic.AtomicShape.TheVariants as atomic
-use Rattle.wasm_operators_decode_threads.specs.declared.shared.SharedShape.TheVariants as shared
-use Rattle.wasm_operators_decode_threads.specs.Atomic.{atomic_shape_kinds}
-use Rattle.wasm_operators_decode_threads.specs.Shared.{shared_shape_kinds}
-use Rattle.wasm_operators_decode_vectors.specs.declared.simd.SimdShape.TheVariants as simd
-use Rattle.wasm_operators_decode_vectors.specs.Simd.{simd_shape_kinds}
+use Rattle.wasm_operators_decode.specs.declared.atomic.AtomicShape.TheVariants as atomic
+use Rattle.wasm_operators_decode.specs.declared.shared.SharedShape.TheVariants as shared
+use Rattle.wasm_operators_decode.specs.Atomic.{atomic_shape_kinds}
+use Rattle.wasm_operators_decode.specs.Shared.{shared_shape_kinds}
+use Rattle.wasm_operators_decode.specs.declared.simd.SimdShape.TheVariants as simd
+use Rattle.wasm_operators_decode.specs.Simd.{simd_shape_kinds}
 
 pub record ShapeRows : Type 0 where
   pub accesses : map access_of (access.Plain ∷ access.Atomic ∷ access.ReadModifyWrite ∷ []) ≡ kind.Plain ∷ kind.Atomic ∷ kind.ReadModifyWrite ∷ []

@@ -1,10 +1,10 @@
 -- Operators of atomic accesses, as the list has them (written by docs/operators/make_list_rows.py).
 use Rattle.std.specs.Prelude.{List, [], ◌∷◌, codes, Some}
-use Rattle.wasm_operators_operator.specs.info.declared.proposal.Proposal.TheVariants as proposal
-use Rattle.wasm_operators_operator.specs.immediates.Kinds.{Index, MemoryArgument, MemoryOrdering, ZeroByte, Types, Tables, Globals, Fields, Atomic, ReadModifyWrite}
-use Rattle.wasm_operators_operator.specs.groups.declared.atomic.AtomicOperator.TheVariants as atomic
-use Rattle.wasm_operators_operator.specs.groups.declared.atomic.SharedOperator.TheVariants as shared
-use Rattle.wasm_operators_operator.specs.Op as op
+use Rattle.wasm_operators_immediates.specs.declared.proposal.Proposal.TheVariants as proposal
+use Rattle.wasm_operators_immediates.specs.Kinds.{Index, MemoryArgument, MemoryOrdering, ZeroByte, Types, Tables, Globals, Fields, Atomic, ReadModifyWrite}
+use Rattle.wasm_operators_enums.specs.declared.atomic.AtomicOperator.TheVariants as atomic
+use Rattle.wasm_operators_enums.specs.declared.atomic.SharedOperator.TheVariants as shared
+use Rattle.wasm_operators_enums.specs.Op as op
 use Rattle.wasm_operators_tests.specs.list.Listed.{Carried, Listed, listed}
 
 abbrev pub atomic_rows : Carried → List Listed

@@ -1,9 +1,9 @@
 -- Operators on vectors, with immediates, as the list has them (written by docs/operators/make_list_rows.py).
 use Rattle.std.specs.Prelude.{List, [], ◌∷◌, codes, Some}
-use Rattle.wasm_operators_operator.specs.info.declared.proposal.Proposal.TheVariants as proposal
-use Rattle.wasm_operators_operator.specs.immediates.Kinds.{MemoryArgument, V128Constant, Lane, Lanes, Plain}
-use Rattle.wasm_operators_operator.specs.vectors.declared.vector.SimdOperator.TheVariants as simd
-use Rattle.wasm_operators_operator.specs.Op as op
+use Rattle.wasm_operators_immediates.specs.declared.proposal.Proposal.TheVariants as proposal
+use Rattle.wasm_operators_immediates.specs.Kinds.{MemoryArgument, V128Constant, Lane, Lanes, Plain}
+use Rattle.wasm_operators_enums.specs.declared.vector.SimdOperator.TheVariants as simd
+use Rattle.wasm_operators_enums.specs.Op as op
 use Rattle.wasm_operators_tests.specs.list.Listed.{Carried, Listed, listed}
 
 abbrev pub simd_rows : Carried → List Listed

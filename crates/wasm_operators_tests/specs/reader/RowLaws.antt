@@ -1,27 +1,27 @@
 -- These rows compute.
 use Rattle.std.proofs.Common.{◌≡◌, ◌⊎◌, ◌∙◌, ◌-◌, ◌∷◌, [], ℕ, List, refl, sym, ap, arith, lit<, true, false, inl, inr}
-use Rattle.wasm_types.specs.limits.Limits.{default_limits}
-use Rattle.wasm_types.specs.limits.Settings.{no_features}
+use Rattle.wasm_types.specs.settings.Limits.{default_limits}
+use Rattle.wasm_types.specs.settings.Settings.{no_features}
 use Rattle.wasm_types.specs.decoding.Decoder.{State, Done}
 use Rattle.wasm_types.specs.decoding.ExactLaws.{value_is, state_is}
 use Rattle.wasm_types.specs.decoding.Leb.{unsigned}
-use Rattle.wasm_types_numbers.specs.Numbers.{behind as past}
-use Rattle.wasm_types_numbers.proofs.AtOnce.{unsigned_of_one}
-use Rattle.wasm_operators_reader.specs.immediates.Kinds as kind
-use Rattle.wasm_operators_reader.specs.immediates.Immediates.{Immediate, Index}
-use Rattle.wasm_operators_reader.specs.operator.Op as op
-use Rattle.wasm_operators_reader.specs.operator.Op.{Drop, Select}
-use Rattle.wasm_operators_reader.specs.operator.groups.declared.memory.MemoryOperator.TheVariants as memory
-use Rattle.wasm_operators_reader.specs.decode_encoding.Coded.{Coded}
-use Rattle.wasm_operators_reader.specs.decode_encoding.Operators.{coded_of}
-use Rattle.wasm_operators_visit_short.specs.Short.{IsTold}
-use Rattle.wasm_operators_visit_short.proofs.Reading.{told_alone, told_with}
-use Rattle.wasm_operators_visit_short.proofs.Carried.{index_of}
-use Rattle.wasm_operators_reader.specs.decode_encoding.Opcodes.{opcode}
-use Rattle.wasm_operators_reader.specs.decode_encoding.Groups.{numeric_kinds, simd_numeric_kinds}
-use Rattle.wasm_operators_reader.specs.decode_encoding.Coded.{operator}
-use Rattle.wasm_operators_reader.specs.decode_encoding.decode_immediates.Bytes.{vector}
-use Rattle.wasm_operators_reader.specs.decode_encoding.decode_immediates.Immediates.{immediate}
+use Rattle.wasm_types.specs.decoding.Numbers.{behind as past}
+use Rattle.wasm_types_decoding.proofs.AtOnce.{unsigned_of_one}
+use Rattle.wasm_operators_immediates.specs.Kinds as kind
+use Rattle.wasm_operators_immediates.specs.Immediates.{Immediate, Index}
+use Rattle.wasm_operators_enums.specs.Op as op
+use Rattle.wasm_operators_enums.specs.Op.{Drop, Select}
+use Rattle.wasm_operators_enums.specs.declared.memory.MemoryOperator.TheVariants as memory
+use Rattle.wasm_operators_encoding.specs.Coded.{Coded}
+use Rattle.wasm_operators_encoding.specs.Operators.{coded_of}
+use Rattle.wasm_operators_frequent.specs.Short.{IsTold}
+use Rattle.wasm_operators_frequent.proofs.ShortReading.{told_alone, told_with}
+use Rattle.wasm_operators_frequent.proofs.Carried.{index_of}
+use Rattle.wasm_operators_encoding.specs.Opcodes.{opcode}
+use Rattle.wasm_operators_encoding.specs.Groups.{numeric_kinds, simd_numeric_kinds}
+use Rattle.wasm_operators_encoding.specs.Coded.{operator}
+use Rattle.wasm_operators_encoding.specs.immediates.Bytes.{vector}
+use Rattle.wasm_operators_encoding.specs.immediates.Immediates.{immediate}
 use Rattle.wasm_operators_tests.specs.reader.Rows.{constant, behind, VectorRows, get_five, choice, TellingRows, IteratorRows}
 
 pub vector_rows : VectorRows

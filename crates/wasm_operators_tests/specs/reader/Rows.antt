@@ -1,17 +1,17 @@
 -- Worked operators on vectors: they are read, and refused where a visitor has no visit of them. Frequent operators that are told straight
 -- from their bytes, and what an iterator of operators gives.
 use Rattle.std.specs.Prelude.{◌≡◌, ℕ, List, [], ◌∷◌, codes, Bool, true, false, Option, Some, None, Result, Ok, Err}
-use Rattle.wasm_types.specs.error.declared.error.ErrorKind.TheVariants.{Other}
-use Rattle.wasm_types.specs.error.ErrorValue.{ErrorValue}
-use Rattle.wasm_types.specs.limits.Settings.{no_features}
-use Rattle.wasm_operators_reader.specs.immediates.declared.frames.FrameKind.TheVariants.{Block}
-use Rattle.wasm_operators_reader.specs.operator.Op as op
-use Rattle.wasm_operators_reader.specs.operator.Op.{Drop, Select}
-use Rattle.wasm_operators_reader.specs.operator.groups.declared.memory.MemoryOperator.TheVariants as memory
-use Rattle.wasm_operators_reader.specs.operator.vectors.declared.vector.SimdOperator.TheVariants as simd
-use Rattle.wasm_operators_visit_short.specs.Short.{IsTold}
+use Rattle.wasm_types.specs.decoding.declared.error.ErrorKind.TheVariants.{Other}
+use Rattle.wasm_types.specs.decoding.ErrorValue.{ErrorValue}
+use Rattle.wasm_types.specs.settings.Settings.{no_features}
+use Rattle.wasm_operators_immediates.specs.declared.frames.FrameKind.TheVariants.{Block}
+use Rattle.wasm_operators_enums.specs.Op as op
+use Rattle.wasm_operators_enums.specs.Op.{Drop, Select}
+use Rattle.wasm_operators_enums.specs.declared.memory.MemoryOperator.TheVariants as memory
+use Rattle.wasm_operators_enums.specs.declared.vector.SimdOperator.TheVariants as simd
+use Rattle.wasm_operators_frequent.specs.Short.{IsTold}
 use Rattle.wasm_operators_reader.specs.Iterating.{NextOf}
-use Rattle.wasm_operators_reader.specs.decode_encoding.decode_immediates.Bytes.{vector_of}
+use Rattle.wasm_operators_encoding.specs.immediates.Bytes.{vector_of}
 use Rattle.wasm_operators_reader.specs.Standing.{Standing, Reads}
 use Rattle.wasm_operators_reader.specs.Visiting.{RefusesVector}
 

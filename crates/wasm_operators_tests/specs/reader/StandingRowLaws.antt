@@ -2,22 +2,22 @@
 use Rattle.std.proofs.Common.{◌≡◌, ℕ, List, [], ◌∷◌, length, refl, ap, subst, arith, true, false, inl, inr}
 use Rattle.wasm_types.specs.decoding.Decoder.{Done}
 use Rattle.wasm_types.specs.decoding.Leb.{unsigned}
-use Rattle.wasm_types.specs.error.declared.error.ErrorKind.TheVariants.{Other}
-use Rattle.wasm_types.specs.error.ErrorValue.{ErrorValue}
-use Rattle.wasm_types.specs.limits.Limits.{default_limits}
-use Rattle.wasm_types.specs.limits.Settings.{no_features}
+use Rattle.wasm_types.specs.decoding.declared.error.ErrorKind.TheVariants.{Other}
+use Rattle.wasm_types.specs.decoding.ErrorValue.{ErrorValue}
+use Rattle.wasm_types.specs.settings.Limits.{default_limits}
+use Rattle.wasm_types.specs.settings.Settings.{no_features}
 use Rattle.wasm_types.specs.reader.Reading.{Fails}
-use Rattle.wasm_operators_reader.specs.immediates.Blocks.{function_block, value_block, empty_block, block_type}
-use Rattle.wasm_operators_reader.specs.immediates.declared.block.BlockType.TheVariants.{Empty}
-use Rattle.wasm_operators_reader.specs.immediates.declared.frames.FrameKind.TheVariants.{Block}
-use Rattle.wasm_operators_reader.specs.operator.groups.declared.control.ControlOperator.TheVariants as control
-use Rattle.wasm_operators_reader.specs.operator.Op as op
-use Rattle.wasm_operators_reader.specs.operator.Table.{info_of}
-use Rattle.wasm_operators_reader.specs.decode_encoding.Opcodes.{opcode}
-use Rattle.wasm_operators_reader.specs.decode_encoding.Groups.{numeric_kinds, simd_numeric_kinds}
-use Rattle.wasm_operators_reader.specs.decode_encoding.Coded.{operator}
-use Rattle.wasm_operators_reader.specs.decode_encoding.Operators.{coded_of}
-use Rattle.wasm_operators_reader.specs.decode_encoding.decode_immediates.Immediates.{immediate}
+use Rattle.wasm_operators_immediates.specs.Blocks.{function_block, value_block, empty_block, block_type}
+use Rattle.wasm_operators_immediates.specs.declared.block.BlockType.TheVariants.{Empty}
+use Rattle.wasm_operators_immediates.specs.declared.frames.FrameKind.TheVariants.{Block}
+use Rattle.wasm_operators_enums.specs.declared.control.ControlOperator.TheVariants as control
+use Rattle.wasm_operators_enums.specs.Op as op
+use Rattle.wasm_operators_enums.specs.Table.{info_of}
+use Rattle.wasm_operators_encoding.specs.Opcodes.{opcode}
+use Rattle.wasm_operators_encoding.specs.Groups.{numeric_kinds, simd_numeric_kinds}
+use Rattle.wasm_operators_encoding.specs.Coded.{operator}
+use Rattle.wasm_operators_encoding.specs.Operators.{coded_of}
+use Rattle.wasm_operators_encoding.specs.immediates.Immediates.{immediate}
 use Rattle.wasm_operators_reader.specs.Standing.{Standing, Reads, IsOpening, WantsMemory, Runs, Stops}
 use Rattle.wasm_operators_reader.specs.StandingLaws.{one_step, unread, nothing_follows, refused_no_step}
 use Rattle.wasm_operators_tests.specs.reader.StandingRows.{ReadRows, RefusedRows, MemoryRows, RunRows, at, before_nop, before_end, behind_end, nop, end, error}

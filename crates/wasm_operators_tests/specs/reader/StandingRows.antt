@@ -1,15 +1,15 @@
 -- Where a reader of operators stands, what it reads there, why it refuses, and what takes memory, worked by hand (WebAssembly 3.0,
 -- binary format, instructions and expressions).
 use Rattle.std.specs.Prelude.{◌≡◌, ℕ, List, [], ◌∷◌, codes, true, false, Some, None}
-use Rattle.wasm_types.specs.error.declared.error.ErrorKind.{ErrorKind}
-use Rattle.wasm_types.specs.error.declared.error.ErrorKind.TheVariants.{EndOfData, Other}
-use Rattle.wasm_types.specs.error.ErrorValue.{ErrorValue}
-use Rattle.wasm_types.specs.limits.Settings.{no_features}
-use Rattle.wasm_operators_reader.specs.immediates.declared.frames.FrameKind.{FrameKind}
-use Rattle.wasm_operators_reader.specs.immediates.declared.frames.FrameKind.TheVariants.{Block, If, Else}
-use Rattle.wasm_operators_reader.specs.operator.groups.declared.control.ControlOperator.TheVariants as control
-use Rattle.wasm_operators_reader.specs.operator.Op as op
-use Rattle.wasm_operators_reader.specs.expression.Stack.{innermost}
+use Rattle.wasm_types.specs.decoding.declared.error.ErrorKind.{ErrorKind}
+use Rattle.wasm_types.specs.decoding.declared.error.ErrorKind.TheVariants.{EndOfData, Other}
+use Rattle.wasm_types.specs.decoding.ErrorValue.{ErrorValue}
+use Rattle.wasm_types.specs.settings.Settings.{no_features}
+use Rattle.wasm_operators_immediates.specs.declared.frames.FrameKind.{FrameKind}
+use Rattle.wasm_operators_immediates.specs.declared.frames.FrameKind.TheVariants.{Block, If, Else}
+use Rattle.wasm_operators_enums.specs.declared.control.ControlOperator.TheVariants as control
+use Rattle.wasm_operators_enums.specs.Op as op
+use Rattle.wasm_operators_encoding.specs.expressions.Stack.{innermost}
 use Rattle.wasm_operators_reader.specs.Standing.{Standing, at_start, IsFinished, Reads, Refuses, WantsMemory, TakesMemory, Runs, Stops, StopsAfter}
 use Rattle.wasm_operators_reader.specs.Iterating.{items_left}
 

@@ -3,30 +3,30 @@ use Rattle.std.proofs.Common.{◌≡◌, ◌∙◌, ℕ, List, [], ◌∷◌, re
 use Rattle.wasm_types.specs.decoding.Decoder.{State, Done}
 use Rattle.wasm_types.specs.decoding.ExactLaws.{value_is}
 use Rattle.wasm_types.specs.decoding.Leb.{unsigned}
-use Rattle.wasm_types.specs.error.declared.error.ErrorKind.TheVariants.{Other}
-use Rattle.wasm_types.specs.limits.Limits.{default_limits}
-use Rattle.wasm_types.specs.limits.Settings.{no_features}
+use Rattle.wasm_types.specs.decoding.declared.error.ErrorKind.TheVariants.{Other}
+use Rattle.wasm_types.specs.settings.Limits.{default_limits}
+use Rattle.wasm_types.specs.settings.Settings.{no_features}
 use Rattle.wasm_types.specs.reader.Reading.{Fails}
-use Rattle.wasm_operators_reader.specs.immediates.declared.frames.FrameKind.TheVariants.{Block}
-use Rattle.wasm_operators_reader.specs.operator.groups.declared.control.ControlOperator.TheVariants as control
-use Rattle.wasm_operators_reader.specs.operator.Op as op
-use Rattle.wasm_operators_reader.specs.operator.Roles.{role_of, fits}
-use Rattle.wasm_operators_reader.specs.operator.declared.role.Role.TheVariants.{Plain, End}
-use Rattle.wasm_operators_reader.specs.operator.Table.{info_of}
-use Rattle.wasm_operators_reader.specs.decode_encoding.Opcodes.{opcode}
-use Rattle.wasm_operators_reader.specs.decode_encoding.Groups.{numeric_kinds, simd_numeric_kinds}
-use Rattle.wasm_operators_reader.specs.decode_encoding.Coded.{Coded, operator}
-use Rattle.wasm_operators_reader.specs.decode_encoding.Operators.{coded_of}
-use Rattle.wasm_operators_reader.specs.decode_encoding.OperatorLaws.{coded_apart}
-use Rattle.wasm_operators_reader.specs.decode_encoding.decode_immediates.Bytes.{vector}
-use Rattle.wasm_operators_reader.specs.decode_encoding.decode_immediates.Immediates.{immediate}
-use Rattle.wasm_operators_reader.specs.visit_operator.Vectors.{is_simd}
+use Rattle.wasm_operators_immediates.specs.declared.frames.FrameKind.TheVariants.{Block}
+use Rattle.wasm_operators_enums.specs.declared.control.ControlOperator.TheVariants as control
+use Rattle.wasm_operators_enums.specs.Op as op
+use Rattle.wasm_operators_enums.specs.Roles.{role_of, fits}
+use Rattle.wasm_operators_enums.specs.declared.role.Role.TheVariants.{Plain, End}
+use Rattle.wasm_operators_enums.specs.Table.{info_of}
+use Rattle.wasm_operators_encoding.specs.Opcodes.{opcode}
+use Rattle.wasm_operators_encoding.specs.Groups.{numeric_kinds, simd_numeric_kinds}
+use Rattle.wasm_operators_encoding.specs.Coded.{Coded, operator}
+use Rattle.wasm_operators_encoding.specs.Operators.{coded_of}
+use Rattle.wasm_operators_encoding.specs.OperatorLaws.{coded_apart}
+use Rattle.wasm_operators_encoding.specs.immediates.Bytes.{vector}
+use Rattle.wasm_operators_encoding.specs.immediates.Immediates.{immediate}
+use Rattle.wasm_operators_frequent.specs.visit_operator.Vectors.{is_simd}
 use Rattle.wasm_operators_reader.specs.Standing.{Standing, Reads, Runs}
 use Rattle.wasm_operators_reader.specs.StandingLaws.{one_step, unread, nothing_follows, refused_no_step}
 use Rattle.wasm_operators_reader.specs.Visiting.{RefusesVector}
 use Rattle.wasm_operators_reader.specs.Walking.{HasNoVectors, VisitsAll, WalksTo}
-use Rattle.wasm_operators_walking.specs.InFrame.{ReadsIn, IsMisplaced}
-use Rattle.wasm_operators_visit_short.proofs.Reading.{told_alone}
+use Rattle.wasm_operators_reader.specs.walks.InFrame.{ReadsIn, IsMisplaced}
+use Rattle.wasm_operators_frequent.proofs.ShortReading.{told_alone}
 use Rattle.wasm_operators_tests.specs.reader.Rows.{constant, before_constant, behind, choice}
 use Rattle.wasm_operators_tests.specs.reader.StandingRows.{at, before_nop, before_end, behind_end, nop, end, error}
 use Rattle.wasm_operators_tests.specs.reader.StandingRowLaws.{nop_read, end_read, else_read, else_is_read, none_wanted}

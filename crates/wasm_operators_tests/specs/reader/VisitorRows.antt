@@ -2,18 +2,18 @@
 -- counts, and answers the code of what it is told.
 use Rattle.std.specs.Prelude.{◌≡◌, ℕ, ◌+◌, [], ◌∷◌, Some, None}
 use Rattle.wasm_types.specs.decoding.Decoder.{State}
-use Rattle.wasm_types.specs.error.declared.error.ErrorKind.TheVariants.{OutOfMemory, Other}
-use Rattle.wasm_types.specs.error.ErrorValue.{ErrorValue}
-use Rattle.wasm_operators_reader.specs.immediates.declared.frames.FrameKind.TheVariants.{Block, If}
-use Rattle.wasm_operators_reader.specs.operator.groups.declared.control.ControlOperator.TheVariants as control
-use Rattle.wasm_operators_reader.specs.operator.Op as op
-use Rattle.wasm_operators_reader.specs.operator.Table.{info_of}
+use Rattle.wasm_types.specs.decoding.declared.error.ErrorKind.TheVariants.{OutOfMemory, Other}
+use Rattle.wasm_types.specs.decoding.ErrorValue.{ErrorValue}
+use Rattle.wasm_operators_immediates.specs.declared.frames.FrameKind.TheVariants.{Block, If}
+use Rattle.wasm_operators_enums.specs.declared.control.ControlOperator.TheVariants as control
+use Rattle.wasm_operators_enums.specs.Op as op
+use Rattle.wasm_operators_enums.specs.Table.{info_of}
 use Rattle.wasm_operators_reader.specs.Standing.{Standing}
 use Rattle.wasm_operators_reader.specs.Visiting.{Visits, VisitsPlain, RefusesPlain, Tells}
 use Rattle.wasm_operators_reader.specs.Walking.{HasNoVectors, VisitsAll, WalksTo, WalksUntil, WalksUntilAt, WalksUntilTo, StopsPlain}
-use Rattle.wasm_operators_reader.specs.operator.declared.role.Role.TheVariants.{Plain, End}
-use Rattle.wasm_operators_visit_short.specs.Plain.{ToldPlain, AreToldPlain}
-use Rattle.wasm_operators_walking.specs.InFrame.{ReadsIn, RefusesIn, RefusesPlainIn}
+use Rattle.wasm_operators_enums.specs.declared.role.Role.TheVariants.{Plain, End}
+use Rattle.wasm_operators_frequent.specs.Plain.{ToldPlain, AreToldPlain}
+use Rattle.wasm_operators_reader.specs.walks.InFrame.{ReadsIn, RefusesIn, RefusesPlainIn}
 use Rattle.wasm_operators_tests.specs.reader.Rows.{constant, before_constant, behind, choice}
 use Rattle.wasm_operators_tests.specs.reader.StandingRows.{at, before_nop, before_end, behind_end, nop, end, error}
 

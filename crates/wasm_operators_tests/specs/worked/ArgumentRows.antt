@@ -1,13 +1,13 @@
 -- Memory arguments: flags, the index of a memory, an ordering and an offset (WebAssembly 3.0, binary format, memory instructions;
 -- orderings by the proposal on shared everything).
 use Rattle.std.specs.Prelude.{[], ◌∷◌, Some, None, ◌+◌}
-use Rattle.wasm_types.specs.features.Features.{mask, MultiMemory, Memory64, SharedEverythingThreads}
-use Rattle.wasm_operators_decode_encoding.specs.immediates.declared.memory.Ordering.TheVariants.{AcqRel, SeqCst}
-use Rattle.wasm_operators_decode_encoding.specs.immediates.declared.memory.MemArgOrdering.TheVariants.{Op, Rmw}
-use Rattle.wasm_operators_decode_encoding.specs.immediates.Kinds.{Plain, Atomic, ReadModifyWrite}
-use Rattle.wasm_operators_decode_encoding.specs.decode_immediates.MemoryArguments.{argument}
-use Rattle.wasm_operators_decode_encoding.specs.immediates.Kinds as kind
-use Rattle.wasm_operators_decode_encoding.specs.immediates.Immediates as value
+use Rattle.wasm_types.specs.settings.Features.{mask, MultiMemory, Memory64, SharedEverythingThreads}
+use Rattle.wasm_operators_immediates.specs.declared.memory.Ordering.TheVariants.{AcqRel, SeqCst}
+use Rattle.wasm_operators_immediates.specs.declared.memory.MemArgOrdering.TheVariants.{Op, Rmw}
+use Rattle.wasm_operators_immediates.specs.Kinds.{Plain, Atomic, ReadModifyWrite}
+use Rattle.wasm_operators_encoding.specs.immediates.MemoryArguments.{argument}
+use Rattle.wasm_operators_immediates.specs.Kinds as kind
+use Rattle.wasm_operators_immediates.specs.Immediates as value
 use Rattle.wasm_operators_tests.specs.worked.Worked.{none, reads, refuses, ends}
 
 pub record ArgumentRows : Type 0 where

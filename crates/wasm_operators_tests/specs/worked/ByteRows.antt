@@ -1,11 +1,11 @@
 -- What is a byte or a few: indices where a byte was reserved, orderings, lanes and vectors (WebAssembly 3.0, binary format,
 -- instructions; orderings by the proposal on shared everything).
 use Rattle.std.specs.Prelude.{[], ◌∷◌}
-use Rattle.wasm_types.specs.features.Features.{mask, MultiMemory, CallIndirectOverlong}
-use Rattle.wasm_operators_decode_encoding.specs.immediates.declared.memory.Ordering.TheVariants.{AcqRel, SeqCst}
-use Rattle.wasm_operators_decode_encoding.specs.immediates.Kinds.{Tables, Memories}
-use Rattle.wasm_operators_decode_encoding.specs.immediates.Kinds as kind
-use Rattle.wasm_operators_decode_encoding.specs.immediates.Immediates as value
+use Rattle.wasm_types.specs.settings.Features.{mask, MultiMemory, CallIndirectOverlong}
+use Rattle.wasm_operators_immediates.specs.declared.memory.Ordering.TheVariants.{AcqRel, SeqCst}
+use Rattle.wasm_operators_immediates.specs.Kinds.{Tables, Memories}
+use Rattle.wasm_operators_immediates.specs.Kinds as kind
+use Rattle.wasm_operators_immediates.specs.Immediates as value
 use Rattle.wasm_operators_tests.specs.worked.Worked.{none, reads, refuses, ends}
 
 pub record ByteRows : Type 0 where

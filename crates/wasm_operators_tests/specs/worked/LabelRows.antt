@@ -1,6 +1,6 @@
 -- The targets of a branch table as the bytes that are kept of them: numbers of 32 bits, one after the other, and no byte behind the last.
 use Rattle.std.specs.Prelude.{◌≡◌, [], ◌∷◌, true, false}
-use Rattle.wasm_operators_decode_encoding.specs.immediates.Numbers.{numbers_in, values, is_whole}
+use Rattle.wasm_operators_immediates.specs.Numbers.{numbers_in, values, is_whole}
 
 pub record LabelRows : Type 0 where
   pub two : values (numbers_in 2 (0x01 ∷ 0x82 ∷ 0x01 ∷ [])) ≡ 1 ∷ 130 ∷ []

@@ -1,8 +1,8 @@
 -- Indices, labels, counts and constants (WebAssembly 3.0, binary format, values and instructions).
 use Rattle.std.specs.Prelude.{[], ◌∷◌, pos, negsuc}
-use Rattle.wasm_operators_decode_encoding.specs.immediates.Kinds.{Types, Functions, Globals, Locals}
-use Rattle.wasm_operators_decode_encoding.specs.immediates.Kinds as kind
-use Rattle.wasm_operators_decode_encoding.specs.immediates.Immediates as value
+use Rattle.wasm_operators_immediates.specs.Kinds.{Types, Functions, Globals, Locals}
+use Rattle.wasm_operators_immediates.specs.Kinds as kind
+use Rattle.wasm_operators_immediates.specs.Immediates as value
 use Rattle.wasm_operators_tests.specs.worked.Worked.{none, reads, refuses, ends}
 
 pub record NumberRows : Type 0 where

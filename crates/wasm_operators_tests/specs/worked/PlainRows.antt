@@ -1,21 +1,21 @@
 -- Operators whose opcode is one byte (WebAssembly 3.0, binary format, instructions).
 use Rattle.std.specs.Prelude.{false, [], ◌∷◌, None, negsuc}
-use Rattle.wasm_types.specs.features.Features.{mask, MultiMemory, CallIndirectOverlong, TailCall}
+use Rattle.wasm_types.specs.settings.Features.{mask, MultiMemory, CallIndirectOverlong, TailCall}
 use Rattle.wasm_types.specs.values.declared.heap.HeapType.TheVariants.{Abstract}
 use Rattle.wasm_types.specs.values.declared.heap.AbstractHeapType.TheVariants.{Func}
 use Rattle.wasm_types.specs.values.declared.value.ValType.TheVariants.{I32, I64}
-use Rattle.wasm_operators_decode_encoding.specs.immediates.declared.block.BlockType.TheVariants.{Empty}
-use Rattle.wasm_operators_decode_encoding.specs.immediates.declared.handlers.Catch.TheVariants.{All}
-use Rattle.wasm_operators_decode_encoding.specs.immediates.declared.handlers.Handle.TheVariants.{OnSwitch}
-use Rattle.wasm_operators_decode_encoding.specs.immediates.Handlers.{catch_table}
-use Rattle.wasm_operators_decode_encoding.specs.decode_immediates.MemoryArguments.{argument}
-use Rattle.wasm_operators_decode_encoding.specs.operator.Op as op
-use Rattle.wasm_operators_decode_encoding.specs.groups.declared.control.ControlOperator.TheVariants as control
-use Rattle.wasm_operators_decode_encoding.specs.groups.declared.memory.MemoryOperator.TheVariants as memory
-use Rattle.wasm_operators_decode_encoding.specs.groups.declared.constant.ConstOperator.TheVariants as const
-use Rattle.wasm_operators_decode_encoding.specs.groups.declared.bulk.BulkOperator.TheVariants as bulk
-use Rattle.wasm_operators_decode_encoding.specs.groups.declared.numeric.NumericOperator.TheVariants as numeric
-use Rattle.wasm_operators_decode_encoding.specs.groups.declared.gc.GcOperator.TheVariants as gc
+use Rattle.wasm_operators_immediates.specs.declared.block.BlockType.TheVariants.{Empty}
+use Rattle.wasm_operators_immediates.specs.declared.handlers.Catch.TheVariants.{All}
+use Rattle.wasm_operators_immediates.specs.declared.handlers.Handle.TheVariants.{OnSwitch}
+use Rattle.wasm_operators_immediates.specs.Handlers.{catch_table}
+use Rattle.wasm_operators_encoding.specs.immediates.MemoryArguments.{argument}
+use Rattle.wasm_operators_enums.specs.Op as op
+use Rattle.wasm_operators_enums.specs.declared.control.ControlOperator.TheVariants as control
+use Rattle.wasm_operators_enums.specs.declared.memory.MemoryOperator.TheVariants as memory
+use Rattle.wasm_operators_enums.specs.declared.constant.ConstOperator.TheVariants as const
+use Rattle.wasm_operators_enums.specs.declared.bulk.BulkOperator.TheVariants as bulk
+use Rattle.wasm_operators_enums.specs.declared.numeric.NumericOperator.TheVariants as numeric
+use Rattle.wasm_operators_enums.specs.declared.gc.GcOperator.TheVariants as gc
 use Rattle.wasm_operators_tests.specs.worked.Worked.{none, spells, begins, is_none, breaks_off}
 
 pub record PlainRows : Type 0 where

@@ -1,22 +1,22 @@
 -- Operators whose code follows a prefix (WebAssembly 3.0, binary format, instructions; continuations, descriptors and what is shared
 -- by their proposals).
 use Rattle.std.specs.Prelude.{true, false, [], ◌∷◌, Some, None}
-use Rattle.wasm_types.specs.features.Features.{mask, SharedEverythingThreads}
+use Rattle.wasm_types.specs.settings.Features.{mask, SharedEverythingThreads}
 use Rattle.wasm_types.specs.values.declared.heap.HeapType.TheVariants.{Abstract}
 use Rattle.wasm_types.specs.values.declared.heap.AbstractHeapType.TheVariants.{Func, Any}
 use Rattle.wasm_types.specs.values.Decode.{reference}
-use Rattle.wasm_operators_decode_encoding.specs.immediates.declared.memory.Ordering.TheVariants.{AcqRel}
-use Rattle.wasm_operators_decode_encoding.specs.immediates.declared.memory.MemArgOrdering.TheVariants.{Op}
-use Rattle.wasm_operators_decode_encoding.specs.decode_immediates.MemoryArguments.{argument}
-use Rattle.wasm_operators_decode_encoding.specs.operator.Op as op
-use Rattle.wasm_operators_decode_encoding.specs.groups.declared.bulk.BulkOperator.TheVariants as bulk
-use Rattle.wasm_operators_decode_encoding.specs.groups.declared.numeric.NumericOperator.TheVariants as numeric
-use Rattle.wasm_operators_decode_encoding.specs.groups.declared.gc.GcOperator.TheVariants as gc
-use Rattle.wasm_operators_decode_encoding.specs.groups.declared.gc.DescriptorOperator.TheVariants as descriptor
-use Rattle.wasm_operators_decode_encoding.specs.vectors.declared.vector.SimdOperator.TheVariants as simd
-use Rattle.wasm_operators_decode_encoding.specs.vectors.declared.vector_numeric.SimdNumericOperator.TheVariants as simd_numeric
-use Rattle.wasm_operators_decode_encoding.specs.groups.declared.atomic.AtomicOperator.TheVariants as atomic
-use Rattle.wasm_operators_decode_encoding.specs.groups.declared.atomic.SharedOperator.TheVariants as shared
+use Rattle.wasm_operators_immediates.specs.declared.memory.Ordering.TheVariants.{AcqRel}
+use Rattle.wasm_operators_immediates.specs.declared.memory.MemArgOrdering.TheVariants.{Op}
+use Rattle.wasm_operators_encoding.specs.immediates.MemoryArguments.{argument}
+use Rattle.wasm_operators_enums.specs.Op as op
+use Rattle.wasm_operators_enums.specs.declared.bulk.BulkOperator.TheVariants as bulk
+use Rattle.wasm_operators_enums.specs.declared.numeric.NumericOperator.TheVariants as numeric
+use Rattle.wasm_operators_enums.specs.declared.gc.GcOperator.TheVariants as gc
+use Rattle.wasm_operators_enums.specs.declared.gc.DescriptorOperator.TheVariants as descriptor
+use Rattle.wasm_operators_enums.specs.declared.vector.SimdOperator.TheVariants as simd
+use Rattle.wasm_operators_enums.specs.declared.vector_numeric.SimdNumericOperator.TheVariants as simd_numeric
+use Rattle.wasm_operators_enums.specs.declared.atomic.AtomicOperator.TheVariants as atomic
+use Rattle.wasm_operators_enums.specs.declared.atomic.SharedOperator.TheVariants as shared
 use Rattle.wasm_operators_tests.specs.worked.Worked.{none, spells, is_none, breaks_off}
 
 pub record PrefixedRows : Type 0 where

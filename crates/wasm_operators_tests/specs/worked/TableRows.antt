@@ -2,12 +2,12 @@
 -- switching).
 use Rattle.std.specs.Prelude.{[], ◌∷◌}
 use Rattle.wasm_types.specs.values.declared.value.ValType.TheVariants.{I32}
-use Rattle.wasm_operators_decode_encoding.specs.immediates.declared.block.BlockType.TheVariants.{Empty, Val}
-use Rattle.wasm_operators_decode_encoding.specs.immediates.declared.handlers.Catch.TheVariants.{One, OneRef, All, AllRef}
-use Rattle.wasm_operators_decode_encoding.specs.immediates.declared.handlers.Handle.TheVariants.{OnLabel, OnSwitch}
-use Rattle.wasm_operators_decode_encoding.specs.immediates.Handlers.{catch_table}
-use Rattle.wasm_operators_decode_encoding.specs.immediates.Kinds as kind
-use Rattle.wasm_operators_decode_encoding.specs.immediates.Immediates as value
+use Rattle.wasm_operators_immediates.specs.declared.block.BlockType.TheVariants.{Empty, Val}
+use Rattle.wasm_operators_immediates.specs.declared.handlers.Catch.TheVariants.{One, OneRef, All, AllRef}
+use Rattle.wasm_operators_immediates.specs.declared.handlers.Handle.TheVariants.{OnLabel, OnSwitch}
+use Rattle.wasm_operators_immediates.specs.Handlers.{catch_table}
+use Rattle.wasm_operators_immediates.specs.Kinds as kind
+use Rattle.wasm_operators_immediates.specs.Immediates as value
 use Rattle.wasm_operators_tests.specs.worked.Worked.{none, reads, refuses, ends, refuses_narrowly, ends_narrowly}
 
 pub record TableRows : Type 0 where

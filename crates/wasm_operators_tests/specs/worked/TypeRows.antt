@@ -3,11 +3,11 @@ use Rattle.std.specs.Prelude.{true, false, [], ◌∷◌}
 use Rattle.wasm_types.specs.values.declared.heap.HeapType.TheVariants.{Abstract, Concrete}
 use Rattle.wasm_types.specs.values.declared.heap.AbstractHeapType.TheVariants.{Func, Any}
 use Rattle.wasm_types.specs.values.declared.value.ValType.TheVariants.{I32, V128, Ref}
-use Rattle.wasm_types.specs.indices.declared.index.UnpackedIndex.TheVariants.{Module}
+use Rattle.wasm_types.specs.trees.declared.index.UnpackedIndex.TheVariants.{Module}
 use Rattle.wasm_types.specs.values.Decode.{reference}
-use Rattle.wasm_operators_decode_encoding.specs.immediates.declared.block.BlockType.TheVariants.{Empty, Val, FuncType}
-use Rattle.wasm_operators_decode_encoding.specs.immediates.Kinds as kind
-use Rattle.wasm_operators_decode_encoding.specs.immediates.Immediates as value
+use Rattle.wasm_operators_immediates.specs.declared.block.BlockType.TheVariants.{Empty, Val, FuncType}
+use Rattle.wasm_operators_immediates.specs.Kinds as kind
+use Rattle.wasm_operators_immediates.specs.Immediates as value
 use Rattle.wasm_operators_tests.specs.worked.Worked.{none, reads, refuses, ends}
 
 pub record TypeRows : Type 0 where

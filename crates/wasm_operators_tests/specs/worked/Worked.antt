@@ -2,14 +2,14 @@
 use Rattle.std.specs.Prelude.{◌≡◌, ℕ, List, [], length}
 use Rattle.wasm_types.specs.decoding.declared.Refusal.TheVariants.{Other}
 use Rattle.wasm_types.specs.decoding.Decoder.{State, Done, Short, Fault}
-use Rattle.wasm_types.specs.limits.Limits.{default_limits}
-use Rattle.wasm_types.specs.limits.Settings.{Settings}
-use Rattle.wasm_operators_decode_encoding.specs.immediates.Kinds.{Kind}
-use Rattle.wasm_operators_decode_encoding.specs.immediates.Immediates.{Immediate}
-use Rattle.wasm_operators_decode_encoding.specs.operator.Op.{Op}
-use Rattle.wasm_operators_decode_encoding.specs.decode_immediates.Immediates.{immediate}
-use Rattle.wasm_operators_decode_encoding.specs.Coded.{operator}
-use Rattle.wasm_operators_decode_encoding.specs.Operators.{coded_of}
+use Rattle.wasm_types.specs.settings.Limits.{default_limits}
+use Rattle.wasm_types.specs.settings.Settings.{Settings}
+use Rattle.wasm_operators_immediates.specs.Kinds.{Kind}
+use Rattle.wasm_operators_immediates.specs.Immediates.{Immediate}
+use Rattle.wasm_operators_enums.specs.Op.{Op}
+use Rattle.wasm_operators_encoding.specs.immediates.Immediates.{immediate}
+use Rattle.wasm_operators_encoding.specs.Coded.{operator}
+use Rattle.wasm_operators_encoding.specs.Operators.{coded_of}
 
 -- no feature is allowed
 abbrev pub none : ℕ

@@ -1,10 +1,10 @@
 -- Element segments of the code as trees.
 use Rattle.std.specs.Prelude.{◌≡◌, ℕ, ◌==◌, List, map, length, Bool, true, false, Option, Some, None, Result, if◌then◌else◌}
 use Rattle.std.specs.Iterator.{Drains}
-use Rattle.wasm_types.specs.limits.Settings.{Settings}
+use Rattle.wasm_types.specs.settings.Settings.{Settings}
 use Rattle.wasm_types.specs.decoding.Decoder.{State, Outcome, Done, Short, Fault, Decoder, repeated}
-use Rattle.wasm_types.specs.error.ErrorValue.{ErrorValue}
-use Rattle.wasm_sections_limited.specs.Walking.{fresh, plainly, ok, NeverLacksMemory}
+use Rattle.wasm_types.specs.decoding.ErrorValue.{ErrorValue}
+use Rattle.wasm_sections_items.specs.limited.Walking.{fresh, plainly, ok, NeverLacksMemory}
 use Rattle.wasm_sections_items.specs.declared.elements.element.ElementOf.{ElementOf}
 use Rattle.wasm_types.specs.decoding.Leb.{u32}
 use Rattle.wasm_sections_items.specs.declared.elements.element.ElementKindOf.{ElementKindOf}

@@ -3,17 +3,17 @@ use Rattle.std.proofs.Common.{◌≡◌, ℕ, List, [], ◌∷◌, ◌++◌, len
 use Rattle.std.specs.Prelude.{IfOk, ◌==◌, if◌then◌else◌}
 use Rattle.std.proofs.lemmas.Bool.{eqb-true}
 use Rattle.std.proofs.lemmas.List.{append-nil}
-use Rattle.wasm_types.specs.limits.Settings.{Settings}
+use Rattle.wasm_types.specs.settings.Settings.{Settings}
 use Rattle.wasm_types.specs.decoding.Decoder.{State, Outcome, Done, Short, Fault, Decoder, Grammar, pure, repeated, Decides, Many}
 use Rattle.wasm_types.specs.decoding.ExactLaws.{decides-repeated}
 use Rattle.wasm_types.specs.decoding.Leb.{u32, IsUnsigned}
 use Rattle.wasm_types.specs.decoding.LebLaws.{decides-u32}
-use Rattle.wasm_types.specs.error.ErrorValue.{ErrorValue}
+use Rattle.wasm_types.specs.decoding.ErrorValue.{ErrorValue}
 use Rattle.wasm_types.specs.reader.Parts.{part_at}
 use Rattle.wasm_types.specs.reader.Reading.{Fails, Gives}
 use Rattle.wasm_types.specs.reader.ReadingLaws.{fails_then}
-use Rattle.wasm_sections_limited.specs.WalkLaws.{values_complete}
-use Rattle.wasm_sections_limited.specs.Walking.{fresh}
+use Rattle.wasm_sections_items.specs.limited.WalkLaws.{values_complete}
+use Rattle.wasm_sections_items.specs.limited.Walking.{fresh}
 use Rattle.wasm_sections_items.specs.declared.elements.element.ElementOf.{ElementOf}
 use Rattle.wasm_sections_items.specs.declared.elements.element.ElementItemsOf.{ElementItemsOf}
 use Rattle.wasm_sections_items.specs.declared.elements.element.ElementItemsOf.TheVariants.{Functions, Expressions}

@@ -1,7 +1,7 @@
 -- The readers of imports and exports are lawful, and read exactly what the bytes spell.
 use Rattle.std.proofs.Common.{◌≡◌, ℕ, List, [], ◌∷◌, ◌++◌, refl, sym, ap, ◌∙◌, subst}
 use Rattle.wasm_types.specs.decoding.declared.Refusal.TheVariants.{Other}
-use Rattle.wasm_types.specs.limits.Settings.{Settings}
+use Rattle.wasm_types.specs.settings.Settings.{Settings}
 use Rattle.wasm_types.specs.decoding.Decoder.{Grammar, refuse, byte, choice, IsLawful, Decides, Then}
 use Rattle.wasm_types.specs.decoding.Laws.{lawful-byte, lawful->>=, lawful-pure, lawful-refuse, lawful-choice}
 use Rattle.wasm_types.specs.decoding.ExactLaws.{Mapped, ReadsTagged, decides->>=, decides-same, decides-map, decides-table, sound-pure, reads-pure}

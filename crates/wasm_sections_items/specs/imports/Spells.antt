@@ -3,7 +3,7 @@
 use Rattle.std.specs.Prelude.{◌≡◌, ℕ, List, [], ◌∷◌, ◌++◌}
 use Rattle.wasm_types.specs.decoding.Decoder.{Grammar}
 use Rattle.wasm_types.specs.decoding.Leb.{IsUnsigned}
-use Rattle.wasm_types.specs.limits.Settings.{Settings}
+use Rattle.wasm_types.specs.settings.Settings.{Settings}
 use Rattle.wasm_types.specs.decoding.Text.{IsName}
 use Rattle.wasm_types.specs.externs.Spells.{SpelledMemory, SpelledTable, SpelledGlobal, SpelledTag}
 use Rattle.wasm_sections_items.specs.declared.imports.kind.ExternalKind.{ExternalKind}

@@ -3,8 +3,8 @@
 use Rattle.std.proofs.Common.{◌≡◌, ℕ, List, [], ◌∷◌, refl, true, false, Some, None}
 use Rattle.std.specs.Str.{is_utf8}
 use Rattle.wasm_types.specs.decoding.declared.Refusal.TheVariants.{Other}
-use Rattle.wasm_types.specs.limits.Limits.{default_limits}
-use Rattle.wasm_types.specs.limits.Settings.{no_features}
+use Rattle.wasm_types.specs.settings.Limits.{default_limits}
+use Rattle.wasm_types.specs.settings.Settings.{no_features}
 use Rattle.wasm_types.specs.decoding.Decoder.{Done, Short, Fault}
 use Rattle.wasm_types.specs.decoding.Leb.{unsigned}
 use Rattle.wasm_types.specs.decoding.Text.{text_of, counted_within}

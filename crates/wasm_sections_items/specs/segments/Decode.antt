@@ -6,7 +6,7 @@ use Rattle.wasm_types.specs.decoding.Leb.{u32}
 use Rattle.wasm_types.specs.decoding.Lists.{refuse_at}
 use Rattle.wasm_types.specs.externs.declared.global.GlobalType.{GlobalType}
 use Rattle.wasm_types.specs.externs.Decode.{global_type}
-use Rattle.wasm_sections_frames.specs.Decode.{counted_bytes}
+use Rattle.wasm_sections_items.specs.frames.Decode.{counted_bytes}
 use Rattle.wasm_sections_items.specs.segments.Spells.{GlobalTree, DataMode, passive, active, DataTree}
 
 -- a global of its parts

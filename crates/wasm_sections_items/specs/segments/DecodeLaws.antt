@@ -14,9 +14,9 @@ use Rattle.wasm_types.specs.externs.declared.global.GlobalType.{GlobalType}
 use Rattle.wasm_types.specs.externs.Decode.{global_type}
 use Rattle.wasm_types.specs.externs.Spells.{SpelledGlobal}
 use Rattle.wasm_types.specs.externs.DecodeLaws.{lawful-global_type, decides-global_type}
-use Rattle.wasm_sections_frames.specs.Outer.{IsBytes}
-use Rattle.wasm_sections_frames.specs.Decode.{counted_bytes}
-use Rattle.wasm_sections_frames.specs.PartLaws.{lawful-counted_bytes, decides-counted_bytes}
+use Rattle.wasm_sections_items.specs.frames.Outer.{IsBytes}
+use Rattle.wasm_sections_items.specs.frames.Decode.{counted_bytes}
+use Rattle.wasm_sections_items.specs.frames.PartLaws.{lawful-counted_bytes, decides-counted_bytes}
 use Rattle.wasm_sections_items.specs.segments.Spells.{GlobalTree, SpelledGlobalItem, DataMode, passive, active, DataTree, AfterFlag, SpelledData}
 use Rattle.wasm_sections_items.specs.segments.Decode.{global_of, global, data_of, content, placed_in, after_flag, data_segment}
 

@@ -6,7 +6,7 @@ use Rattle.wasm_types.specs.decoding.Leb.{IsUnsigned}
 use Rattle.wasm_types.specs.decoding.Text.{IsSized}
 use Rattle.wasm_types.specs.externs.declared.global.GlobalType.{GlobalType}
 use Rattle.wasm_types.specs.externs.Spells.{SpelledGlobal}
-use Rattle.wasm_sections_frames.specs.Outer.{IsBytes}
+use Rattle.wasm_sections_items.specs.frames.Outer.{IsBytes}
 
 -- ---- globals
 

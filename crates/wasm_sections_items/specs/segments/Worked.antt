@@ -13,7 +13,7 @@ use Rattle.wasm_types.specs.values.WorkedTypeLaws.{start_of, behind}
 use Rattle.wasm_types.specs.externs.Decode as externs
 use Rattle.wasm_types.specs.externs.Spells.{flags}
 use Rattle.wasm_types.specs.externs.Decode.{limits_flags, size, written, table_after, table_type, global_type}
-use Rattle.wasm_sections_frames.specs.Decode.{counted_bytes}
+use Rattle.wasm_sections_items.specs.frames.Decode.{counted_bytes}
 use Rattle.wasm_sections_items.specs.segments.Tables.{table_of as with_init, plain, behind_mark, initialised, table}
 use Rattle.wasm_sections_items.specs.segments.Spells.{passive, active}
 use Rattle.wasm_sections_items.specs.segments.Decode.{global_of, global, data_of, data_segment}

@@ -1,7 +1,7 @@
 //! What an element segment is.
 
+use crate::limited::SectionLimited;
 use std::ops::Range;
-use wasm_sections_limited::SectionLimited;
 use wasm_types::{FromReader, RefType};
 
 /// How an element segment is used, where its offset is a constant expression of this type.

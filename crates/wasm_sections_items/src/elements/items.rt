@@ -6,8 +6,8 @@ ghost use Rattle.wasm_types.specs.decoding.Leb.{listed};
 ghost use Rattle.wasm_types.specs.reader.Reading.{Gives, MemoryOnlyIf};
 ghost use Rattle.wasm_sections_items.specs.elements.Passing.{passed, passed_list, items_at, Holds};
 
+use crate::limited::SectionLimited;
 use std::alloc::Global;
-use wasm_sections_limited::SectionLimited;
 use wasm_types::{BinaryReader, FromReader, Result};
 
 // As many values as are asked for, one after the other, which are not kept.

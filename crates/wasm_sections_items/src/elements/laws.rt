@@ -1,7 +1,7 @@
 //! Laws of element segments, each the contract of a function that does nothing.
 
 ghost use Rattle.std.specs.Prelude.{◌≡◌, Some};
-ghost use Rattle.wasm_types.specs.limits.Settings.{Settings};
+ghost use Rattle.wasm_types.specs.settings.Settings.{Settings};
 ghost use Rattle.wasm_types.specs.decoding.Decoder.{IsLawful, Decides};
 ghost use Rattle.wasm_sections_items.specs.declared.elements.element.ElementOf.{ElementOf};
 ghost use Rattle.wasm_sections_items.specs.elements.Spells.{ElementTree, SpelledElement};

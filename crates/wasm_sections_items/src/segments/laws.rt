@@ -1,6 +1,6 @@
 //! Laws of globals, tables and data segments, each the contract of a function that does nothing.
 
-ghost use Rattle.wasm_types.specs.limits.Settings.{Settings};
+ghost use Rattle.wasm_types.specs.settings.Settings.{Settings};
 ghost use Rattle.wasm_types.specs.decoding.Decoder.{IsLawful, Decides};
 ghost use Rattle.wasm_sections_items.specs.segments.Spells.{SpelledGlobalItem, SpelledData};
 ghost use Rattle.wasm_sections_items.specs.segments.Decode.{global, data_segment};

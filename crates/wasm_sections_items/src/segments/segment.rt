@@ -3,7 +3,7 @@
 ghost use Rattle.std.specs.Prelude.{◌≡◌, IfOk};
 ghost use Rattle.wasm_types.specs.decoding.Decoder.{Reaches};
 ghost use Rattle.wasm_types.specs.reader.Reading.{Gives, MemoryOnlyIf, NeedsNoMemory};
-ghost use Rattle.wasm_sections_frames.specs.Decode.{counted_bytes};
+ghost use Rattle.wasm_sections_items.specs.frames.Decode.{counted_bytes};
 ghost use Rattle.wasm_sections_items.specs.segments.Decode.{content, placed_in, data_segment};
 ghost use Rattle.wasm_sections_items.specs.segments.Segments.{mode_of};
 
@@ -37,7 +37,7 @@ pub struct DataOf<'a, E: Drop> {
 }
 
 // A count, and as many bytes.
-#[tactic(auto, using(wasm_types::specs::Laws::reaches_self, wasm_types::specs::Laws::reaches_then), unfolding(wasm_sections_frames::specs::Decode::counted_bytes))]
+#[tactic(auto, using(wasm_types::specs::Laws::reaches_self, wasm_types::specs::Laws::reaches_then), unfolding(crate::specs::frames::Decode::counted_bytes))]
 fn read_counted_bytes<'a>(reader: &mut BinaryReader<'a>) -> Result<&'a [u8]>
     ensures answer { Gives (λ s. s.now) result reader.new (counted_bytes reader.old) }
     ensures no_memory { NeedsNoMemory result }

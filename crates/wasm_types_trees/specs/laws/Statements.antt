@@ -1,6 +1,6 @@
 -- Laws of the rules: what the functions of src/laws.rt promise.
 use Rattle.std.specs.Prelude.{◌≡◌, ◌↔◌, ◌⊎◌, ℕ, ◌<◌, Bool, false, List, [], ◌∷◌, map, Contains, get_or}
-use Rattle.wasm_types_limits.specs.Settings.{Settings}
+use Rattle.wasm_types_settings.specs.Settings.{Settings}
 use Rattle.wasm_types_trees.specs.Types.{Abstract, HeapOf, exact, abstract, ValueOf, ref, EntryOf, entry_map}
 use Rattle.wasm_types_trees.specs.Each.{EachHeap, EachValue, EachEntries}
 use Rattle.wasm_types_trees.specs.Trees.{GroupTree, RefTree, TypeTree, group_tree, entries_of, opened}

@@ -5,7 +5,7 @@ use Rattle.std.proofs.lemmas.Bool.{lt-ltb, le-ltb, cases_lt}
 use Rattle.std.proofs.lemmas.List.{length-map, get_or-map}
 use Rattle.std.proofs.lemmas.List.Elements.{All-nil, All-cons, All-from_get_or, All-append, All-weaker, All-contains, All-contains_itself}
 use Rattle.std.proofs.lemmas.List.Elements.{Contains-get_or, Contains-append_left, Contains-append_right}
-use Rattle.wasm_types_limits.specs.Settings.{Settings}
+use Rattle.wasm_types_settings.specs.Settings.{Settings}
 use Rattle.wasm_types_trees.specs.Types.{ValueOf, EntryOf, entry_of_subtype, entry_map}
 use Rattle.wasm_types_trees.specs.Each.{EachOption, EachValue, EachEntry}
 use Rattle.wasm_types_trees.specs.Trees.{GroupTree, local, type_of, group_tree, TypeTree, type_meant, past_the_end, opened}

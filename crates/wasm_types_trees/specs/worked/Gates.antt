@@ -1,9 +1,9 @@
 -- Value types that are allowed by the features that they need alone, and refused without one of them: for each clause of the
 -- gates.
 use Rattle.std.specs.Prelude.{ℕ, ◌-◌, true, false, List, [], ◌∷◌}
-use Rattle.wasm_types_features.specs.Features.{Feature, ReferenceTypes, Simd, SharedEverythingThreads, Floats, Exceptions, FunctionReferences, Gc}
-use Rattle.wasm_types_features.specs.Features.{GcTypes, StackSwitching, CustomDescriptors, mask}
-use Rattle.wasm_types_features.specs.Sets.{bits_of}
+use Rattle.wasm_types_settings.specs.Features.{Feature, ReferenceTypes, Simd, SharedEverythingThreads, Floats, Exceptions, FunctionReferences, Gc}
+use Rattle.wasm_types_settings.specs.Features.{GcTypes, StackSwitching, CustomDescriptors, mask}
+use Rattle.wasm_types_settings.specs.Sets.{bits_of}
 use Rattle.wasm_types_trees.specs.Types.{i32, i64, f32, f64, v128, Abstract, func, extern, any, none, noextern, nofunc, eq, struct, array, i31, exn}
 use Rattle.wasm_types_trees.specs.Types.{noexn, cont, nocont, abstract, concrete, exact, ValueOf, number, ref}
 use Rattle.wasm_types_trees.specs.Gates.{ValueIsAllowed}

@@ -1,10 +1,10 @@
 -- Groups that are valid and groups that are not.
 use Rattle.std.specs.Prelude.{◌≡◌, ℕ, zero, suc, true, false, List, [], ◌∷◌, ◌++◌, map, reverse, Some, None}
-use Rattle.wasm_types_features.specs.Features.{Feature, ReferenceTypes, MultiValue, Simd, SharedEverythingThreads, Floats, Exceptions}
-use Rattle.wasm_types_features.specs.Features.{FunctionReferences, Gc, GcTypes, StackSwitching, CustomDescriptors}
-use Rattle.wasm_types_features.specs.Sets.{bits_of}
-use Rattle.wasm_types_limits.specs.Limits.{default_limits}
-use Rattle.wasm_types_limits.specs.Settings.{Settings}
+use Rattle.wasm_types_settings.specs.Features.{Feature, ReferenceTypes, MultiValue, Simd, SharedEverythingThreads, Floats, Exceptions}
+use Rattle.wasm_types_settings.specs.Features.{FunctionReferences, Gc, GcTypes, StackSwitching, CustomDescriptors}
+use Rattle.wasm_types_settings.specs.Sets.{bits_of}
+use Rattle.wasm_types_settings.specs.Limits.{default_limits}
+use Rattle.wasm_types_settings.specs.Settings.{Settings}
 use Rattle.wasm_types_trees.specs.Types.{i32, i64, f32, v128, func, any, eq, exn, abstract, concrete, ValueOf, number, ref, i8, InnerOf, function}
 use Rattle.wasm_types_trees.specs.Types.{array_of, struct_of, continuation, SubtypeOf}
 use Rattle.wasm_types_trees.specs.Trees.{TypeTree}

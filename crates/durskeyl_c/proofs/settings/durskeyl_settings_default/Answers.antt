@@ -1,6 +1,6 @@
 use Rattle.std.proofs.Common.{◌≡◌, sym, subst, arith, ◌∙◌}
-use Rattle.wasm_types.specs.limits.Limits.{IsWithinCeilings}
-use Rattle.wasm_types.specs.limits.RowLaws.{default_within}
+use Rattle.wasm_types.specs.settings.Limits.{IsWithinCeilings}
+use Rattle.wasm_types.specs.settings.LimitsRowLaws.{default_within}
 use Rattle.durskeyl_c.proofs.settings.durskeyl_settings_default.Goals as goal
 
 pub returns-clause-features : goal.returns-clause-features

@@ -1,7 +1,7 @@
 use Rattle.std.proofs.Common.{subst}
-use Rattle.wasm_types.specs.error.Denials.{Denies}
-use Rattle.wasm_types.specs.limits.Settings.{Settings}
-use Rattle.wasm_module_validator_rules.specs.Accepts.{AcceptsUnder}
+use Rattle.wasm_types.specs.decoding.Denials.{Denies}
+use Rattle.wasm_types.specs.settings.Settings.{Settings}
+use Rattle.wasm_module_validator_import_export_places.specs.rules.Accepts.{AcceptsUnder}
 use Rattle.durskeyl_c.proofs.validate.judge.Goals as goal
 
 -- the validator's settings are those that it was made with

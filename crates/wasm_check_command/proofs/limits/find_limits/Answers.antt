@@ -1,6 +1,6 @@
 use Rattle.std.proofs.Common.{◌-◌, length, rules, arith, subst, sym}
-use Rattle.wasm_types.specs.limits.Limits.{IsWithinCeilings}
-use Rattle.wasm_types.specs.limits.RowLaws.{default_within}
+use Rattle.wasm_types.specs.settings.Limits.{IsWithinCeilings}
+use Rattle.wasm_types.specs.settings.LimitsRowLaws.{default_within}
 use Rattle.wasm_check_command.specs.LimitLists.{limit_step, limits_of}
 use Rattle.wasm_check_command.specs.Lists.{place_of}
 use Rattle.wasm_check_command.proofs.ListLemmas.{left_all, left_fault, left_last, left_more, words_end, words_go_on, rest_shorter}

@@ -2,7 +2,7 @@
 use Rattle.std.proofs.Common.{◌+◌, ◌≤◌, length}
 use denote.Text.{Utf8}
 use denote.Shadow.{shadow}
-use Rattle.wasm_types.specs.limits.Limits.{IsWithinCeilings}
+use Rattle.wasm_types.specs.settings.Limits.{IsWithinCeilings}
 use Rattle.wasm_check_command.specs.LimitLists.{limit_step, limits_of}
 use Rattle.wasm_check_command.proofs.ListLemmas.{IsLeft}
 use Rattle.wasm_check_command.proofs.limits.find_limits.Given as goal

@@ -1,9 +1,9 @@
 use Rattle.std.proofs.Common.{subst}
 use Rattle.std.specs.Prelude.{IfOk}
-use Rattle.wasm_types.specs.error.Denials.{Tells}
-use Rattle.wasm_types.specs.limits.Settings.{Settings}
-use Rattle.wasm_module_validator_sharing.specs.reading.progress.standing.steps.contexts.rules.Accepts.{AcceptsUnder}
-use Rattle.wasm_module_validator_runs.specs.Soundness.{RunsSoundly}
+use Rattle.wasm_types.specs.decoding.Denials.{Tells}
+use Rattle.wasm_types.specs.settings.Settings.{Settings}
+use Rattle.wasm_module_validator_rules.specs.Accepts.{AcceptsUnder}
+use Rattle.wasm_module_validator.specs.soundness.Soundness.{RunsSoundly}
 use Rattle.wasm_module_validator.specs.Lists.{AreToldUnder}
 use Rattle.wasm_module_validator.proofs.validator.validate.Goals as goal
 

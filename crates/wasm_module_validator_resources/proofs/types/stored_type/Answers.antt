@@ -1,4 +1,4 @@
-use Rattle.wasm_types.specs.groups.Entries.{declared_of}
+use Rattle.wasm_types.specs.Entries.{declared_of}
 use Rattle.wasm_module_validator_resources.proofs.Finding.{id_past, stored_as}
 use Rattle.wasm_module_validator_resources.proofs.types.stored_type.Goals as goal
 

@@ -1,5 +1,5 @@
 use Rattle.std.proofs.Common.{◌≡◌, false, ap}
-use Rattle.wasm_operator_validator_expression.specs.state.State.{State}
+use Rattle.wasm_operator_validator_state.specs.State.{State}
 use Rattle.wasm_operator_validator_constants.specs.Checked.{Surroundings}
 use Rattle.wasm_operator_validator_constants.specs.laws.Constants.{checks_constant, checks_without_memory}
 use Rattle.wasm_operator_validator_constants.proofs.checking.check_const_expr.Goals as goal

@@ -1,5 +1,5 @@
 use Rattle.std.proofs.Common.{◌≡◌, ◌∙◌, ℕ, Option, Some, None, Bool, true, false, refl, sym, subst, slice_get}
-use Rattle.wasm_operator_validator_rules.specs.expression.operator.Op.{Op, op_of}
+use Rattle.wasm_operators_enums.specs.Op.{Op, op_of}
 use Rattle.wasm_operator_validator_rules.specs.Context.{Module}
 use Rattle.wasm_operator_validator_rules.specs.constants.Constants.{IsConstantOperator, IsConstantGlobal}
 use Rattle.wasm_operator_validator_constants.specs.declared.refusal.ConstantRefusal.{ConstantRefusal}

@@ -1,9 +1,9 @@
 use Rattle.std.proofs.Common.{false}
-use Rattle.wasm_operator_validator_determined.specs.expression.info.declared.proposal.Proposal.TheVariants.{Mvp}
-use Rattle.wasm_operator_validator_determined.specs.state.Refusals.{refused, kind_of}
-use Rattle.wasm_operator_validator_determined.specs.laws.Types.{i32_in}
-use Rattle.wasm_operator_validator_determined.specs.laws.Same.{stays_trans}
-use Rattle.wasm_operator_validator_determined.specs.laws.Determined.{refused_then}
+use Rattle.wasm_operators_immediates.specs.declared.proposal.Proposal.TheVariants.{Mvp}
+use Rattle.wasm_operator_validator_state.specs.Refusals.{refused, kind_of}
+use Rattle.wasm_operator_validator_stacks.specs.determined.laws.Types.{i32_in}
+use Rattle.wasm_operator_validator_stacks.specs.determined.laws.Same.{stays_trans}
+use Rattle.wasm_operator_validator_stacks.specs.determined.laws.Determined.{refused_then}
 use Rattle.wasm_operator_validator_control.proofs.TableRow.{br_table, no_index, not_taken, checked}
 use Rattle.wasm_operator_validator_control.proofs.br_table.check_br_table.Goals as goal
 

@@ -1,9 +1,9 @@
 use Rattle.std.proofs.Common.{false, refl}
-use Rattle.wasm_operator_validator_determined.specs.expression.info.declared.proposal.Proposal.TheVariants.{Mvp}
-use Rattle.wasm_operator_validator_determined.specs.rules.Context.{label_of}
-use Rattle.wasm_operator_validator_determined.specs.state.Refusals.{refused}
-use Rattle.wasm_operator_validator_determined.specs.state.State.{signature_of}
-use Rattle.wasm_operator_validator_determined.specs.laws.Determined.{refused_here}
+use Rattle.wasm_operators_immediates.specs.declared.proposal.Proposal.TheVariants.{Mvp}
+use Rattle.wasm_operator_validator_rules.specs.Context.{label_of}
+use Rattle.wasm_operator_validator_state.specs.Refusals.{refused}
+use Rattle.wasm_operator_validator_state.specs.State.{signature_of}
+use Rattle.wasm_operator_validator_stacks.specs.determined.laws.Determined.{refused_here}
 use Rattle.wasm_operator_validator_control.specs.laws.Jumping.{by_last}
 use Rattle.wasm_operator_validator_control.specs.laws.Labels.{label_at, no_label_at}
 use Rattle.wasm_operator_validator_control.proofs.BranchRows.{br, br_is, br_last, no_br}

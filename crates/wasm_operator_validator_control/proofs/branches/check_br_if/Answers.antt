@@ -1,15 +1,15 @@
 use Rattle.std.proofs.Common.{◌∙◌, ◌∷◌, ◌++◌, [], List, false, refl, sym, ap, slice_get}
-use Rattle.wasm_types.specs.error.DenialLaws.{denies}
-use Rattle.wasm_types.specs.error.declared.error.ErrorKind.TheVariants.{Other}
-use Rattle.wasm_operator_validator_determined.specs.expression.info.declared.proposal.Proposal.TheVariants.{Mvp}
-use Rattle.wasm_operator_validator_determined.specs.rules.Operands.{ValueType}
-use Rattle.wasm_operator_validator_determined.specs.rules.Context.{label_of}
-use Rattle.wasm_operator_validator_determined.specs.rules.InstructionTypes.{i32_type}
-use Rattle.wasm_operator_validator_determined.specs.state.Refusals.{refused, kind_of}
-use Rattle.wasm_operator_validator_determined.specs.state.State.{signature_of}
-use Rattle.wasm_operator_validator_determined.specs.laws.Types.{i32_in}
-use Rattle.wasm_operator_validator_determined.specs.laws.Same.{stays_trans}
-use Rattle.wasm_operator_validator_determined.specs.laws.Determined.{refused_then, by_types}
+use Rattle.wasm_types.specs.decoding.DenialLaws.{denies}
+use Rattle.wasm_types.specs.decoding.declared.error.ErrorKind.TheVariants.{Other}
+use Rattle.wasm_operators_immediates.specs.declared.proposal.Proposal.TheVariants.{Mvp}
+use Rattle.wasm_operator_validator_rules.specs.Operands.{ValueType}
+use Rattle.wasm_operator_validator_rules.specs.Context.{label_of}
+use Rattle.wasm_operator_validator_rules.specs.InstructionTypes.{i32_type}
+use Rattle.wasm_operator_validator_state.specs.Refusals.{refused, kind_of}
+use Rattle.wasm_operator_validator_state.specs.State.{signature_of}
+use Rattle.wasm_operator_validator_stacks.specs.determined.laws.Types.{i32_in}
+use Rattle.wasm_operator_validator_stacks.specs.determined.laws.Same.{stays_trans}
+use Rattle.wasm_operator_validator_stacks.specs.determined.laws.Determined.{refused_then, by_types}
 use Rattle.wasm_operator_validator_control.specs.laws.Jumping.{exchanged_more}
 use Rattle.wasm_operator_validator_control.specs.laws.Labels.{label_at, no_label_at, same_labels}
 use Rattle.wasm_operator_validator_control.proofs.BranchRows.{br_if, br_if_is, br_if_row, no_condition, no_br_if}

@@ -1,7 +1,7 @@
 use Rattle.std.proofs.Common.{[], false, refl}
-use Rattle.wasm_operator_validator_determined.specs.expression.info.declared.proposal.Proposal.TheVariants.{Mvp}
-use Rattle.wasm_operator_validator_determined.specs.state.Refusals.{refused}
-use Rattle.wasm_operator_validator_determined.specs.laws.Determined.{by_types}
+use Rattle.wasm_operators_immediates.specs.declared.proposal.Proposal.TheVariants.{Mvp}
+use Rattle.wasm_operator_validator_state.specs.Refusals.{refused}
+use Rattle.wasm_operator_validator_stacks.specs.determined.laws.Determined.{by_types}
 use Rattle.wasm_operator_validator_control.proofs.BranchRows.{nop, nop_is}
 use Rattle.wasm_operator_validator_control.proofs.branches.check_nop.Goals as goal
 

@@ -1,6 +1,6 @@
 use Rattle.std.proofs.Common.{[], false, refl}
-use Rattle.wasm_operator_validator_determined.specs.expression.info.declared.proposal.Proposal.TheVariants.{Mvp}
-use Rattle.wasm_operator_validator_determined.specs.state.Refusals.{refused}
+use Rattle.wasm_operators_immediates.specs.declared.proposal.Proposal.TheVariants.{Mvp}
+use Rattle.wasm_operator_validator_state.specs.Refusals.{refused}
 use Rattle.wasm_operator_validator_control.specs.laws.Jumping.{by_last}
 use Rattle.wasm_operator_validator_control.proofs.BranchRows.{unreachable, unreachable_is, unreachable_last}
 use Rattle.wasm_operator_validator_control.proofs.branches.check_unreachable.Goals as goal

@@ -1,6 +1,6 @@
 use Rattle.std.proofs.Common.{sym}
-use Rattle.wasm_operator_validator_determined.specs.resources.Meaning.{type_of_id}
-use Rattle.wasm_operator_validator_blocks.specs.Signatures.{signature_in}
+use Rattle.wasm_operator_validator_state.specs.resources.Meaning.{type_of_id}
+use Rattle.wasm_operator_validator_state.specs.blocks.Signatures.{signature_in}
 use Rattle.wasm_operator_validator_control.proofs.Naming.{not_named, is_named}
 use Rattle.wasm_operator_validator_control.proofs.callees.callee.Goals as goal
 

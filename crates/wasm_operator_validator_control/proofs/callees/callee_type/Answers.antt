@@ -1,4 +1,4 @@
-use Rattle.wasm_operator_validator_blocks.specs.Signatures.{signature_in}
+use Rattle.wasm_operator_validator_state.specs.blocks.Signatures.{signature_in}
 use Rattle.wasm_operator_validator_control.proofs.Naming.{not_named_type, is_named_type}
 use Rattle.wasm_operator_validator_control.proofs.callees.callee_type.Goals as goal
 

@@ -1,8 +1,8 @@
 use Rattle.std.proofs.Common.{false, refl}
-use Rattle.wasm_operator_validator_determined.specs.expression.info.declared.proposal.Proposal.TheVariants.{Mvp}
-use Rattle.wasm_operator_validator_determined.specs.state.Refusals.{refused}
-use Rattle.wasm_operator_validator_determined.specs.laws.Determined.{refused_here, by_types}
-use Rattle.wasm_operator_validator_blocks.specs.Signatures.{signature_in}
+use Rattle.wasm_operators_immediates.specs.declared.proposal.Proposal.TheVariants.{Mvp}
+use Rattle.wasm_operator_validator_state.specs.Refusals.{refused}
+use Rattle.wasm_operator_validator_stacks.specs.determined.laws.Determined.{refused_here, by_types}
+use Rattle.wasm_operator_validator_state.specs.blocks.Signatures.{signature_in}
 use Rattle.wasm_operator_validator_control.proofs.CallRows.{call, call_is, call_row, no_call}
 use Rattle.wasm_operator_validator_control.proofs.calls.check_call.Goals as goal
 

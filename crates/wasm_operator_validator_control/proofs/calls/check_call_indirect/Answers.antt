@@ -1,13 +1,13 @@
 use Rattle.std.proofs.Common.{false, refl}
-use Rattle.wasm_types.specs.error.DenialLaws.{denies}
-use Rattle.wasm_operator_validator_determined.specs.expression.info.declared.proposal.Proposal.TheVariants.{Mvp}
-use Rattle.wasm_operator_validator_determined.specs.rules.Context.{address_type}
-use Rattle.wasm_operator_validator_determined.specs.resources.Meaning.{table_in}
-use Rattle.wasm_operator_validator_determined.specs.state.Refusals.{refused, kind_of}
-use Rattle.wasm_operator_validator_determined.specs.laws.Types.{address_is}
-use Rattle.wasm_operator_validator_determined.specs.laws.Same.{stays_trans}
-use Rattle.wasm_operator_validator_determined.specs.laws.Determined.{refused_here, refused_then, by_types}
-use Rattle.wasm_operator_validator_blocks.specs.Signatures.{signature_in}
+use Rattle.wasm_types.specs.decoding.DenialLaws.{denies}
+use Rattle.wasm_operators_immediates.specs.declared.proposal.Proposal.TheVariants.{Mvp}
+use Rattle.wasm_operator_validator_rules.specs.Context.{address_type}
+use Rattle.wasm_operator_validator_state.specs.resources.Meaning.{table_in}
+use Rattle.wasm_operator_validator_state.specs.Refusals.{refused, kind_of}
+use Rattle.wasm_operator_validator_stacks.specs.determined.laws.Types.{address_is}
+use Rattle.wasm_operator_validator_stacks.specs.determined.laws.Same.{stays_trans}
+use Rattle.wasm_operator_validator_stacks.specs.determined.laws.Determined.{refused_here, refused_then, by_types}
+use Rattle.wasm_operator_validator_state.specs.blocks.Signatures.{signature_in}
 use Rattle.wasm_operator_validator_control.specs.laws.Jumping.{exchanged_more}
 use Rattle.wasm_operator_validator_control.proofs.CallRows.{call_indirect, call_indirect_is, call_indirect_row, no_call_indirect, no_indirect_type, takes_index, no_index}
 use Rattle.wasm_operator_validator_control.proofs.calls.check_call_indirect.Goals as goal

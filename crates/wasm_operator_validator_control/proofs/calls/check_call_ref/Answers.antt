@@ -1,9 +1,9 @@
 use Rattle.std.proofs.Common.{false, refl}
-use Rattle.wasm_operator_validator_determined.specs.expression.info.declared.proposal.Proposal.TheVariants.{FunctionReferences}
-use Rattle.wasm_operator_validator_determined.specs.state.Refusals.{refused, kind_of}
-use Rattle.wasm_operator_validator_determined.specs.laws.Same.{stays_trans}
-use Rattle.wasm_operator_validator_determined.specs.laws.Determined.{not_begun, refused_here, refused_then, by_types}
-use Rattle.wasm_operator_validator_blocks.specs.Signatures.{signature_in}
+use Rattle.wasm_operators_immediates.specs.declared.proposal.Proposal.TheVariants.{FunctionReferences}
+use Rattle.wasm_operator_validator_state.specs.Refusals.{refused, kind_of}
+use Rattle.wasm_operator_validator_stacks.specs.determined.laws.Same.{stays_trans}
+use Rattle.wasm_operator_validator_stacks.specs.determined.laws.Determined.{not_begun, refused_here, refused_then, by_types}
+use Rattle.wasm_operator_validator_state.specs.blocks.Signatures.{signature_in}
 use Rattle.wasm_operator_validator_control.specs.Callees.{reference_type}
 use Rattle.wasm_operator_validator_control.specs.laws.Jumping.{exchanged_more}
 use Rattle.wasm_operator_validator_control.proofs.RefCalls.{call_ref, call_ref_is, call_ref_row, no_call_ref, no_callee, has_index, takes_reference}

@@ -1,6 +1,6 @@
 use Rattle.std.proofs.Common.{◌∙◌, sym, ap, Some}
-use Rattle.wasm_operator_validator_determined.specs.state.State.{types_in}
-use Rattle.wasm_operator_validator_determined.specs.laws.Usable.{fails}
+use Rattle.wasm_operator_validator_state.specs.State.{types_in}
+use Rattle.wasm_operator_validator_stacks.specs.determined.laws.Usable.{fails}
 use Rattle.wasm_operator_validator_control.specs.laws.Labels.{label_at, no_label_at}
 use Rattle.wasm_operator_validator_control.proofs.Catching.{no_label, not_carried, carried}
 use Rattle.wasm_operator_validator_control.proofs.catches.carries.Goals as goal

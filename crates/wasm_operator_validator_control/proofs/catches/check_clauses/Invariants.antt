@@ -1,6 +1,6 @@
 use Rattle.std.proofs.Common.{◌↔◌, drop}
-use Rattle.wasm_operator_validator_determined.specs.rules.Exceptions.{EachCatches}
-use Rattle.wasm_operator_validator_determined.specs.state.State.{context}
+use Rattle.wasm_operator_validator_rules.specs.Exceptions.{EachCatches}
+use Rattle.wasm_operator_validator_state.specs.State.{context}
 use Rattle.wasm_operator_validator_control.proofs.catches.check_clauses.Given as goal
 
 -- what is left decides as all did

@@ -1,10 +1,10 @@
 use Rattle.std.proofs.Common.{false, refl, sym}
-use Rattle.wasm_operator_validator_determined.specs.expression.immediates.Tables.{catch_table_of}
-use Rattle.wasm_operator_validator_determined.specs.expression.immediates.declared.frames.FrameKind.TheVariants as frames
-use Rattle.wasm_operator_validator_determined.specs.expression.info.declared.proposal.Proposal.TheVariants.{Exceptions}
-use Rattle.wasm_operator_validator_determined.specs.state.Refusals.{kind_of, refused}
-use Rattle.wasm_operator_validator_determined.specs.state.laws.Entering.{enabled}
-use Rattle.wasm_operator_validator_determined.specs.state.laws.Checks.{checks_going}
+use Rattle.wasm_operators_immediates.specs.Tables.{catch_table_of}
+use Rattle.wasm_operators_immediates.specs.declared.frames.FrameKind.TheVariants as frames
+use Rattle.wasm_operators_immediates.specs.declared.proposal.Proposal.TheVariants.{Exceptions}
+use Rattle.wasm_operator_validator_state.specs.Refusals.{kind_of, refused}
+use Rattle.wasm_operator_validator_state.specs.laws.Entering.{enabled}
+use Rattle.wasm_operator_validator_state.specs.laws.Checks.{checks_going}
 use Rattle.wasm_operator_validator_control.proofs.Opening.{opener, not_opened}
 use Rattle.wasm_operator_validator_control.proofs.TryClauses.{stopped_unless, try_table, try_table_needs, not_caught}
 use Rattle.wasm_operator_validator_control.proofs.catches.check_try_table.Goals as goal

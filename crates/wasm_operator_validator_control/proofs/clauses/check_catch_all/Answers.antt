@@ -1,10 +1,10 @@
 use Rattle.std.proofs.Common.{◌∙◌, [], false, refl, ap}
-use Rattle.wasm_operator_validator_determined.specs.expression.immediates.declared.frames.FrameKind.TheVariants as frames
-use Rattle.wasm_operator_validator_determined.specs.expression.info.declared.proposal.Proposal.TheVariants.{LegacyExceptions}
-use Rattle.wasm_operator_validator_determined.specs.state.Refusals.{kind_of, refused}
-use Rattle.wasm_operator_validator_determined.specs.state.State.{State}
-use Rattle.wasm_operator_validator_determined.specs.state.laws.Clauses.{catch_all, catch_all_begins}
-use Rattle.wasm_operator_validator_determined.specs.laws.Usable.{fails}
+use Rattle.wasm_operators_immediates.specs.declared.frames.FrameKind.TheVariants as frames
+use Rattle.wasm_operators_immediates.specs.declared.proposal.Proposal.TheVariants.{LegacyExceptions}
+use Rattle.wasm_operator_validator_state.specs.Refusals.{kind_of, refused}
+use Rattle.wasm_operator_validator_state.specs.State.{State}
+use Rattle.wasm_operator_validator_state.specs.laws.Clauses.{catch_all, catch_all_begins}
+use Rattle.wasm_operator_validator_stacks.specs.determined.laws.Usable.{fails}
 use Rattle.wasm_operator_validator_control.proofs.Ending.{is_top}
 use Rattle.wasm_operator_validator_control.proofs.TryClauses.{stopped_unless, catch_all_needs, clause_outside, clause_unfinished, clause_pushed, catch_all_turns}
 use Rattle.wasm_operator_validator_control.proofs.clauses.check_catch_all.Goals as goal

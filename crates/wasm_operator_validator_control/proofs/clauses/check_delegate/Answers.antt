@@ -1,8 +1,8 @@
 use Rattle.std.proofs.Common.{◌∙◌, false, refl}
-use Rattle.wasm_operator_validator_determined.specs.expression.info.declared.proposal.Proposal.TheVariants.{LegacyExceptions}
-use Rattle.wasm_operator_validator_determined.specs.state.Refusals.{kind_of, refused}
-use Rattle.wasm_operator_validator_determined.specs.state.laws.Clauses.{delegate}
-use Rattle.wasm_operator_validator_determined.specs.laws.Usable.{fails}
+use Rattle.wasm_operators_immediates.specs.declared.proposal.Proposal.TheVariants.{LegacyExceptions}
+use Rattle.wasm_operator_validator_state.specs.Refusals.{kind_of, refused}
+use Rattle.wasm_operator_validator_state.specs.laws.Clauses.{delegate}
+use Rattle.wasm_operator_validator_stacks.specs.determined.laws.Usable.{fails}
 use Rattle.wasm_operator_validator_control.proofs.Ending.{is_top}
 use Rattle.wasm_operator_validator_control.proofs.TryClauses.{stopped_unless, delegate_needs, delegate_outside, delegate_unfinished, delegate_nowhere, delegate_pushed}
 use Rattle.wasm_operator_validator_control.proofs.clauses.check_delegate.Goals as goal

@@ -1,7 +1,7 @@
 use Rattle.std.proofs.Common.{false, [], refl, sym, ap, ◌∙◌, Some}
-use Rattle.wasm_operator_validator_determined.specs.expression.info.declared.proposal.Proposal.TheVariants.{LegacyExceptions}
-use Rattle.wasm_operator_validator_determined.specs.state.Refusals.{refused}
-use Rattle.wasm_operator_validator_determined.specs.laws.Determined.{not_begun, refused_here}
+use Rattle.wasm_operators_immediates.specs.declared.proposal.Proposal.TheVariants.{LegacyExceptions}
+use Rattle.wasm_operator_validator_state.specs.Refusals.{refused}
+use Rattle.wasm_operator_validator_stacks.specs.determined.laws.Determined.{not_begun, refused_here}
 use Rattle.wasm_operator_validator_control.specs.laws.Jumping.{by_last}
 use Rattle.wasm_operator_validator_control.proofs.ThrowRows.{rethrow, rethrow_is, rethrow_last, rethrow_nowhere, rethrow_outside, catch_at}
 use Rattle.wasm_operator_validator_control.proofs.exceptions.check_rethrow.Goals as goal

@@ -1,8 +1,8 @@
 use Rattle.std.proofs.Common.{true, false, [], ◌∷◌, refl}
-use Rattle.wasm_operator_validator_determined.specs.expression.info.declared.proposal.Proposal.TheVariants.{Exceptions}
-use Rattle.wasm_operator_validator_determined.specs.rules.Exceptions.{exception}
-use Rattle.wasm_operator_validator_determined.specs.state.Refusals.{refused}
-use Rattle.wasm_operator_validator_determined.specs.laws.Determined.{not_begun}
+use Rattle.wasm_operators_immediates.specs.declared.proposal.Proposal.TheVariants.{Exceptions}
+use Rattle.wasm_operator_validator_rules.specs.Exceptions.{exception}
+use Rattle.wasm_operator_validator_state.specs.Refusals.{refused}
+use Rattle.wasm_operator_validator_stacks.specs.determined.laws.Determined.{not_begun}
 use Rattle.wasm_operator_validator_control.specs.laws.Jumping.{by_last}
 use Rattle.wasm_operator_validator_control.proofs.ThrowRows.{throw_ref, throw_ref_is, throw_ref_last}
 use Rattle.wasm_operator_validator_control.proofs.exceptions.check_throw_ref.Goals as goal

@@ -1,4 +1,4 @@
-use Rattle.wasm_operator_validator_determined.specs.state.Refusals.{kind_of}
+use Rattle.wasm_operator_validator_state.specs.Refusals.{kind_of}
 use Rattle.wasm_operator_validator_control.proofs.Ending.{not_finished}
 use Rattle.wasm_operator_validator_control.proofs.frames.finish_frame.Goals as goal
 

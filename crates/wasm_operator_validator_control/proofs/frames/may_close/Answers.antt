@@ -1,4 +1,4 @@
-use Rattle.wasm_operator_validator_determined.specs.state.State.{signature_of, types_in}
+use Rattle.wasm_operator_validator_state.specs.State.{signature_of, types_in}
 use Rattle.wasm_operator_validator_control.proofs.Ending.{if_closes}
 use Rattle.wasm_operator_validator_control.proofs.frames.may_close.Goals as goal
 

@@ -1,4 +1,4 @@
-use Rattle.wasm_operator_validator_determined.specs.state.Refusals.{refused}
+use Rattle.wasm_operator_validator_state.specs.Refusals.{refused}
 use Rattle.wasm_operator_validator_control.proofs.Opening.{opened_by}
 use Rattle.wasm_operator_validator_control.proofs.frames.open_frame.Goals as goal
 

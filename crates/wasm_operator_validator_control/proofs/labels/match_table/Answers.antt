@@ -1,7 +1,7 @@
 use Rattle.std.proofs.Common.{◌∙◌, sym, ap, Some, length}
 use Rattle.std.proofs.lemmas.List.{length-map}
-use Rattle.wasm_operator_validator_determined.specs.resources.Meaning.{type_in}
-use Rattle.wasm_operator_validator_determined.specs.state.State.{types_in}
+use Rattle.wasm_operator_validator_state.specs.resources.Meaning.{type_in}
+use Rattle.wasm_operator_validator_state.specs.State.{types_in}
 use Rattle.wasm_operator_validator_control.specs.laws.Labels.{label_at}
 use Rattle.wasm_operator_validator_control.proofs.Fits.{no_targets, no_default, agreed}
 use Rattle.wasm_operator_validator_control.proofs.labels.match_table.Goals as goal

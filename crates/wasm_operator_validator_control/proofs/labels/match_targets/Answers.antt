@@ -1,5 +1,5 @@
 use Rattle.std.proofs.Common.{rules}
-use Rattle.wasm_operator_validator_labels.specs.laws.Keeping.{of_none, of_kept}
+use Rattle.wasm_operator_validator_locals.specs.labels.laws.Keeping.{of_none, of_kept}
 use Rattle.wasm_operator_validator_control.specs.Fitting.{Suits}
 use Rattle.wasm_operator_validator_control.proofs.Among.{suits_next}
 use Rattle.wasm_operator_validator_control.proofs.labels.match_targets.Goals as goal

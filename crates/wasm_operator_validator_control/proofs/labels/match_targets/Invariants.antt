@@ -1,5 +1,5 @@
 use Rattle.std.proofs.Common.{◌↔◌, ℕ}
-use Rattle.wasm_operator_validator_labels.specs.Among.{IsAmong}
+use Rattle.wasm_operator_validator_locals.specs.labels.Among.{IsAmong}
 use Rattle.wasm_operator_validator_control.specs.Fitting.{Suits, EachSuits}
 use Rattle.wasm_operator_validator_control.proofs.labels.match_targets.Given as goal
 

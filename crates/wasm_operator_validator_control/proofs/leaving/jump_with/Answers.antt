@@ -1,5 +1,5 @@
-use Rattle.wasm_operator_validator_determined.specs.state.Refusals.{refused}
-use Rattle.wasm_operator_validator_determined.specs.state.State.{types_in}
+use Rattle.wasm_operator_validator_state.specs.Refusals.{refused}
+use Rattle.wasm_operator_validator_state.specs.State.{types_in}
 use Rattle.wasm_operator_validator_control.specs.laws.Jumping.{jumps_then}
 use Rattle.wasm_operator_validator_control.proofs.leaving.jump_with.Goals as goal
 

@@ -1,8 +1,8 @@
 use Rattle.std.proofs.Common.{◌≡◌, ◌∙◌, false, true, sym, arith}
 use Rattle.std.proofs.lemmas.List.{length-map}
-use Rattle.wasm_operator_validator_determined.specs.rules.Operands.{known, stack}
-use Rattle.wasm_operator_validator_determined.specs.resources.Meaning.{type_in}
-use Rattle.wasm_operator_validator_determined.specs.state.State.{types_in}
+use Rattle.wasm_operator_validator_rules.specs.Operands.{known, stack}
+use Rattle.wasm_operator_validator_state.specs.resources.Meaning.{type_in}
+use Rattle.wasm_operator_validator_state.specs.State.{types_in}
 use Rattle.wasm_operator_validator_control.proofs.Places.{type_at, in_more, could_be_popped, not_there, not_fitting}
 use Rattle.wasm_operator_validator_control.proofs.matching.match_operands.Goals as goal
 

@@ -1,5 +1,5 @@
-use Rattle.wasm_operator_validator_determined.specs.rules.Operands.{stack}
-use Rattle.wasm_operator_validator_determined.specs.state.State.{types_in}
+use Rattle.wasm_operator_validator_rules.specs.Operands.{stack}
+use Rattle.wasm_operator_validator_state.specs.State.{types_in}
 use Rattle.wasm_operator_validator_control.proofs.Places.{AreInUpTo}
 use Rattle.wasm_operator_validator_control.proofs.matching.match_operands.Given as goal
 

@@ -1,12 +1,12 @@
 use Rattle.std.proofs.Common.{◌∙◌, List, [], ◌∷◌, ◌++◌, Some, true, false, refl, sym, ap}
-use Rattle.wasm_operator_validator_determined.specs.expression.info.declared.proposal.Proposal.TheVariants.{FunctionReferences}
-use Rattle.wasm_operator_validator_determined.specs.rules.Operands.{ValueType}
+use Rattle.wasm_operators_immediates.specs.declared.proposal.Proposal.TheVariants.{FunctionReferences}
+use Rattle.wasm_operator_validator_rules.specs.Operands.{ValueType}
 use Rattle.wasm_types.specs.trees.Types.{ref}
-use Rattle.wasm_operator_validator_determined.specs.resources.Meaning.{heap_in}
-use Rattle.wasm_operator_validator_determined.specs.state.Refusals.{kind_of, refused}
-use Rattle.wasm_operator_validator_determined.specs.state.State.{types_in}
-use Rattle.wasm_operator_validator_determined.specs.laws.Same.{stays_trans}
-use Rattle.wasm_operator_validator_determined.specs.laws.Determined.{not_begun, refused_here, refused_then, by_types}
+use Rattle.wasm_operator_validator_state.specs.resources.Meaning.{heap_in}
+use Rattle.wasm_operator_validator_state.specs.Refusals.{kind_of, refused}
+use Rattle.wasm_operator_validator_state.specs.State.{types_in}
+use Rattle.wasm_operator_validator_stacks.specs.determined.laws.Same.{stays_trans}
+use Rattle.wasm_operator_validator_stacks.specs.determined.laws.Determined.{not_begun, refused_here, refused_then, by_types}
 use Rattle.wasm_operator_validator_control.specs.laws.Jumping.{exchanged_more}
 use Rattle.wasm_operator_validator_control.specs.laws.Labels.{label_at, no_label_at}
 use Rattle.wasm_operator_validator_control.proofs.NullRows.{on_non_null, on_non_null_is, on_non_null_row, no_label_on_non_null, no_reference_on_label, no_last, ends_in, last_is}

@@ -1,5 +1,5 @@
 use Rattle.std.proofs.Common.{◌≡◌, ◌||◌, ℕ}
-use Rattle.wasm_operator_validator_labels.specs.Among.{is_among}
+use Rattle.wasm_operator_validator_locals.specs.labels.Among.{is_among}
 use Rattle.wasm_operator_validator_control.proofs.sharing.distinct.Given as goal
 
 -- each target was met or is left

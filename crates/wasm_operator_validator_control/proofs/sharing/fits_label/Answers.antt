@@ -1,7 +1,7 @@
 use Rattle.std.proofs.Common.{◌∙◌, sym, ap, Some}
-use Rattle.wasm_operator_validator_determined.specs.rules.Operands.{known}
-use Rattle.wasm_operator_validator_determined.specs.resources.Meaning.{type_in}
-use Rattle.wasm_operator_validator_determined.specs.state.State.{types_in}
+use Rattle.wasm_operator_validator_rules.specs.Operands.{known}
+use Rattle.wasm_operator_validator_state.specs.resources.Meaning.{type_in}
+use Rattle.wasm_operator_validator_state.specs.State.{types_in}
 use Rattle.wasm_operator_validator_control.specs.laws.Labels.{label_at}
 use Rattle.wasm_operator_validator_control.specs.Fitting.{labels_of, a_reference}
 use Rattle.wasm_operator_validator_control.proofs.Places.{type_at}

@@ -1,6 +1,6 @@
 use Rattle.std.proofs.Common.{true, false, slice_get}
-use Rattle.wasm_operator_validator_determined.specs.resources.Meaning.{table_in}
-use Rattle.wasm_operator_validator_determined.specs.laws.Usable.{none_usable, not_usable}
+use Rattle.wasm_operator_validator_state.specs.resources.Meaning.{table_in}
+use Rattle.wasm_operator_validator_stacks.specs.determined.laws.Usable.{none_usable, not_usable}
 use Rattle.wasm_operator_validator_control.specs.Callees.{table_is_shared}
 use Rattle.wasm_operator_validator_control.proofs.Naming.{no_table, not_functions, of_functions}
 use Rattle.wasm_operator_validator_control.proofs.tables.function_table.Goals as goal

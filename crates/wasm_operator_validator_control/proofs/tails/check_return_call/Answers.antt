@@ -1,10 +1,10 @@
 use Rattle.std.proofs.Common.{false, refl}
-use Rattle.wasm_operator_validator_determined.specs.expression.info.declared.proposal.Proposal.TheVariants.{TailCall}
-use Rattle.wasm_operator_validator_determined.specs.state.Refusals.{refused}
-use Rattle.wasm_operator_validator_determined.specs.state.State.{signature_of}
-use Rattle.wasm_operator_validator_determined.specs.laws.Determined.{not_begun, refused_here}
-use Rattle.wasm_operator_validator_determined.specs.laws.Usable.{fails}
-use Rattle.wasm_operator_validator_blocks.specs.Signatures.{signature_in}
+use Rattle.wasm_operators_immediates.specs.declared.proposal.Proposal.TheVariants.{TailCall}
+use Rattle.wasm_operator_validator_state.specs.Refusals.{refused}
+use Rattle.wasm_operator_validator_state.specs.State.{signature_of}
+use Rattle.wasm_operator_validator_stacks.specs.determined.laws.Determined.{not_begun, refused_here}
+use Rattle.wasm_operator_validator_stacks.specs.determined.laws.Usable.{fails}
+use Rattle.wasm_operator_validator_state.specs.blocks.Signatures.{signature_in}
 use Rattle.wasm_operator_validator_control.specs.laws.Jumping.{by_last}
 use Rattle.wasm_operator_validator_control.specs.laws.Labels.{outermost_at, some_outermost}
 use Rattle.wasm_operator_validator_control.proofs.CallRows.{return_call, return_call_is, return_call_last, no_return_call, returns_others}

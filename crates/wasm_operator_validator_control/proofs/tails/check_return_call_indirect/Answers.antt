@@ -1,15 +1,15 @@
 use Rattle.std.proofs.Common.{false, refl}
-use Rattle.wasm_types.specs.error.DenialLaws.{denies}
-use Rattle.wasm_operator_validator_determined.specs.expression.info.declared.proposal.Proposal.TheVariants.{TailCall}
-use Rattle.wasm_operator_validator_determined.specs.rules.Context.{address_type}
-use Rattle.wasm_operator_validator_determined.specs.resources.Meaning.{table_in}
-use Rattle.wasm_operator_validator_determined.specs.state.Refusals.{refused, kind_of}
-use Rattle.wasm_operator_validator_determined.specs.state.State.{signature_of}
-use Rattle.wasm_operator_validator_determined.specs.laws.Types.{address_is}
-use Rattle.wasm_operator_validator_determined.specs.laws.Same.{stays_trans}
-use Rattle.wasm_operator_validator_determined.specs.laws.Determined.{not_begun, refused_here, refused_then}
-use Rattle.wasm_operator_validator_determined.specs.laws.Usable.{fails}
-use Rattle.wasm_operator_validator_blocks.specs.Signatures.{signature_in}
+use Rattle.wasm_types.specs.decoding.DenialLaws.{denies}
+use Rattle.wasm_operators_immediates.specs.declared.proposal.Proposal.TheVariants.{TailCall}
+use Rattle.wasm_operator_validator_rules.specs.Context.{address_type}
+use Rattle.wasm_operator_validator_state.specs.resources.Meaning.{table_in}
+use Rattle.wasm_operator_validator_state.specs.Refusals.{refused, kind_of}
+use Rattle.wasm_operator_validator_state.specs.State.{signature_of}
+use Rattle.wasm_operator_validator_stacks.specs.determined.laws.Types.{address_is}
+use Rattle.wasm_operator_validator_stacks.specs.determined.laws.Same.{stays_trans}
+use Rattle.wasm_operator_validator_stacks.specs.determined.laws.Determined.{not_begun, refused_here, refused_then}
+use Rattle.wasm_operator_validator_stacks.specs.determined.laws.Usable.{fails}
+use Rattle.wasm_operator_validator_state.specs.blocks.Signatures.{signature_in}
 use Rattle.wasm_operator_validator_control.specs.laws.Jumping.{by_last, jumps_more}
 use Rattle.wasm_operator_validator_control.specs.laws.Labels.{outermost_at, some_outermost}
 use Rattle.wasm_operator_validator_control.proofs.CallRows.{return_call_indirect, return_call_indirect_is, return_call_indirect_last, no_return_call_indirect, no_return_type, returns_others_through, takes_index, no_last_index}

@@ -1,9 +1,9 @@
 use Rattle.std.proofs.Common.{[], ◌∷◌}
-use Rattle.wasm_operator_validator_determined.specs.expression.info.declared.proposal.Proposal.TheVariants.{Mvp}
-use Rattle.wasm_operator_validator_determined.specs.expression.operator.Op as op
-use Rattle.wasm_operator_validator_determined.specs.rules.Accesses.{load}
-use Rattle.wasm_operator_validator_determined.specs.state.Refusals.{refused}
-use Rattle.wasm_operator_validator_determined.specs.laws.Determined.{not_begun, refused_here, undetermined, determined}
+use Rattle.wasm_operators_immediates.specs.declared.proposal.Proposal.TheVariants.{Mvp}
+use Rattle.wasm_operators_enums.specs.Op as op
+use Rattle.wasm_operator_validator_rules.specs.Accesses.{load}
+use Rattle.wasm_operator_validator_state.specs.Refusals.{refused}
+use Rattle.wasm_operator_validator_stacks.specs.determined.laws.Determined.{not_begun, refused_here, undetermined, determined}
 use Rattle.wasm_operator_validator_memory.proofs.Accessing.{load_in_table, load_type, no_access}
 use Rattle.wasm_operator_validator_memory.proofs.accesses.check_load.Goals as goal
 

@@ -1,10 +1,10 @@
 use Rattle.std.proofs.Common.{[], None, false}
-use Rattle.wasm_operator_validator_determined.specs.expression.info.declared.proposal.Proposal.TheVariants.{BulkMemory}
-use Rattle.wasm_operator_validator_determined.specs.expression.groups.declared.bulk.BulkOperator.TheVariants as bulk
-use Rattle.wasm_operator_validator_determined.specs.expression.operator.Op as op
-use Rattle.wasm_operator_validator_determined.specs.resources.Meaning.{reference_in}
-use Rattle.wasm_operator_validator_determined.specs.laws.Same.{stays_refl}
-use Rattle.wasm_operator_validator_determined.specs.laws.Determined.{not_begun, stopped_by_content, refused_here, undetermined, unchanged, determined}
+use Rattle.wasm_operators_immediates.specs.declared.proposal.Proposal.TheVariants.{BulkMemory}
+use Rattle.wasm_operators_enums.specs.declared.bulk.BulkOperator.TheVariants as bulk
+use Rattle.wasm_operators_enums.specs.Op as op
+use Rattle.wasm_operator_validator_state.specs.resources.Meaning.{reference_in}
+use Rattle.wasm_operator_validator_stacks.specs.determined.laws.Same.{stays_refl}
+use Rattle.wasm_operator_validator_stacks.specs.determined.laws.Determined.{not_begun, stopped_by_content, refused_here, undetermined, unchanged, determined}
 use Rattle.wasm_operator_validator_memory.proofs.Indexing.{drop_in_table}
 use Rattle.wasm_operator_validator_memory.proofs.Copying.{drop_type, drop_none}
 use Rattle.wasm_operator_validator_memory.proofs.copies.check_elem_drop.Goals as goal

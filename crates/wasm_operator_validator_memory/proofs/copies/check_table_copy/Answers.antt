@@ -1,10 +1,10 @@
 use Rattle.std.proofs.Common.{[], ◌∷◌, false, refl}
-use Rattle.wasm_operator_validator_determined.specs.expression.info.declared.proposal.Proposal.TheVariants.{BulkMemory}
-use Rattle.wasm_operator_validator_determined.specs.expression.groups.declared.bulk.BulkOperator.TheVariants as bulk
-use Rattle.wasm_operator_validator_determined.specs.expression.operator.Op as op
-use Rattle.wasm_operator_validator_determined.specs.state.Refusals.{refused}
-use Rattle.wasm_operator_validator_determined.specs.state.State.{types_in}
-use Rattle.wasm_operator_validator_determined.specs.laws.Determined.{not_begun, refused_here, no_row, taken_only, by_types}
+use Rattle.wasm_operators_immediates.specs.declared.proposal.Proposal.TheVariants.{BulkMemory}
+use Rattle.wasm_operators_enums.specs.declared.bulk.BulkOperator.TheVariants as bulk
+use Rattle.wasm_operators_enums.specs.Op as op
+use Rattle.wasm_operator_validator_state.specs.Refusals.{refused}
+use Rattle.wasm_operator_validator_state.specs.State.{types_in}
+use Rattle.wasm_operator_validator_stacks.specs.determined.laws.Determined.{not_begun, refused_here, no_row, taken_only, by_types}
 use Rattle.wasm_operator_validator_memory.proofs.Indexing.{is_bulk}
 use Rattle.wasm_operator_validator_memory.proofs.Copying.{copy_row, copy_from_nowhere, copy_to_nowhere, copy_unfit}
 use Rattle.wasm_operator_validator_memory.proofs.copies.check_table_copy.Goals as goal

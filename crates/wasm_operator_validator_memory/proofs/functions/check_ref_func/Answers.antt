@@ -1,9 +1,9 @@
 use Rattle.std.proofs.Common.{false}
-use Rattle.wasm_operator_validator_determined.specs.expression.info.declared.proposal.Proposal.TheVariants.{ReferenceTypes}
-use Rattle.wasm_operator_validator_determined.specs.expression.groups.declared.bulk.BulkOperator.TheVariants as bulk
-use Rattle.wasm_operator_validator_determined.specs.resources.Meaning.{type_in}
-use Rattle.wasm_operator_validator_determined.specs.state.Refusals.{refused}
-use Rattle.wasm_operator_validator_determined.specs.laws.Determined.{not_begun, refused_here}
+use Rattle.wasm_operators_immediates.specs.declared.proposal.Proposal.TheVariants.{ReferenceTypes}
+use Rattle.wasm_operators_enums.specs.declared.bulk.BulkOperator.TheVariants as bulk
+use Rattle.wasm_operator_validator_state.specs.resources.Meaning.{type_in}
+use Rattle.wasm_operator_validator_state.specs.Refusals.{refused}
+use Rattle.wasm_operator_validator_stacks.specs.determined.laws.Determined.{not_begun, refused_here}
 use Rattle.wasm_operator_validator_memory.proofs.Indexing.{is_bulk}
 use Rattle.wasm_operator_validator_memory.proofs.ToFunctions.{func_op, not_referable, function_pushed}
 use Rattle.wasm_operator_validator_memory.proofs.functions.check_ref_func.Goals as goal

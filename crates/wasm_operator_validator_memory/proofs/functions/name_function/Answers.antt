@@ -1,4 +1,4 @@
-use Rattle.wasm_operator_validator_determined.specs.resources.Meaning.{type_in}
+use Rattle.wasm_operator_validator_state.specs.resources.Meaning.{type_in}
 use Rattle.wasm_operator_validator_memory.proofs.ToFunctions.{unknown_function, undeclared, unused, function_known, type_within}
 use Rattle.wasm_operator_validator_memory.proofs.functions.name_function.Goals as goal
 

@@ -1,6 +1,6 @@
 use Rattle.std.proofs.Common.{slice_get}
-use Rattle.wasm_operator_validator_determined.specs.resources.Meaning.{global_in}
-use Rattle.wasm_operator_validator_determined.specs.laws.Usable.{none_usable, not_usable, usable}
+use Rattle.wasm_operator_validator_state.specs.resources.Meaning.{global_in}
+use Rattle.wasm_operator_validator_stacks.specs.determined.laws.Usable.{none_usable, not_usable, usable}
 use Rattle.wasm_operator_validator_memory.specs.Variables.{global_is_shared}
 use Rattle.wasm_operator_validator_memory.proofs.globals.usable_global.Goals as goal
 

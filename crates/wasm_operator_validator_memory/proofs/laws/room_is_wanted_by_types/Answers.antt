@@ -1,7 +1,7 @@
 use Rattle.std.proofs.Common.{◌≡◌, ◌∙◌, List, Option, Some, None, subst}
-use Rattle.wasm_operator_validator_determined.specs.rules.Operands.{ValueType}
-use Rattle.wasm_operator_validator_determined.specs.state.State.{Open}
-use Rattle.wasm_operator_validator_determined.specs.state.Steps.{IsOpen}
+use Rattle.wasm_operator_validator_rules.specs.Operands.{ValueType}
+use Rattle.wasm_operator_validator_state.specs.State.{Open}
+use Rattle.wasm_operator_validator_state.specs.Steps.{IsOpen}
 use Rattle.wasm_operator_validator_memory.proofs.Operators.{local_unknown, local_get_unset}
 use Rattle.wasm_operator_validator_memory.proofs.Room.{drop_has_types}
 use Rattle.wasm_operator_validator_memory.proofs.laws.room_is_wanted_by_types.Goals as goal

@@ -1,11 +1,11 @@
 use Rattle.std.proofs.Common.{[], ◌∷◌, false, refl}
-use Rattle.wasm_operator_validator_determined.specs.expression.info.declared.proposal.Proposal.TheVariants.{Mvp}
-use Rattle.wasm_operator_validator_determined.specs.expression.groups.declared.memory.MemoryOperator.TheVariants as memory
-use Rattle.wasm_operator_validator_determined.specs.expression.operator.Op as op
-use Rattle.wasm_operator_validator_determined.specs.resources.Meaning.{type_in}
-use Rattle.wasm_operator_validator_determined.specs.state.Refusals.{refused}
-use Rattle.wasm_operator_validator_determined.specs.state.State.{initialised}
-use Rattle.wasm_operator_validator_determined.specs.laws.Determined.{not_begun, refused_here, no_row, given_only, by_types}
+use Rattle.wasm_operators_immediates.specs.declared.proposal.Proposal.TheVariants.{Mvp}
+use Rattle.wasm_operators_enums.specs.declared.memory.MemoryOperator.TheVariants as memory
+use Rattle.wasm_operators_enums.specs.Op as op
+use Rattle.wasm_operator_validator_state.specs.resources.Meaning.{type_in}
+use Rattle.wasm_operator_validator_state.specs.Refusals.{refused}
+use Rattle.wasm_operator_validator_state.specs.State.{initialised}
+use Rattle.wasm_operator_validator_stacks.specs.determined.laws.Determined.{not_begun, refused_here, no_row, given_only, by_types}
 use Rattle.wasm_operator_validator_memory.proofs.Operators.{local_get_is, local_get_row, local_get_none, local_get_unset, is_set, is_unset}
 use Rattle.wasm_operator_validator_memory.proofs.Setting.{set_within}
 use Rattle.wasm_operator_validator_memory.proofs.Room.{by_entry, by_content, has_types}

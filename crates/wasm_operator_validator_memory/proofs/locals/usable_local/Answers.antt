@@ -1,8 +1,8 @@
 use Rattle.std.proofs.Common.{slice_get}
 use Rattle.wasm_types.specs.trees.Below.{value_is_shared}
-use Rattle.wasm_operator_validator_determined.specs.resources.Meaning.{type_in}
-use Rattle.wasm_operator_validator_determined.specs.state.State.{types_in}
-use Rattle.wasm_operator_validator_determined.specs.laws.Usable.{none_usable, not_usable, usable}
+use Rattle.wasm_operator_validator_state.specs.resources.Meaning.{type_in}
+use Rattle.wasm_operator_validator_state.specs.State.{types_in}
+use Rattle.wasm_operator_validator_stacks.specs.determined.laws.Usable.{none_usable, not_usable, usable}
 use Rattle.wasm_operator_validator_memory.proofs.Operators.{local_known, local_unknown}
 use Rattle.wasm_operator_validator_memory.proofs.locals.usable_local.Goals as goal
 

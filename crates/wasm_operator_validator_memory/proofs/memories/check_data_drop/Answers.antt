@@ -1,8 +1,8 @@
 use Rattle.std.proofs.Common.{false}
-use Rattle.wasm_operator_validator_determined.specs.expression.info.declared.proposal.Proposal.TheVariants.{BulkMemory}
-use Rattle.wasm_operator_validator_determined.specs.expression.groups.declared.bulk.BulkOperator.TheVariants as bulk
-use Rattle.wasm_operator_validator_determined.specs.expression.operator.Op as op
-use Rattle.wasm_operator_validator_determined.specs.laws.Determined.{not_begun, stopped_by_content}
+use Rattle.wasm_operators_immediates.specs.declared.proposal.Proposal.TheVariants.{BulkMemory}
+use Rattle.wasm_operators_enums.specs.declared.bulk.BulkOperator.TheVariants as bulk
+use Rattle.wasm_operators_enums.specs.Op as op
+use Rattle.wasm_operator_validator_stacks.specs.determined.laws.Determined.{not_begun, stopped_by_content}
 use Rattle.wasm_operator_validator_memory.proofs.Spaces.{drop_in_table, data_dropped}
 use Rattle.wasm_operator_validator_memory.proofs.memories.check_data_drop.Goals as goal
 

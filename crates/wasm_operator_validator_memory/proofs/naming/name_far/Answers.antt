@@ -1,4 +1,4 @@
-use Rattle.wasm_operator_validator_determined.specs.laws.Usable.{denies_as}
+use Rattle.wasm_operator_validator_stacks.specs.determined.laws.Usable.{denies_as}
 use Rattle.wasm_operator_validator_memory.proofs.Null.{far_known, far_unallowed, far_unknown}
 use Rattle.wasm_operator_validator_memory.proofs.naming.name_far.Goals as goal
 

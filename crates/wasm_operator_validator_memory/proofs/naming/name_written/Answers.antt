@@ -1,4 +1,4 @@
-use Rattle.wasm_operator_validator_determined.specs.laws.Usable.{denies_as}
+use Rattle.wasm_operator_validator_stacks.specs.determined.laws.Usable.{denies_as}
 use Rattle.wasm_operator_validator_memory.specs.Tables.{reference_to}
 use Rattle.wasm_operator_validator_memory.proofs.Null.{not_written}
 use Rattle.wasm_operator_validator_memory.proofs.naming.name_written.Goals as goal

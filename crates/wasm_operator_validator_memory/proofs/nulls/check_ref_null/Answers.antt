@@ -1,12 +1,12 @@
 use Rattle.std.proofs.Common.{ℕ, [], ◌∷◌, false, refl, subst}
-use Rattle.wasm_types.specs.error.Denials.{Denies}
-use Rattle.wasm_operator_validator_determined.specs.expression.info.declared.proposal.Proposal.TheVariants.{ReferenceTypes}
-use Rattle.wasm_operator_validator_determined.specs.expression.groups.declared.bulk.BulkOperator.TheVariants as bulk
-use Rattle.wasm_operator_validator_determined.specs.rules.Context.{IsType}
-use Rattle.wasm_operator_validator_determined.specs.resources.Meaning.{type_in}
-use Rattle.wasm_operator_validator_determined.specs.state.Refusals.{kind_of, refused}
-use Rattle.wasm_operator_validator_determined.specs.state.State.{types_in}
-use Rattle.wasm_operator_validator_determined.specs.laws.Determined.{not_begun, refused_here, given_only, by_types}
+use Rattle.wasm_types.specs.decoding.Denials.{Denies}
+use Rattle.wasm_operators_immediates.specs.declared.proposal.Proposal.TheVariants.{ReferenceTypes}
+use Rattle.wasm_operators_enums.specs.declared.bulk.BulkOperator.TheVariants as bulk
+use Rattle.wasm_operator_validator_rules.specs.Context.{IsType}
+use Rattle.wasm_operator_validator_state.specs.resources.Meaning.{type_in}
+use Rattle.wasm_operator_validator_state.specs.Refusals.{kind_of, refused}
+use Rattle.wasm_operator_validator_state.specs.State.{types_in}
+use Rattle.wasm_operator_validator_stacks.specs.determined.laws.Determined.{not_begun, refused_here, given_only, by_types}
 use Rattle.wasm_operator_validator_memory.specs.Tables.{null_of}
 use Rattle.wasm_operator_validator_memory.proofs.Indexing.{is_bulk}
 use Rattle.wasm_operator_validator_memory.proofs.Null.{IsSome, null_op, null_row, null_unknown, null_unusable}

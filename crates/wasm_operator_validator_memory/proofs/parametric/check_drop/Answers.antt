@@ -1,7 +1,7 @@
 use Rattle.std.proofs.Common.{false}
-use Rattle.wasm_operator_validator_determined.specs.expression.info.declared.proposal.Proposal.TheVariants.{Mvp}
-use Rattle.wasm_operator_validator_determined.specs.state.Refusals.{kind_of}
-use Rattle.wasm_operator_validator_determined.specs.laws.Determined.{not_begun}
+use Rattle.wasm_operators_immediates.specs.declared.proposal.Proposal.TheVariants.{Mvp}
+use Rattle.wasm_operator_validator_state.specs.Refusals.{kind_of}
+use Rattle.wasm_operator_validator_stacks.specs.determined.laws.Determined.{not_begun}
 use Rattle.wasm_operator_validator_memory.proofs.Selecting.{drop_op, drop_is, dropped, not_dropped}
 use Rattle.wasm_operator_validator_memory.proofs.Room.{by_entry, drop_has_types}
 use Rattle.wasm_operator_validator_memory.proofs.parametric.check_drop.Goals as goal

@@ -1,8 +1,8 @@
 use Rattle.std.proofs.Common.{false}
-use Rattle.wasm_operator_validator_determined.specs.expression.info.declared.proposal.Proposal.TheVariants.{Mvp}
-use Rattle.wasm_operator_validator_determined.specs.state.Refusals.{kind_of, refused}
-use Rattle.wasm_operator_validator_determined.specs.state.laws.Accepting.{same_open}
-use Rattle.wasm_operator_validator_determined.specs.laws.Determined.{not_begun}
+use Rattle.wasm_operators_immediates.specs.declared.proposal.Proposal.TheVariants.{Mvp}
+use Rattle.wasm_operator_validator_state.specs.Refusals.{kind_of, refused}
+use Rattle.wasm_operator_validator_state.specs.laws.Accepting.{same_open}
+use Rattle.wasm_operator_validator_stacks.specs.determined.laws.Determined.{not_begun}
 use Rattle.wasm_operator_validator_memory.proofs.Selecting.{select_op, select_is, no_choice, no_second, no_first, not_chosen, put_on}
 use Rattle.wasm_operator_validator_memory.proofs.parametric.check_select.Goals as goal
 

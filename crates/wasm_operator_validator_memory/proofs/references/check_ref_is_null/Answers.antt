@@ -1,9 +1,9 @@
 use Rattle.std.proofs.Common.{◌∙◌, sym, false}
-use Rattle.wasm_operator_validator_determined.specs.expression.info.declared.proposal.Proposal.TheVariants.{ReferenceTypes}
-use Rattle.wasm_operator_validator_determined.specs.expression.groups.declared.bulk.BulkOperator.TheVariants as bulk
-use Rattle.wasm_operator_validator_determined.specs.state.Refusals.{kind_of, refused}
-use Rattle.wasm_operator_validator_determined.specs.state.laws.Accepting.{same_open}
-use Rattle.wasm_operator_validator_determined.specs.laws.Determined.{not_begun}
+use Rattle.wasm_operators_immediates.specs.declared.proposal.Proposal.TheVariants.{ReferenceTypes}
+use Rattle.wasm_operators_enums.specs.declared.bulk.BulkOperator.TheVariants as bulk
+use Rattle.wasm_operator_validator_state.specs.Refusals.{kind_of, refused}
+use Rattle.wasm_operator_validator_state.specs.laws.Accepting.{same_open}
+use Rattle.wasm_operator_validator_stacks.specs.determined.laws.Determined.{not_begun}
 use Rattle.wasm_operator_validator_memory.proofs.Indexing.{is_bulk}
 use Rattle.wasm_operator_validator_memory.proofs.Referring.{is_null, tested, nothing_tested, no_reference}
 use Rattle.wasm_operator_validator_memory.proofs.references.check_ref_is_null.Goals as goal

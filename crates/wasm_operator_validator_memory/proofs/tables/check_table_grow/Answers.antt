@@ -1,10 +1,10 @@
 use Rattle.std.proofs.Common.{[], ◌∷◌, false}
 use Rattle.wasm_types.specs.values.declared.value.ValType.TheVariants as vals
-use Rattle.wasm_operator_validator_determined.specs.expression.info.declared.proposal.Proposal.TheVariants.{ReferenceTypes}
-use Rattle.wasm_operator_validator_determined.specs.expression.groups.declared.bulk.BulkOperator.TheVariants as bulk
-use Rattle.wasm_operator_validator_determined.specs.expression.operator.Op as op
-use Rattle.wasm_operator_validator_determined.specs.state.Refusals.{refused}
-use Rattle.wasm_operator_validator_determined.specs.laws.Determined.{not_begun, refused_here, undetermined, determined}
+use Rattle.wasm_operators_immediates.specs.declared.proposal.Proposal.TheVariants.{ReferenceTypes}
+use Rattle.wasm_operators_enums.specs.declared.bulk.BulkOperator.TheVariants as bulk
+use Rattle.wasm_operators_enums.specs.Op as op
+use Rattle.wasm_operator_validator_state.specs.Refusals.{refused}
+use Rattle.wasm_operator_validator_stacks.specs.determined.laws.Determined.{not_begun, refused_here, undetermined, determined}
 use Rattle.wasm_operator_validator_memory.proofs.Indexing.{grow_in_table, grow_type, grow_none}
 use Rattle.wasm_operator_validator_memory.proofs.tables.check_table_grow.Goals as goal
 

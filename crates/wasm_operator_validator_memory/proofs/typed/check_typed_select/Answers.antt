@@ -1,14 +1,14 @@
 use Rattle.std.proofs.Common.{ℕ, [], ◌∷◌, false, refl, subst}
-use Rattle.wasm_types.specs.error.Denials.{Denies}
+use Rattle.wasm_types.specs.decoding.Denials.{Denies}
 use Rattle.wasm_types.specs.values.declared.value.ValType.TheVariants as vals
-use Rattle.wasm_operator_validator_determined.specs.expression.info.declared.proposal.Proposal.TheVariants.{ReferenceTypes}
-use Rattle.wasm_operator_validator_determined.specs.rules.Context.{IsType}
-use Rattle.wasm_operator_validator_determined.specs.resources.Meaning.{type_in}
-use Rattle.wasm_operator_validator_determined.specs.state.Refusals.{kind_of, refused}
-use Rattle.wasm_operator_validator_determined.specs.state.State.{types_in}
-use Rattle.wasm_operator_validator_determined.specs.laws.Same.{stays_refl}
-use Rattle.wasm_operator_validator_determined.specs.laws.Determined.{not_begun, refused_then, refused_here, by_types}
-use Rattle.wasm_operator_validator_determined.specs.laws.Usable.{denies_as}
+use Rattle.wasm_operators_immediates.specs.declared.proposal.Proposal.TheVariants.{ReferenceTypes}
+use Rattle.wasm_operator_validator_rules.specs.Context.{IsType}
+use Rattle.wasm_operator_validator_state.specs.resources.Meaning.{type_in}
+use Rattle.wasm_operator_validator_state.specs.Refusals.{kind_of, refused}
+use Rattle.wasm_operator_validator_state.specs.State.{types_in}
+use Rattle.wasm_operator_validator_stacks.specs.determined.laws.Same.{stays_refl}
+use Rattle.wasm_operator_validator_stacks.specs.determined.laws.Determined.{not_begun, refused_then, refused_here, by_types}
+use Rattle.wasm_operator_validator_stacks.specs.determined.laws.Usable.{denies_as}
 use Rattle.wasm_operator_validator_memory.proofs.WrittenTypes.{typed_op, typed_is, typed_row, not_typed, not_used}
 use Rattle.wasm_operator_validator_memory.proofs.typed.check_typed_select.Goals as goal
 

@@ -1,7 +1,7 @@
 use Rattle.std.proofs.Common.{false}
-use Rattle.wasm_operator_validator_determined.specs.expression.info.declared.proposal.Proposal.TheVariants.{ReferenceTypes}
-use Rattle.wasm_operator_validator_determined.specs.expression.operator.Op as op
-use Rattle.wasm_operator_validator_determined.specs.laws.Determined.{not_begun, stopped_by_content, refused_here}
+use Rattle.wasm_operators_immediates.specs.declared.proposal.Proposal.TheVariants.{ReferenceTypes}
+use Rattle.wasm_operators_enums.specs.Op as op
+use Rattle.wasm_operator_validator_stacks.specs.determined.laws.Determined.{not_begun, stopped_by_content, refused_here}
 use Rattle.wasm_operator_validator_memory.proofs.WrittenTypes.{multi_is, not_multi}
 use Rattle.wasm_operator_validator_memory.proofs.typed.check_typed_select_multi.Goals as goal
 

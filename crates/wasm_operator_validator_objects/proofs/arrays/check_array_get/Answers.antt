@@ -1,10 +1,10 @@
 use Rattle.std.proofs.Common.{[], ◌∷◌}
 use Rattle.wasm_types.specs.values.declared.value.ValType.TheVariants as vals
-use Rattle.wasm_operator_validator_determined.specs.state.State.{types_in}
-use Rattle.wasm_operator_validator_determined.specs.rules.Places.{element_place}
-use Rattle.wasm_operator_validator_determined.specs.rules.InstructionTypes.{named}
+use Rattle.wasm_operator_validator_state.specs.State.{types_in}
+use Rattle.wasm_operator_validator_rules.specs.Places.{element_place}
+use Rattle.wasm_operator_validator_rules.specs.InstructionTypes.{named}
 use Rattle.wasm_operator_validator_objects.specs.Rows.{here, reading}
-use Rattle.wasm_operator_validator_determined.specs.laws.Usable.{fails}
+use Rattle.wasm_operator_validator_stacks.specs.determined.laws.Usable.{fails}
 use Rattle.wasm_operator_validator_objects.proofs.Tables.{refused_named, typed_row}
 use Rattle.wasm_operator_validator_objects.proofs.Storing.{nothing_named, place_read, place_unread}
 use Rattle.wasm_operator_validator_objects.proofs.arrays.check_array_get.Goals as goal

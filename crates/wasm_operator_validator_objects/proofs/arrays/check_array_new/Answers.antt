@@ -1,8 +1,8 @@
 use Rattle.std.proofs.Common.{[], ◌∷◌}
-use Rattle.wasm_operators_visit.specs.groups.declared.gc.GcOperator.TheVariants as gc
+use Rattle.wasm_operators_enums.specs.declared.gc.GcOperator.TheVariants as gc
 use Rattle.wasm_types.specs.values.declared.value.ValType.TheVariants as vals
-use Rattle.wasm_operator_validator_determined.specs.state.State.{types_in}
-use Rattle.wasm_operator_validator_determined.specs.rules.Aggregates.{array_named}
+use Rattle.wasm_operator_validator_state.specs.State.{types_in}
+use Rattle.wasm_operator_validator_rules.specs.Aggregates.{array_named}
 use Rattle.wasm_operator_validator_objects.specs.Rows.{here}
 use Rattle.wasm_operator_validator_objects.proofs.Tables.{refused_typed, row_typed}
 use Rattle.wasm_operator_validator_objects.proofs.Looking.{array_index}

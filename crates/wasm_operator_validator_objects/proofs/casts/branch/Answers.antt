@@ -1,10 +1,10 @@
 use Rattle.std.proofs.Common.{Some, None, [], ◌∷◌, ◌++◌}
-use Rattle.wasm_types.specs.error.DenialLaws.{denies_from}
-use Rattle.wasm_operator_validator_determined.specs.resources.Meaning.{type_in}
-use Rattle.wasm_operator_validator_determined.specs.state.Refusals.{kind_of, refused}
-use Rattle.wasm_operator_validator_determined.specs.state.State.{types_in}
-use Rattle.wasm_operator_validator_determined.specs.laws.Same.{stays_trans}
-use Rattle.wasm_operator_validator_determined.specs.state.laws.Accepting.{same_open}
+use Rattle.wasm_types.specs.decoding.DenialLaws.{denies_from}
+use Rattle.wasm_operator_validator_resources.specs.Meaning.{type_in}
+use Rattle.wasm_operator_validator_state.specs.Refusals.{kind_of, refused}
+use Rattle.wasm_operator_validator_state.specs.State.{types_in}
+use Rattle.wasm_operator_validator_stacks.specs.determined.laws.Same.{stays_trans}
+use Rattle.wasm_operator_validator_state.specs.laws.Accepting.{same_open}
 use Rattle.wasm_operator_validator_control.specs.laws.Jumping.{pops_last, exchanged_more}
 use Rattle.wasm_operator_validator_objects.proofs.Tables.{exchanged_row}
 use Rattle.wasm_operator_validator_objects.proofs.Casting.{pushed_above}

@@ -1,5 +1,5 @@
 use Rattle.std.proofs.Common.{◌∙◌, List, Some, sym, ap}
-use Rattle.wasm_operator_validator_determined.specs.rules.Operands.{ValueType}
+use Rattle.wasm_operator_validator_rules.specs.Operands.{ValueType}
 use Rattle.wasm_operator_validator_control.specs.laws.Labels.{label_at, no_label_at}
 use Rattle.wasm_operator_validator_objects.proofs.Tables.{refused_row}
 use Rattle.wasm_operator_validator_objects.proofs.Casting.{no_cast_row, no_label_row, empty_label_row, carries_other_row, branch_row, are_taken}

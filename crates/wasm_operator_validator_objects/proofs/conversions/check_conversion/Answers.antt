@@ -1,5 +1,5 @@
-use Rattle.wasm_operator_validator_determined.specs.state.Refusals.{kind_of, refused}
-use Rattle.wasm_operator_validator_determined.specs.state.laws.Accepting.{same_open}
+use Rattle.wasm_operator_validator_state.specs.Refusals.{kind_of, refused}
+use Rattle.wasm_operator_validator_state.specs.laws.Accepting.{same_open}
 use Rattle.wasm_operator_validator_objects.proofs.Measuring.{conversion_checked, converts_nothing, converts_other}
 use Rattle.wasm_operator_validator_objects.proofs.conversions.check_conversion.Goals as goal
 

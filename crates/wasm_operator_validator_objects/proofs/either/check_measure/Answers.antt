@@ -1,5 +1,5 @@
-use Rattle.wasm_operator_validator_determined.specs.state.Refusals.{kind_of, refused}
-use Rattle.wasm_operator_validator_determined.specs.state.laws.Accepting.{same_open}
+use Rattle.wasm_operator_validator_state.specs.Refusals.{kind_of, refused}
+use Rattle.wasm_operator_validator_state.specs.laws.Accepting.{same_open}
 use Rattle.wasm_operator_validator_objects.proofs.Measuring.{measured, measures_nothing, measures_other}
 use Rattle.wasm_operator_validator_objects.proofs.either.check_measure.Goals as goal
 

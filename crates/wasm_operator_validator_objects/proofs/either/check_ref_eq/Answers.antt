@@ -1,5 +1,5 @@
-use Rattle.wasm_operator_validator_determined.specs.state.Refusals.{kind_of, refused}
-use Rattle.wasm_operator_validator_determined.specs.state.laws.Accepting.{same_open}
+use Rattle.wasm_operator_validator_state.specs.Refusals.{kind_of, refused}
+use Rattle.wasm_operator_validator_state.specs.laws.Accepting.{same_open}
 use Rattle.wasm_operator_validator_objects.proofs.Measuring.{equal_checked, equal_other, equal_nothing, equal_one, equal_second}
 use Rattle.wasm_operator_validator_objects.proofs.either.check_ref_eq.Goals as goal
 

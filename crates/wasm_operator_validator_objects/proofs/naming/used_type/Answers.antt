@@ -1,4 +1,4 @@
-use Rattle.wasm_operator_validator_determined.specs.resources.Meaning.{entry_in}
+use Rattle.wasm_operator_validator_resources.specs.Meaning.{entry_in}
 use Rattle.wasm_operator_validator_objects.proofs.Looking.{nothing_used, not_used, is_used}
 use Rattle.wasm_operator_validator_objects.proofs.naming.used_type.Goals as goal
 

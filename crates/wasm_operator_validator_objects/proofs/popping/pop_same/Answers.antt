@@ -1,6 +1,6 @@
 use Rattle.std.proofs.Common.{◌-◌, suc, ◌≡◌, arith}
-use Rattle.wasm_operator_validator_determined.specs.state.Refusals.{kind_of}
-use Rattle.wasm_operator_validator_determined.specs.resources.Meaning.{type_in}
+use Rattle.wasm_operator_validator_state.specs.Refusals.{kind_of}
+use Rattle.wasm_operator_validator_resources.specs.Meaning.{type_in}
 use Rattle.wasm_operator_validator_objects.proofs.Leading.{same_nowhere}
 use Rattle.wasm_operator_validator_objects.proofs.popping.pop_same.Goals as goal
 

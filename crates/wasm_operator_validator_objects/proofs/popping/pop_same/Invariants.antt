@@ -1,4 +1,4 @@
-use Rattle.wasm_operator_validator_determined.specs.resources.Meaning.{type_in}
+use Rattle.wasm_operator_validator_resources.specs.Meaning.{type_in}
 use Rattle.wasm_operator_validator_objects.proofs.Leading.{Leads, of_one}
 use Rattle.wasm_operator_validator_objects.proofs.popping.pop_same.Given as goal
 

@@ -1,4 +1,4 @@
-use Rattle.wasm_operators_visit.specs.groups.declared.gc.GcOperator.TheVariants as gc
+use Rattle.wasm_operators_enums.specs.declared.gc.GcOperator.TheVariants as gc
 use Rattle.wasm_operator_validator_objects.proofs.Tables.{refused_row}
 use Rattle.wasm_operator_validator_objects.proofs.Looking.{array_index}
 use Rattle.wasm_operator_validator_objects.proofs.Storing.{copy_row, copy_into_nothing, copy_of_nothing, copy_immutable, copy_unfit}

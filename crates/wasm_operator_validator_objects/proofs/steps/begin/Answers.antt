@@ -1,7 +1,7 @@
 use Rattle.std.proofs.Common.{false}
-use Rattle.wasm_operator_validator_determined.specs.expression.info.declared.proposal.Proposal.TheVariants.{Gc}
-use Rattle.wasm_operator_validator_determined.specs.expression.operator.Op as op
-use Rattle.wasm_operator_validator_determined.specs.laws.Determined.{not_begun}
+use Rattle.wasm_operators_immediates.specs.declared.proposal.Proposal.TheVariants.{Gc}
+use Rattle.wasm_operators_enums.specs.Op as op
+use Rattle.wasm_operator_validator_stacks.specs.determined.laws.Determined.{not_begun}
 use Rattle.wasm_operator_validator_objects.proofs.Tables.{gc_is}
 use Rattle.wasm_operator_validator_objects.proofs.steps.begin.Goals as goal
 

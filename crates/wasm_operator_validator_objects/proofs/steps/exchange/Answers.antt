@@ -1,5 +1,5 @@
-use Rattle.wasm_operator_validator_determined.specs.state.Refusals.{refused}
-use Rattle.wasm_operator_validator_determined.specs.state.State.{types_in}
+use Rattle.wasm_operator_validator_state.specs.Refusals.{refused}
+use Rattle.wasm_operator_validator_state.specs.State.{types_in}
 use Rattle.wasm_operator_validator_objects.proofs.Tables.{exchanged_row}
 use Rattle.wasm_operator_validator_objects.proofs.steps.exchange.Goals as goal
 

@@ -1,9 +1,9 @@
 use Rattle.std.proofs.Common.{[], ◌∷◌}
-use Rattle.wasm_operator_validator_determined.specs.state.State.{types_in}
-use Rattle.wasm_operator_validator_determined.specs.rules.Places.{field_place}
-use Rattle.wasm_operator_validator_determined.specs.rules.InstructionTypes.{named}
+use Rattle.wasm_operator_validator_state.specs.State.{types_in}
+use Rattle.wasm_operator_validator_rules.specs.Places.{field_place}
+use Rattle.wasm_operator_validator_rules.specs.InstructionTypes.{named}
 use Rattle.wasm_operator_validator_objects.specs.Rows.{here, reading}
-use Rattle.wasm_operator_validator_determined.specs.laws.Usable.{fails}
+use Rattle.wasm_operator_validator_stacks.specs.determined.laws.Usable.{fails}
 use Rattle.wasm_operator_validator_objects.proofs.Tables.{refused_named, typed_row}
 use Rattle.wasm_operator_validator_objects.proofs.Storing.{nothing_named, place_read, place_unread}
 use Rattle.wasm_operator_validator_objects.proofs.structs.check_struct_get.Goals as goal

@@ -1,8 +1,8 @@
 use Rattle.std.proofs.Common.{[], ◌∷◌}
-use Rattle.wasm_operators_visit.specs.groups.declared.gc.GcOperator.TheVariants as gc
-use Rattle.wasm_operator_validator_determined.specs.state.State.{types_in}
-use Rattle.wasm_operator_validator_determined.specs.rules.Places.{field_place}
-use Rattle.wasm_operator_validator_determined.specs.rules.InstructionTypes.{written}
+use Rattle.wasm_operators_enums.specs.declared.gc.GcOperator.TheVariants as gc
+use Rattle.wasm_operator_validator_state.specs.State.{types_in}
+use Rattle.wasm_operator_validator_rules.specs.Places.{field_place}
+use Rattle.wasm_operator_validator_rules.specs.InstructionTypes.{written}
 use Rattle.wasm_operator_validator_objects.specs.Rows.{here}
 use Rattle.wasm_operator_validator_objects.proofs.Tables.{refused_typed, row_typed}
 use Rattle.wasm_operator_validator_objects.proofs.Storing.{nothing_named, place_written, place_unwritten}

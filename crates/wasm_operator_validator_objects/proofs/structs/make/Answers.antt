@@ -1,7 +1,7 @@
 use Rattle.std.proofs.Common.{Some, [], ◌∷◌}
-use Rattle.wasm_operator_validator_determined.specs.state.State.{types_in}
-use Rattle.wasm_operator_validator_determined.specs.state.Refusals.{kind_of, refused}
-use Rattle.wasm_operator_validator_determined.specs.laws.Same.{stays_trans}
+use Rattle.wasm_operator_validator_state.specs.State.{types_in}
+use Rattle.wasm_operator_validator_state.specs.Refusals.{kind_of, refused}
+use Rattle.wasm_operator_validator_stacks.specs.determined.laws.Same.{stays_trans}
 use Rattle.wasm_operator_validator_objects.specs.Found.{unpacked_fields}
 use Rattle.wasm_operator_validator_objects.proofs.Tables.{exchanged_row, popped_then}
 use Rattle.wasm_operator_validator_objects.proofs.structs.make.Goals as goal

@@ -1,8 +1,8 @@
 use Rattle.std.proofs.Common.{[], ◌∷◌}
 use Rattle.wasm_types.specs.values.declared.value.ValType.TheVariants as vals
-use Rattle.wasm_operator_validator_determined.specs.resources.Meaning.{heap_in}
-use Rattle.wasm_operator_validator_determined.specs.state.State.{types_in}
-use Rattle.wasm_operator_validator_determined.specs.rules.InstructionTypes.{cast_at}
+use Rattle.wasm_operator_validator_resources.specs.Meaning.{heap_in}
+use Rattle.wasm_operator_validator_state.specs.State.{types_in}
+use Rattle.wasm_operator_validator_rules.specs.InstructionTypes.{cast_at}
 use Rattle.wasm_types.specs.trees.Types.{ref}
 use Rattle.wasm_operator_validator_objects.proofs.Tables.{refused_named, typed_row}
 use Rattle.wasm_operator_validator_objects.proofs.Storing.{cast_unnamed, cast_of_continuation, cast_type}

@@ -1,7 +1,7 @@
 use Rattle.std.proofs.Common.{[], ◌∷◌}
-use Rattle.wasm_operators_visit.specs.groups.declared.gc.GcOperator.TheVariants as gc
+use Rattle.wasm_operators_enums.specs.declared.gc.GcOperator.TheVariants as gc
 use Rattle.wasm_types.specs.values.declared.value.ValType.TheVariants as vals
-use Rattle.wasm_operator_validator_determined.specs.state.State.{types_in}
+use Rattle.wasm_operator_validator_state.specs.State.{types_in}
 use Rattle.wasm_operator_validator_objects.proofs.Tables.{row_typed}
 use Rattle.wasm_operator_validator_objects.proofs.Storing.{ref_i31}
 use Rattle.wasm_operator_validator_objects.proofs.tests.check_ref_i31.Goals as goal

@@ -1,8 +1,8 @@
 use Rattle.std.proofs.Common.{[], ◌∷◌}
 use Rattle.wasm_types.specs.values.declared.value.ValType.TheVariants as vals
-use Rattle.wasm_operator_validator_determined.specs.resources.Meaning.{heap_in}
-use Rattle.wasm_operator_validator_determined.specs.state.State.{types_in}
-use Rattle.wasm_operator_validator_determined.specs.rules.InstructionTypes.{cast_at, i32_type}
+use Rattle.wasm_operator_validator_resources.specs.Meaning.{heap_in}
+use Rattle.wasm_operator_validator_state.specs.State.{types_in}
+use Rattle.wasm_operator_validator_rules.specs.InstructionTypes.{cast_at, i32_type}
 use Rattle.wasm_operator_validator_objects.proofs.Tables.{refused_named, typed_row}
 use Rattle.wasm_operator_validator_objects.proofs.Storing.{cast_unnamed, cast_of_continuation, test_type}
 use Rattle.wasm_operator_validator_objects.proofs.tests.check_ref_test.Goals as goal

@@ -1,5 +1,5 @@
 use Rattle.std.proofs.Common.{rules, arith, ◌≡◌, ◌≤◌, true, false, refl}
-use Rattle.wasm_operator_validator_rules.specs.expression.types.features.Features.{has}
+use Rattle.wasm_types.specs.settings.Features.{has}
 use Rattle.wasm_operator_validator_rules.specs.constants.Worked.{number_that}
 use Rattle.wasm_operator_validator_rules.proofs.constants.constant_operators_are_worked.Goals as goal
 

@@ -1,7 +1,7 @@
 -- The rows of exceptions are counted by the table, and what clauses begin with.
 use Rattle.std.proofs.Common.{◌≡◌, ◌+◌, inr, ℕ, true, [], ◌∷◌, List, length, Option, Some, slice_get, refl, sym, ap, arith, append-nil}
-use Rattle.wasm_operator_validator_rules.specs.expression.operator.Op as op
-use Rattle.wasm_operator_validator_rules.specs.expression.operator.Op.{ExceptionTree}
+use Rattle.wasm_operators_enums.specs.Op as op
+use Rattle.wasm_operators_enums.specs.Op.{ExceptionTree}
 use Rattle.wasm_operator_validator_rules.specs.Operands.{ValueType, Operand, known, all_known}
 use Rattle.wasm_operator_validator_rules.specs.Context.{Context}
 use Rattle.wasm_operator_validator_rules.specs.Exceptions.{IsExceptionTag, ExceptionRow, exception}

@@ -1,29 +1,29 @@
 -- Each group's rows are counted by the table, and with them all that the rules give.
 use Rattle.std.proofs.Common.{◌≡◌, ◌≤◌, ◌+◌, ◌-◌, ◌∙◌, inl, inr, ⊎_elim, ℕ, suc, Bool, true, false, List, [], ◌∷◌, ◌++◌, length, Option, Some, None, slice_get, if◌then◌else◌, refl, sym, ap, subst, arith, length-append, append-nil}
 use Rattle.std.proofs.lemmas.List.{length-map}
-use Rattle.wasm_operator_validator_rules.specs.expression.types.trees.Types.{Number, number, ref}
-use Rattle.wasm_operator_validator_rules.specs.expression.types.trees.Below.{expanded}
-use Rattle.wasm_operator_validator_rules.specs.expression.types.externs.declared.memory.MemoryType.{MemoryType}
-use Rattle.wasm_operator_validator_rules.specs.expression.immediates.declared.block.BlockType.{BlockType}
-use Rattle.wasm_operator_validator_rules.specs.expression.immediates.declared.block.BlockType.TheVariants as block
-use Rattle.wasm_operator_validator_rules.specs.expression.immediates.declared.frames.FrameKind.{FrameKind}
-use Rattle.wasm_operator_validator_rules.specs.expression.immediates.declared.frames.FrameKind.TheVariants as frames
-use Rattle.wasm_operator_validator_rules.specs.expression.groups.declared.control.ControlOperator.{ControlOperator}
-use Rattle.wasm_operator_validator_rules.specs.expression.groups.declared.control.ControlOperator.TheVariants as control
-use Rattle.wasm_operator_validator_rules.specs.expression.groups.declared.memory.MemoryOperator.{MemoryOperator}
-use Rattle.wasm_operator_validator_rules.specs.expression.groups.declared.memory.MemoryOperator.TheVariants as memory
-use Rattle.wasm_operator_validator_rules.specs.expression.groups.declared.bulk.BulkOperator.{BulkOperator}
-use Rattle.wasm_operator_validator_rules.specs.expression.groups.declared.bulk.BulkOperator.TheVariants as bulk
-use Rattle.wasm_operator_validator_rules.specs.expression.groups.declared.atomic.AtomicOperator.{AtomicOperator}
-use Rattle.wasm_operator_validator_rules.specs.expression.groups.declared.atomic.AtomicOperator.TheVariants as atomic
-use Rattle.wasm_operator_validator_rules.specs.expression.operator.Op as op
-use Rattle.wasm_operator_validator_rules.specs.expression.operator.Op.{Op, ParametricTree}
+use Rattle.wasm_types.specs.trees.Types.{Number, number, ref}
+use Rattle.wasm_types.specs.trees.Below.{expanded}
+use Rattle.wasm_types.specs.externs.declared.memory.MemoryType.{MemoryType}
+use Rattle.wasm_operators_immediates.specs.declared.block.BlockType.{BlockType}
+use Rattle.wasm_operators_immediates.specs.declared.block.BlockType.TheVariants as block
+use Rattle.wasm_operators_immediates.specs.declared.frames.FrameKind.{FrameKind}
+use Rattle.wasm_operators_immediates.specs.declared.frames.FrameKind.TheVariants as frames
+use Rattle.wasm_operators_enums.specs.declared.control.ControlOperator.{ControlOperator}
+use Rattle.wasm_operators_enums.specs.declared.control.ControlOperator.TheVariants as control
+use Rattle.wasm_operators_enums.specs.declared.memory.MemoryOperator.{MemoryOperator}
+use Rattle.wasm_operators_enums.specs.declared.memory.MemoryOperator.TheVariants as memory
+use Rattle.wasm_operators_enums.specs.declared.bulk.BulkOperator.{BulkOperator}
+use Rattle.wasm_operators_enums.specs.declared.bulk.BulkOperator.TheVariants as bulk
+use Rattle.wasm_operators_enums.specs.declared.atomic.AtomicOperator.{AtomicOperator}
+use Rattle.wasm_operators_enums.specs.declared.atomic.AtomicOperator.TheVariants as atomic
+use Rattle.wasm_operators_enums.specs.Op as op
+use Rattle.wasm_operators_enums.specs.Op.{Op, ParametricTree}
 use Rattle.wasm_operator_validator_rules.specs.Operands.{ValueType, Operand, known, all_known}
 use Rattle.wasm_operator_validator_rules.specs.Context.{Context, Table, Global, Initialised, Signature, IsBlockType, may_use, address_type}
 use Rattle.wasm_operator_validator_rules.specs.Numbers.{numbers, class_of, taken_by, given_by, constant_type}
 use Rattle.wasm_operator_validator_rules.specs.Accesses.{AccessOf, access_of, atomic_access_of, operands_of, results_of, may_access}
 use Rattle.wasm_operator_validator_rules.specs.InstructionTypes.{InstructionType, i32_type, shorter, names_data, memory_at, global_at, table_at, ◌⟶◌, provided, named, instruction_type, accesses, reference_to}
-use Rattle.wasm_operator_validator_rules.specs.expression.operator.declared.role.Role.TheVariants.{Opens}
+use Rattle.wasm_operators_enums.specs.declared.role.Role.TheVariants.{Opens}
 use Rattle.wasm_operator_validator_rules.specs.Named.{used_type, as_function}
 use Rattle.wasm_operator_validator_rules.specs.Typed.{OpensFrame, Turns, EndsAt, entry_of}
 use Rattle.wasm_operator_validator_rules.specs.Row.{GroupRow, TableRow, ControlRow, ParametricRow, MemoryRow, BulkRow, not_null}

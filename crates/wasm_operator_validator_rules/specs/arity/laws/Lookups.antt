@@ -1,8 +1,8 @@
 -- What was looked up was there.
 use Rattle.std.proofs.Common.{◌≡◌, ℕ, Bool, true, false, List, [], ◌∷◌, ◌++◌, length, Option, Some, None, option_and_then, slice_get, if◌then◌else◌, refl, ap, ◌∙◌, sym, length-append}
-use Rattle.wasm_operator_validator_rules.specs.expression.types.trees.Types.{InnerOf, function, array_of, struct_of, continuation}
-use Rattle.wasm_operator_validator_rules.specs.expression.types.trees.Trees.{TypeTree}
-use Rattle.wasm_operator_validator_rules.specs.expression.types.trees.Below.{is_shared}
+use Rattle.wasm_types.specs.trees.Types.{InnerOf, function, array_of, struct_of, continuation}
+use Rattle.wasm_types.specs.trees.Trees.{TypeTree}
+use Rattle.wasm_types.specs.trees.Below.{is_shared}
 use Rattle.wasm_operator_validator_rules.specs.Context.{Context, Signature, may_use}
 use Rattle.wasm_operator_validator_rules.specs.Named.{used_type, as_function}
 use Rattle.wasm_operator_validator_rules.specs.InstructionTypes.{InstructionType, named}

@@ -1,13 +1,13 @@
 -- The rows of operators on structs, arrays and references are counted by the table of numbers.
 use Rattle.std.proofs.Common.{◌≡◌, ◌+◌, ◌∙◌, ℕ, suc, Bool, true, false, not, List, [], ◌∷◌, ◌++◌, ◌&&◌, length, replicate, Option, Some, None, option_map, option_and_then, slice_get, refl, sym, ap, arith, length-append}
 use Rattle.std.proofs.lemmas.List.{length-replicate}
-use Rattle.wasm_operator_validator_rules.specs.expression.types.trees.Types.{InnerOf, function, array_of, struct_of, continuation, FieldOf, ref, HeapOf, abstract, eq, any, extern, i31, array}
-use Rattle.wasm_operator_validator_rules.specs.expression.types.trees.Trees.{TypeTree}
-use Rattle.wasm_operator_validator_rules.specs.expression.types.trees.Below.{expanded}
-use Rattle.wasm_operator_validator_rules.specs.expression.types.values.declared.heap.HeapType.{HeapType}
-use Rattle.wasm_operator_validator_rules.specs.expression.groups.declared.gc.GcOperator.{GcOperator}
-use Rattle.wasm_operator_validator_rules.specs.expression.groups.declared.gc.GcOperator.TheVariants as gc
-use Rattle.wasm_operator_validator_rules.specs.expression.operator.Op as op
+use Rattle.wasm_types.specs.trees.Types.{InnerOf, function, array_of, struct_of, continuation, FieldOf, ref, HeapOf, abstract, eq, any, extern, i31, array}
+use Rattle.wasm_types.specs.trees.Trees.{TypeTree}
+use Rattle.wasm_types.specs.trees.Below.{expanded}
+use Rattle.wasm_types.specs.values.declared.heap.HeapType.{HeapType}
+use Rattle.wasm_operators_enums.specs.declared.gc.GcOperator.{GcOperator}
+use Rattle.wasm_operators_enums.specs.declared.gc.GcOperator.TheVariants as gc
+use Rattle.wasm_operators_enums.specs.Op as op
 use Rattle.wasm_operator_validator_rules.specs.Operands.{ValueType, Operand}
 use Rattle.wasm_operator_validator_rules.specs.Context.{Context}
 use Rattle.wasm_operator_validator_rules.specs.Named.{used_type}

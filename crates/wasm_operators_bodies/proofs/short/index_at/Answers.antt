@@ -1,11 +1,11 @@
 use Rattle.std.proofs.Common.{refl}
-use Rattle.wasm_operators_reader.specs.immediates.Kinds as kind
-use Rattle.wasm_operators_reader.specs.immediates.Immediates.{Index}
-use Rattle.wasm_operators_reader.specs.operator.Op as op
-use Rattle.wasm_operators_reader.specs.operator.groups.declared.bulk.BulkOperator.TheVariants as bulk
-use Rattle.wasm_operators_reader.specs.operator.groups.declared.memory.MemoryOperator.TheVariants as memory
-use Rattle.wasm_operators_visit_short.proofs.Reading.{told_with}
-use Rattle.wasm_operators_visit_short.proofs.Carried.{index_of}
+use Rattle.wasm_operators_immediates.specs.Kinds as kind
+use Rattle.wasm_operators_immediates.specs.Immediates.{Index}
+use Rattle.wasm_operators_enums.specs.Op as op
+use Rattle.wasm_operators_enums.specs.declared.bulk.BulkOperator.TheVariants as bulk
+use Rattle.wasm_operators_enums.specs.declared.memory.MemoryOperator.TheVariants as memory
+use Rattle.wasm_operators_frequent.proofs.ShortReading.{told_with}
+use Rattle.wasm_operators_frequent.proofs.Carried.{index_of}
 use Rattle.wasm_operators_bodies.proofs.short.index_at.Goals as goal
 
 pub returns-in-35 : goal.returns-in-35

@@ -1,9 +1,9 @@
 use Rattle.std.proofs.Common.{refl}
-use Rattle.wasm_operators_reader.specs.immediates.Immediates.{I32Constant, I64Constant}
-use Rattle.wasm_operators_reader.specs.operator.Op as op
-use Rattle.wasm_operators_reader.specs.operator.groups.declared.constant.ConstOperator.TheVariants as constant
-use Rattle.wasm_operators_visit_short.proofs.Reading.{told_with}
-use Rattle.wasm_operators_visit_short.proofs.Carried.{i32_of, i64_of}
+use Rattle.wasm_operators_immediates.specs.Immediates.{I32Constant, I64Constant}
+use Rattle.wasm_operators_enums.specs.Op as op
+use Rattle.wasm_operators_enums.specs.declared.constant.ConstOperator.TheVariants as constant
+use Rattle.wasm_operators_frequent.proofs.ShortReading.{told_with}
+use Rattle.wasm_operators_frequent.proofs.Carried.{i32_of, i64_of}
 use Rattle.wasm_operators_bodies.proofs.short.number_at.Goals as goal
 
 pub returns-in-Some : goal.returns-in-Some

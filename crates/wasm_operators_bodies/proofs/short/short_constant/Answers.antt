@@ -1,7 +1,7 @@
 use Rattle.std.proofs.Common.{refl, rules}
-use Rattle.wasm_operators_reader.specs.operator.Op as op
-use Rattle.wasm_operators_reader.specs.operator.groups.declared.control.ControlOperator.TheVariants as control
-use Rattle.wasm_operators_visit_short.proofs.Reading.{told_alone}
+use Rattle.wasm_operators_enums.specs.Op as op
+use Rattle.wasm_operators_enums.specs.declared.control.ControlOperator.TheVariants as control
+use Rattle.wasm_operators_frequent.proofs.ShortReading.{told_alone}
 use Rattle.wasm_operators_bodies.specs.ShortLaws.{short_spelled}
 use Rattle.wasm_operators_bodies.proofs.short.short_constant.Goals as goal
 

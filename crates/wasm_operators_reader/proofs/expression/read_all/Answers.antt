@@ -1,6 +1,6 @@
 use Rattle.std.proofs.Common.{inl, inr, map}
 use Rattle.std.proofs.lemmas.Result.{err_from_is_err_and}
-use Rattle.wasm_operators_expression.specs.operator.Op.{op_of}
+use Rattle.wasm_operators_enums.specs.Op.{op_of}
 use Rattle.wasm_operators_reader.specs.StandingLaws.{reads_fewer}
 use Rattle.wasm_operators_reader.specs.RunLaws.{run_pushed, takes_before}
 use Rattle.wasm_operators_reader.proofs.expression.read_all.Goals as goal

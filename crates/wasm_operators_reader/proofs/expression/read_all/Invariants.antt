@@ -1,5 +1,5 @@
 use Rattle.std.proofs.Common.{length, map}
-use Rattle.wasm_operators_expression.specs.operator.Op.{op_of}
+use Rattle.wasm_operators_enums.specs.Op.{op_of}
 use Rattle.wasm_operators_reader.specs.Standing.{Runs}
 use Rattle.wasm_operators_reader.proofs.expression.read_all.Given as goal
 

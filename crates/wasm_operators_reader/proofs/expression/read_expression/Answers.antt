@@ -1,6 +1,6 @@
 use Rattle.std.proofs.Common.{◌≡◌, [], map, sym, subst, inl, inr}
 use Rattle.std.proofs.lemmas.Result.{err_from_is_err_and}
-use Rattle.wasm_operators_expression.specs.operator.Op.{op_of}
+use Rattle.wasm_operators_enums.specs.Op.{op_of}
 use Rattle.wasm_operators_reader.specs.Standing.{Standing, Runs, TakesMemory}
 use Rattle.wasm_operators_reader.specs.RunLaws.{run_expression, refused_run, ended_run}
 use Rattle.wasm_operators_reader.proofs.expression.read_expression.Goals as goal

@@ -1,5 +1,5 @@
 use Rattle.std.proofs.Common.{subst}
-use Rattle.wasm_operators_expression.specs.operator.Op.{Op}
+use Rattle.wasm_operators_enums.specs.Op.{Op}
 use Rattle.wasm_operators_reader.specs.Standing.{Standing, Reads}
 use Rattle.wasm_operators_reader.proofs.frequent.read_frequent.Goals as goal
 

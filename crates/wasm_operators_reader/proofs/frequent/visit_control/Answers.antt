@@ -1,7 +1,7 @@
 use Rattle.std.proofs.Common.{◌≡◌, get_or, sym, ap, subst, ◌∙◌}
 use Rattle.wasm_types.specs.decoding.Decoder.{State}
-use Rattle.wasm_types_numbers.specs.Numbers.{behind}
-use Rattle.wasm_operators_decode_codes.specs.OpcodeRoles.{plain_role}
+use Rattle.wasm_types.specs.decoding.Numbers.{behind}
+use Rattle.wasm_operators_encoding.specs.codes.OpcodeRoles.{plain_role}
 use Rattle.wasm_operators_reader.specs.Visiting.{Tells}
 use Rattle.wasm_operators_reader.proofs.AtOnce.{told_inside, told_at_once}
 use Rattle.wasm_operators_reader.proofs.frequent.visit_control.Goals as goal

@@ -1,6 +1,6 @@
 use Rattle.std.proofs.Common.{◌≡◌, Ok, sym, ap, subst, ◌∙◌}
 use Rattle.wasm_types.specs.decoding.Decoder.{State}
-use Rattle.wasm_types_numbers.specs.Numbers.{behind}
+use Rattle.wasm_types.specs.decoding.Numbers.{behind}
 use Rattle.wasm_operators_reader.specs.Standing.{Standing}
 use Rattle.wasm_operators_reader.specs.Walking.{WalksTo}
 use Rattle.wasm_operators_reader.specs.WalkingLaws.{walk_none}

@@ -3,10 +3,10 @@ use Rattle.std.proofs.Common.{◌≡◌, ◌∙◌, ℕ, List, [], ◌∷◌, re
 use Rattle.wasm_types.specs.decoding.declared.Refusal.TheVariants.{Other}
 use Rattle.wasm_types.specs.decoding.Decoder.{State, Outcome, Done, Fault}
 use Rattle.wasm_types.specs.decoding.ExactLaws.{state_is}
-use Rattle.wasm_types.specs.limits.Settings.{no_features}
+use Rattle.wasm_types.specs.settings.Settings.{no_features}
 use Rattle.wasm_types.specs.values.declared.value.ValType.TheVariants.{I32}
 use Rattle.wasm_types.specs.decoding.Leb.{unsigned, signed, last_bits}
-use Rattle.wasm_types.specs.limits.Limits.{default_limits}
+use Rattle.wasm_types.specs.settings.Limits.{default_limits}
 use Rattle.wasm_types.specs.reader.Parts.{counted_part}
 use Rattle.wasm_types.specs.values.Decode.{reference_after}
 use Rattle.wasm_types.specs.values.DecodeValues.{value_type, value_type_after}
@@ -14,11 +14,11 @@ use Rattle.wasm_operators_bodies.specs.Locals.{LocalGroup, group_of, group, grou
 use Rattle.wasm_operators_bodies.specs.Bodies.{body_bytes}
 use Rattle.wasm_operators_bodies.specs.Until.{steps, until, taken_by}
 use Rattle.wasm_operators_bodies.specs.ConstantDecoder.{step, constant}
-use Rattle.wasm_operators_bodies.specs.reader.immediates.Blocks.{function_block, value_block, empty_block, block_type}
-use Rattle.wasm_operators_bodies.specs.reader.decode_encoding.Opcodes.{opcode}
-use Rattle.wasm_operators_bodies.specs.reader.decode_encoding.Groups.{numeric_kinds, simd_numeric_kinds}
-use Rattle.wasm_operators_bodies.specs.reader.decode_encoding.Coded.{operator}
-use Rattle.wasm_operators_bodies.specs.reader.decode_encoding.decode_immediates.Immediates.{immediate}
+use Rattle.wasm_operators_immediates.specs.Blocks.{function_block, value_block, empty_block, block_type}
+use Rattle.wasm_operators_encoding.specs.Opcodes.{opcode}
+use Rattle.wasm_operators_encoding.specs.Groups.{numeric_kinds, simd_numeric_kinds}
+use Rattle.wasm_operators_encoding.specs.Coded.{operator}
+use Rattle.wasm_operators_encoding.specs.immediates.Immediates.{immediate}
 use Rattle.wasm_operators_tests.specs.bodies.Rows.{behind}
 use Rattle.wasm_operators_tests.proofs.bodies.bodies_are_worked.Goals as goal
 

@@ -1,6 +1,6 @@
 -- One more value is read, or there is none.
 use Rattle.std.proofs.Common.{◌≡◌, ℕ, ◌-◌, ◌∙◌, refl, subst, sym, ap, arith}
-use Rattle.wasm_types_numbers.specs.limits.Settings.{Settings}
+use Rattle.wasm_types_decoding.specs.settings.Settings.{Settings}
 use Rattle.wasm_types_reader.specs.Reading.{Fails}
 use Rattle.wasm_types_reader.specs.Draining.{Drains}
 use Rattle.wasm_types_reader.proofs.Drained.{drains_none, drains_more, drains_ends}

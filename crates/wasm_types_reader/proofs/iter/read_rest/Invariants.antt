@@ -1,5 +1,5 @@
 use Rattle.std.proofs.Common.{◌≡◌, ◌-◌}
-use Rattle.wasm_types_numbers.specs.decoding.Decoder.{State}
+use Rattle.wasm_types_decoding.specs.Decoder.{State}
 use Rattle.wasm_types_reader.specs.Draining.{Drains}
 use Rattle.wasm_types_reader.proofs.iter.read_rest.Given as goal
 

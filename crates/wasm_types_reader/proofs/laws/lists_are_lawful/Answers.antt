@@ -1,4 +1,4 @@
-use Rattle.wasm_types_numbers.specs.decoding.ListLaws.{lawful-listed_within, decides-listed_within}
+use Rattle.wasm_types_decoding.specs.ListLaws.{lawful-listed_within, decides-listed_within}
 use Rattle.wasm_types_reader.proofs.laws.lists_are_lawful.Goals as goal
 
 pub returns-clause-lawful : goal.returns-clause-lawful

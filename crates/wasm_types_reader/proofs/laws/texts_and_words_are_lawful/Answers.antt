@@ -1,5 +1,5 @@
-use Rattle.wasm_types_numbers.specs.decoding.ListLaws.{lawful-size_within, decides-size_within}
-use Rattle.wasm_types_numbers.specs.decoding.TextLaws.{lawful-word, decides-word, lawful-name, decides-name, lawful-any_name, decides-any_name, lawful-skipped_name}
+use Rattle.wasm_types_decoding.specs.ListLaws.{lawful-size_within, decides-size_within}
+use Rattle.wasm_types_decoding.specs.TextLaws.{lawful-word, decides-word, lawful-name, decides-name, lawful-any_name, decides-any_name, lawful-skipped_name}
 use Rattle.wasm_types_reader.specs.WordLaws.{lawful-u7, decides-u7}
 use Rattle.wasm_types_reader.specs.PartLaws.{lawful-counted_part}
 use Rattle.wasm_types_reader.proofs.laws.texts_and_words_are_lawful.Goals as goal

@@ -1,7 +1,7 @@
 -- The laws of numbers, one for every width.
 use Rattle.std.proofs.Common.{refl}
-use Rattle.wasm_types_numbers.specs.decoding.LebLaws.{lawful-unsigned, decides-unsigned}
-use Rattle.wasm_types_numbers.specs.decoding.SignedLaws.{lawful-signed, decides-signed}
+use Rattle.wasm_types_decoding.specs.LebLaws.{lawful-unsigned, decides-unsigned}
+use Rattle.wasm_types_decoding.specs.SignedLaws.{lawful-signed, decides-signed}
 use Rattle.wasm_types_reader.proofs.leb.numbers_are_lawful.Goals as goal
 
 pub returns-clause-unsigned : goal.returns-clause-unsigned

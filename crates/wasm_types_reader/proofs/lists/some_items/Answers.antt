@@ -2,8 +2,8 @@
 use Rattle.std.proofs.Common.{map, arith, subst, sym, ap, ◌∙◌}
 use Rattle.std.proofs.lemmas.Result.{err_from_is_err_and}
 use Rattle.std.proofs.lemmas.List.{map-append}
-use Rattle.wasm_types_numbers.specs.decoding.Laws.{reaches_then}
-use Rattle.wasm_types_numbers.specs.limits.Settings.{Settings}
+use Rattle.wasm_types_decoding.specs.Laws.{reaches_then}
+use Rattle.wasm_types_decoding.specs.settings.Settings.{Settings}
 use Rattle.wasm_types_reader.specs.Reading.{Fails}
 use Rattle.wasm_types_reader.proofs.Room.{kept_room}
 use Rattle.wasm_types_reader.proofs.Rows.{goes_on, ends, is_done}

@@ -1,5 +1,5 @@
 use Rattle.std.proofs.Common.{◌≡◌, ◌-◌, ◌<◌, true, map}
-use Rattle.wasm_types_numbers.specs.decoding.Decoder.{repeated, Reaches}
+use Rattle.wasm_types_decoding.specs.Decoder.{repeated, Reaches}
 use Rattle.wasm_types_reader.specs.Reading.{takes_room}
 use Rattle.wasm_types_reader.proofs.Rows.{with_front}
 use Rattle.wasm_types_reader.proofs.lists.some_items.Given as goal

@@ -1,6 +1,6 @@
 use Rattle.std.proofs.Common.{subst}
-use Rattle.wasm_types.specs.error.Denials.{Denies}
-use Rattle.wasm_types.specs.limits.Settings.{Settings}
+use Rattle.wasm_types.specs.decoding.Denials.{Denies}
+use Rattle.wasm_types.specs.settings.Settings.{Settings}
 use Rattle.wasm_module_validator.specs.rules.Accepts.{AcceptsUnder}
 use Rattle.wasm_check_program.proofs.judging.ValidatingJudge.judge.Goals as goal
 

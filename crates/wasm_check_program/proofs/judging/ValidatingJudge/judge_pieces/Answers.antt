@@ -1,9 +1,9 @@
 use Rattle.std.proofs.Common.{◌^◌, List, ℕ, Option, ap, subst, sym}
-use Rattle.wasm_types.specs.limits.Settings.{Settings}
+use Rattle.wasm_types.specs.settings.Settings.{Settings}
 use Rattle.wasm_check_command.specs.Modes.{FailsJudging, HasValid}
 use Rattle.wasm_check_command.specs.Settings.{settings_by}
 use Rattle.wasm_module_validator.specs.rules.Accepts.{AcceptsUnder}
-use Rattle.wasm_module_validator_pieces.specs.Verdicts.{AnswersReader, IsVerdict}
+use Rattle.wasm_module_validator_streaming.specs.Verdicts.{AnswersReader, IsVerdict}
 use Rattle.wasm_check_program.specs.Faults.{unjudged}
 use Rattle.wasm_check_program.proofs.Pieces.{all_valid, fails_judging}
 use Rattle.wasm_check_program.proofs.judging.ValidatingJudge.judge_pieces.Goals as goal

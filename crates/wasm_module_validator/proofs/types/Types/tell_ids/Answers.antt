@@ -1,6 +1,6 @@
 use Rattle.std.proofs.Common.{◌≡◌, ◌∙◌, List, ap, subst}
-use Rattle.wasm_module_validator_sharing.specs.reading.progress.Progress.{Kept}
-use Rattle.wasm_module_validator_sharing.specs.reading.progress.standing.type_trees.Groups.{Group}
+use Rattle.wasm_module_validator_drivers.specs.payloads.Progress.{Kept}
+use Rattle.wasm_module_validator_type_storage.specs.trees.Groups.{Group}
 use Rattle.wasm_module_validator.specs.Lists.{AreToldUnder}
 use Rattle.wasm_module_validator.specs.Shown.{Learned}
 use Rattle.wasm_module_validator.specs.laws.Lists.{told_apart}

@@ -1,7 +1,7 @@
 use Rattle.std.proofs.Common.{◌∙◌, inl, inr, refl, sym, ap, subst, Option, Ok}
 use Rattle.std.specs.Prelude.{is_some}
-use Rattle.wasm_types.specs.error.DenialLaws.{denies}
-use Rattle.wasm_module_validator_sharing.specs.Sharing.{Reached, Handed, IsNextFunction}
+use Rattle.wasm_types.specs.decoding.DenialLaws.{denies}
+use Rattle.wasm_module_validator_drivers.specs.Sharing.{Reached, Handed, IsNextFunction}
 use Rattle.wasm_module_validator.specs.declared.validator.State.TheVariants.{Failed}
 use Rattle.wasm_module_validator.specs.Methods.{refusal}
 use Rattle.wasm_module_validator.proofs.Turns.{out_of_turn, in_turn, turn_is}

@@ -1,5 +1,5 @@
 use Rattle.std.proofs.Common.{◌∙◌, refl, sym, ap}
-use Rattle.wasm_module_validator_sharing.specs.Sharing.{has_no_code}
+use Rattle.wasm_module_validator_drivers.specs.Sharing.{has_no_code}
 use Rattle.wasm_module_validator.specs.Methods.{refusal}
 use Rattle.wasm_module_validator.proofs.Turns.{out_of_turn, in_turn, turn_is, no_code}
 use Rattle.wasm_module_validator.proofs.validator.Validator.code_section_start.Goals as goal

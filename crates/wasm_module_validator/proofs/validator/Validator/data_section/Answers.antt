@@ -1,5 +1,5 @@
 use Rattle.std.proofs.Common.{◌∙◌, Bool, sym, subst}
-use Rattle.wasm_sections_payloads.specs.declared.payload.Payload.TheVariants as payloads
+use Rattle.wasm_sections.specs.declared.payload.Payload.TheVariants as payloads
 use Rattle.wasm_module_validator.specs.Methods.{TakesWhere}
 use Rattle.wasm_module_validator.proofs.Turns.{not_begun}
 use Rattle.wasm_module_validator.proofs.validator.Validator.data_section.Goals as goal

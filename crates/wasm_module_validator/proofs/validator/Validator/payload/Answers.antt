@@ -1,5 +1,5 @@
 use Rattle.std.proofs.Common.{refl, sym, subst}
-use Rattle.wasm_sections_payloads.specs.declared.payload.Payload.{Payload}
+use Rattle.wasm_sections.specs.declared.payload.Payload.{Payload}
 use Rattle.wasm_module_validator.specs.Payloads.{TakesPayload}
 use Rattle.wasm_module_validator.proofs.validator.Validator.payload.Goals as goal
 

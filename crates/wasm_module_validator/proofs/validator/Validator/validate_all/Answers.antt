@@ -1,22 +1,22 @@
 use Rattle.std.proofs.Common.{◌≡◌, List, length, sym, subst, Err, inr}
-use Rattle.wasm_types.specs.error.Denials.{Denies, Tells}
-use Rattle.wasm_types.specs.error.declared.error.ErrorKind.{ErrorKind}
-use Rattle.wasm_types.specs.error.DenialLaws.{denies_from}
-use Rattle.wasm_types.specs.limits.Limits.{IsWithinCeilings}
-use Rattle.wasm_types.specs.limits.Settings.{Settings}
-use Rattle.wasm_module_validator_sharing.specs.reading.progress.adding.FullLaws.{either_from}
-use Rattle.wasm_module_validator_sharing.specs.reading.progress.adding.declared.bodies.Body.{Body}
-use Rattle.wasm_module_validator_sharing.specs.reading.progress.standing.steps.contexts.rules.Accepts.{AcceptsUnder}
-use Rattle.wasm_module_validator_sharing.specs.reading.progress.standing.steps.Steps.{SoFar}
-use Rattle.wasm_module_validator_sharing.specs.reading.progress.Progress.{Kept, Progress, IsAt}
-use Rattle.wasm_module_validator_sharing.specs.reading.judging.Bodies.{AreBodies}
-use Rattle.wasm_module_validator_sharing.specs.Sharing.{Reached}
-use Rattle.wasm_module_validator_sharing.specs.reading.Reading.{IsReadAs}
+use Rattle.wasm_types.specs.decoding.Denials.{Denies, Tells}
+use Rattle.wasm_types.specs.decoding.declared.error.ErrorKind.{ErrorKind}
+use Rattle.wasm_types.specs.decoding.DenialLaws.{denies_from}
+use Rattle.wasm_types.specs.settings.Limits.{IsWithinCeilings}
+use Rattle.wasm_types.specs.settings.Settings.{Settings}
+use Rattle.wasm_module_validator_section_order.specs.items.FullLaws.{either_from}
+use Rattle.wasm_module_validator_section_order.specs.declared.items.bodies.Body.{Body}
+use Rattle.wasm_module_validator_rules.specs.Accepts.{AcceptsUnder}
+use Rattle.wasm_module_validator_section_order.specs.rules_in_order.Steps.{SoFar}
+use Rattle.wasm_module_validator_drivers.specs.payloads.Progress.{Kept, Progress, IsAt}
+use Rattle.wasm_module_validator_drivers.specs.judging.Bodies.{AreBodies}
+use Rattle.wasm_module_validator_drivers.specs.Sharing.{Reached}
+use Rattle.wasm_module_validator_drivers.specs.reading.Reading.{IsReadAs}
 use Rattle.wasm_module_validator.specs.Accepts.{IsShown}
 use Rattle.wasm_module_validator.specs.Lists.{AreToldUnder, TakesNoMore}
 use Rattle.wasm_module_validator.specs.States.{IsLeft, held_by}
 use Rattle.wasm_module_validator.specs.laws.Verdict.{accepted_is_read, alone_told, failed_not_ended, left_behind, no_more_read, tells_accepted, stands_for_module}
-use Rattle.wasm_module_validator_runs.proofs.Validity.{accepted_sound}
+use Rattle.wasm_module_validator.proofs.Validity.{accepted_sound}
 use Rattle.wasm_module_validator.proofs.validator.Validator.validate_all.Goals as goal
 
 pub returns-in-Err-clause-verdict : goal.returns-in-Err-clause-verdict

@@ -1,8 +1,8 @@
 use Rattle.std.proofs.Common.{rules}
 use Rattle.std.proofs.Common.{ℕ, ◌≡◌, ◌⊎◌}
-use Rattle.wasm_types.specs.features.Features.{CustomPageSizes}
+use Rattle.wasm_types.specs.settings.Features.{CustomPageSizes}
 use Rattle.wasm_types.specs.trees.Gates.{Has}
-use Rattle.wasm_module_validator_checks.specs.limits.rules.Valid.{IfThere, IsValidMemoryType}
+use Rattle.wasm_module_validator_rules.specs.Valid.{IfThere, IsValidMemoryType}
 use Rattle.wasm_module_validator_checks.specs.externs.Refusals.{allowing}
 use Rattle.wasm_module_validator_checks.proofs.Refusing.{needed_from}
 use Rattle.wasm_module_validator_checks.proofs.externs.memory.check_memory_type.Goals as goal

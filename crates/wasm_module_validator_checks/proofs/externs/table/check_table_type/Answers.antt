@@ -1,6 +1,6 @@
 use Rattle.std.proofs.Common.{rules}
 use Rattle.std.proofs.Common.{ℕ}
-use Rattle.wasm_module_validator_checks.specs.limits.rules.Valid.{IsValidElementType, IsValidTableType}
+use Rattle.wasm_module_validator_rules.specs.Valid.{IsValidElementType, IsValidTableType}
 use Rattle.wasm_module_validator_checks.specs.externs.Refusals.{allowing}
 use Rattle.wasm_module_validator_checks.proofs.Refusing.{refusal_from}
 use Rattle.wasm_module_validator_checks.proofs.externs.table.check_table_type.Goals as goal

@@ -1,6 +1,6 @@
 use Rattle.std.proofs.Common.{ℕ, arith, rules}
 use Rattle.std.proofs.lemmas.Grind.{common_steps}
-use Rattle.wasm_module_validator_checks.specs.limits.rules.Valid.{IsValidValueType, IsValidGlobalType}
+use Rattle.wasm_module_validator_rules.specs.Valid.{IsValidValueType, IsValidGlobalType}
 use Rattle.wasm_module_validator_checks.specs.externs.Refusals.{allowing, has}
 use Rattle.wasm_module_validator_checks.proofs.Refusing.{refusal_from}
 use Rattle.wasm_module_validator_checks.proofs.externs.values.check_global_type.Goals as goal

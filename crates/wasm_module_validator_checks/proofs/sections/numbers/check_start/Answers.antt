@@ -1,8 +1,8 @@
 use Rattle.std.proofs.Common.{arith}
 use Rattle.std.proofs.lemmas.Grind.{common_steps}
 use Rattle.std.proofs.Common.{[]}
-use Rattle.wasm_types.specs.error.DenialLaws.{denies_from}
-use Rattle.wasm_module_validator_checks.specs.limits.rules.Valid.{IsValidStart}
+use Rattle.wasm_types.specs.decoding.DenialLaws.{denies_from}
+use Rattle.wasm_module_validator_rules.specs.Valid.{IsValidStart}
 use Rattle.wasm_module_validator_checks.specs.sections.Functions.{HasFunction}
 use Rattle.wasm_module_validator_checks.proofs.sections.numbers.check_start.Goals as goal
 

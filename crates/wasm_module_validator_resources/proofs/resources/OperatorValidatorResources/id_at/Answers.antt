@@ -1,6 +1,6 @@
 use Rattle.std.proofs.Common.{◌∙◌, ◌<◌, sym, arith}
-use Rattle.wasm_types.specs.indices.declared.index.CoreTypeId.{CoreTypeId}
-use Rattle.wasm_module_validator_type_trees.specs.Groups.{count}
+use Rattle.wasm_types.specs.trees.declared.index.CoreTypeId.{CoreTypeId}
+use Rattle.wasm_module_validator_type_storage.specs.trees.Groups.{count}
 use Rattle.wasm_module_validator_resources.specs.laws.Trees.{id_known, index_known}
 use Rattle.wasm_module_validator_resources.proofs.Finding.{all_at, index_within, index_past}
 use Rattle.wasm_module_validator_resources.proofs.resources.OperatorValidatorResources.id_at.Goals as goal

@@ -1,5 +1,5 @@
 use Rattle.std.proofs.Common.{◌<◌, ◌≤◌, arith}
-use Rattle.wasm_module_validator_type_trees.specs.Groups.{count}
+use Rattle.wasm_module_validator_type_storage.specs.trees.Groups.{count}
 use Rattle.wasm_module_validator_resources.specs.laws.Trees.{id_known, id_unknown}
 use Rattle.wasm_module_validator_resources.proofs.resources.OperatorValidatorResources.named.Goals as goal
 

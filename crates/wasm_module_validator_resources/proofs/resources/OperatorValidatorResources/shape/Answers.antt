@@ -1,7 +1,7 @@
 use Rattle.std.proofs.Common.{◌∙◌}
-use Rattle.wasm_types.specs.groups.Entries.{entry_of}
+use Rattle.wasm_types.specs.Entries.{entry_of}
 use Rattle.wasm_operator_validator_resources.specs.Meaning.{named_type}
-use Rattle.wasm_module_validator_type_trees.specs.Groups.{tree_of}
+use Rattle.wasm_module_validator_type_storage.specs.trees.Groups.{tree_of}
 use Rattle.wasm_module_validator_resources.specs.Reading.{names_in}
 use Rattle.wasm_module_validator_resources.proofs.Answering.{list_known, shared_in, abstract_in, nowhere_shared, nowhere_kind}
 use Rattle.wasm_module_validator_resources.proofs.resources.OperatorValidatorResources.shape.Goals as goal

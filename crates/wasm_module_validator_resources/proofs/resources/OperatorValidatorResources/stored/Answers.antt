@@ -1,4 +1,4 @@
-use Rattle.wasm_types.specs.groups.Entries.{declared_of}
+use Rattle.wasm_types.specs.Entries.{declared_of}
 use Rattle.wasm_module_validator_resources.proofs.Finding.{entry_stored}
 use Rattle.wasm_module_validator_resources.proofs.resources.OperatorValidatorResources.stored.Goals as goal
 

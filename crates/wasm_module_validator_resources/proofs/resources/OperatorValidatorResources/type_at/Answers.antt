@@ -1,6 +1,6 @@
 use Rattle.std.proofs.Common.{◌<◌, sym}
-use Rattle.wasm_types.specs.indices.declared.index.CoreTypeId.{CoreTypeId}
-use Rattle.wasm_module_validator_type_trees.specs.Groups.{count}
+use Rattle.wasm_types.specs.trees.declared.index.CoreTypeId.{CoreTypeId}
+use Rattle.wasm_module_validator_type_storage.specs.trees.Groups.{count}
 use Rattle.wasm_module_validator_resources.specs.laws.Trees.{index_known, index_unknown}
 use Rattle.wasm_module_validator_resources.proofs.Finding.{none_past, all_at}
 use Rattle.wasm_module_validator_resources.proofs.resources.OperatorValidatorResources.type_at.Goals as goal

@@ -1,4 +1,4 @@
-use Rattle.wasm_module_validator_module.specs.declared.module.Function.{Function}
+use Rattle.wasm_module_validator_index_spaces.specs.declared.module.Function.{Function}
 use Rattle.wasm_module_validator_resources.proofs.Finding.{so_at, none_at}
 use Rattle.wasm_module_validator_resources.proofs.resources.OperatorValidatorResourcesWasmModuleResources.is_function_referenced.Goals as goal
 

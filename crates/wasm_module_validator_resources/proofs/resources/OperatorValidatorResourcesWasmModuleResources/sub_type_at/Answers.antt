@@ -1,8 +1,8 @@
 use Rattle.std.proofs.Common.{◌<◌, ap}
 use Rattle.std.specs.Option.{option_map}
-use Rattle.wasm_types.specs.indices.declared.index.CoreTypeId.{CoreTypeId}
+use Rattle.wasm_types.specs.trees.declared.index.CoreTypeId.{CoreTypeId}
 use Rattle.wasm_types.specs.trees.Trees.{opened}
-use Rattle.wasm_module_validator_type_trees.specs.Groups.{count, tree_of}
+use Rattle.wasm_module_validator_type_storage.specs.trees.Groups.{count, tree_of}
 use Rattle.wasm_module_validator_resources.proofs.Finding.{all_at, type_found, mapped}
 use Rattle.wasm_module_validator_resources.proofs.resources.OperatorValidatorResourcesWasmModuleResources.sub_type_at.Goals as goal
 

@@ -1,11 +1,11 @@
 use Rattle.std.proofs.Common.{◌∙◌, ap, sym}
 use Rattle.std.specs.Option.{option_map}
-use Rattle.wasm_types.specs.indices.declared.index.CoreTypeId.{CoreTypeId}
+use Rattle.wasm_types.specs.trees.declared.index.CoreTypeId.{CoreTypeId}
 use Rattle.wasm_types.specs.trees.Types.{inner_map}
 use Rattle.wasm_types.specs.trees.Below.{expanded}
-use Rattle.wasm_types.specs.groups.Entries.{entry_of, inner_of}
+use Rattle.wasm_types.specs.Entries.{entry_of, inner_of}
 use Rattle.wasm_operator_validator_resources.specs.Meaning.{named_type}
-use Rattle.wasm_module_validator_type_trees.specs.Groups.{tree_of}
+use Rattle.wasm_module_validator_type_storage.specs.trees.Groups.{tree_of}
 use Rattle.wasm_module_validator_resources.specs.Reading.{names_in}
 use Rattle.wasm_module_validator_resources.specs.Named.{IsFunctionKind}
 use Rattle.wasm_module_validator_resources.proofs.Finding.{all_at, kind_in, tag_found, mapped, array_kind, struct_kind, cont_kind}

@@ -1,6 +1,6 @@
 use Rattle.wasm_types.specs.trees.ValidGroup.{type_at}
-use Rattle.wasm_module_validator_groups.specs.adding.Interned.{space_of}
-use Rattle.wasm_module_validator_module.specs.declared.module.Function.{Function}
+use Rattle.wasm_module_validator_type_groups.specs.adding.Interned.{space_of}
+use Rattle.wasm_module_validator_index_spaces.specs.declared.module.Function.{Function}
 use Rattle.wasm_module_validator_resources.proofs.Finding.{there, function_id, ids_known, mapped}
 use Rattle.wasm_module_validator_resources.proofs.resources.OperatorValidatorResourcesWasmModuleResources.type_id_of_function.Goals as goal
 

@@ -1,8 +1,8 @@
 use Rattle.std.proofs.Common.{sym}
 use Rattle.wasm_types.specs.trees.ValidGroup.{type_at}
-use Rattle.wasm_module_validator_type_trees.specs.Groups.{tree_of}
-use Rattle.wasm_module_validator_groups.specs.adding.Interned.{space_of}
-use Rattle.wasm_module_validator_module.specs.declared.module.Function.{Function}
+use Rattle.wasm_module_validator_type_storage.specs.trees.Groups.{tree_of}
+use Rattle.wasm_module_validator_type_groups.specs.adding.Interned.{space_of}
+use Rattle.wasm_module_validator_index_spaces.specs.declared.module.Function.{Function}
 use Rattle.wasm_module_validator_resources.proofs.Finding.{there, function_type, index_type, mapped}
 use Rattle.wasm_module_validator_resources.proofs.resources.OperatorValidatorResourcesWasmModuleResources.type_index_of_function.Goals as goal
 

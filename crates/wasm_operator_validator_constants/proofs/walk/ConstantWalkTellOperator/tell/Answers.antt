@@ -1,6 +1,6 @@
 use Rattle.std.proofs.Common.{rules}
 use Rattle.std.proofs.Common.{refl}
-use Rattle.wasm_operators_walking.specs.reader.operator.Op.{op_of}
+use Rattle.wasm_operators_enums.specs.Op.{op_of}
 use Rattle.wasm_operator_validator_constants.specs.Checked.{Surroundings}
 use Rattle.wasm_operator_validator_constants.specs.laws.Driven.{refused_visit}
 use Rattle.wasm_operator_validator_constants.proofs.walk.ConstantWalkTellOperator.tell.Goals as goal

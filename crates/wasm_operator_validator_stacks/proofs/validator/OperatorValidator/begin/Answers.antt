@@ -1,5 +1,5 @@
 use Rattle.std.proofs.Common.{◌≡◌, ◌∙◌, ◌==◌, false, bit_and, refl, sym, ap, inr}
-use Rattle.wasm_types.specs.features.Features.{has}
+use Rattle.wasm_types.specs.settings.Features.{has}
 use Rattle.wasm_operator_validator_state.specs.State.{State}
 use Rattle.wasm_operator_validator_state.specs.laws.Entering.{is_open}
 use Rattle.wasm_operator_validator_stacks.proofs.validator.OperatorValidator.begin.Goals as goal

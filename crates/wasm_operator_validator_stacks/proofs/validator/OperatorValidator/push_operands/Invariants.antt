@@ -1,5 +1,5 @@
 use Rattle.std.proofs.Common.{take}
-use Rattle.wasm_operator_validator_state.specs.rules.Operands.{stack}
+use Rattle.wasm_operator_validator_rules.specs.Operands.{stack}
 use Rattle.wasm_operator_validator_state.specs.State.{types_in}
 use Rattle.wasm_operator_validator_state.specs.Steps.{Pushed}
 use Rattle.wasm_operator_validator_stacks.proofs.validator.OperatorValidator.push_operands.Given as goal

@@ -1,7 +1,7 @@
 use Rattle.std.proofs.Common.{sym, ap}
-use Rattle.wasm_operator_validator_control.specs.expression.info.Info.{Info}
-use Rattle.wasm_operators_visit.specs.operator.Op as op
-use Rattle.wasm_operators_visit.specs.operator.Op.{continuation_of}
+use Rattle.wasm_operators_immediates.specs.Info.{Info}
+use Rattle.wasm_operators_enums.specs.Op as op
+use Rattle.wasm_operators_enums.specs.Op.{continuation_of}
 use Rattle.wasm_operator_validator_visits.proofs.WithoutRule.{continuation_without}
 use Rattle.wasm_operator_validator_visits.proofs.visitor.ValidatingVisitor.continuation.Goals as goal
 

@@ -1,6 +1,6 @@
 use Rattle.std.proofs.Common.{sym, ap}
-use Rattle.wasm_operator_validator_control.specs.expression.info.Info.{Info}
-use Rattle.wasm_operators_visit.specs.operator.Op as op
+use Rattle.wasm_operators_immediates.specs.Info.{Info}
+use Rattle.wasm_operators_enums.specs.Op as op
 use Rattle.wasm_operator_validator_visits.proofs.WithoutRule.{descriptor_without}
 use Rattle.wasm_operator_validator_visits.proofs.visitor.ValidatingVisitor.descriptor.Goals as goal
 

@@ -1,7 +1,7 @@
 -- The bytes are read again from their first on.
 use Rattle.std.proofs.Common.{◌∙◌, ap}
 use Rattle.wasm_types.specs.decoding.Decoder.{State}
-use Rattle.wasm_types.specs.limits.Settings.{no_features}
+use Rattle.wasm_types.specs.settings.Settings.{no_features}
 use Rattle.wasm_operators_immediates.specs.Tables.{Labels}
 use Rattle.wasm_operators_immediates.proofs.Reading.{again}
 use Rattle.wasm_operators_immediates.proofs.br_table.BrTable.targets.Goals as goal

@@ -3,7 +3,7 @@ use Rattle.std.proofs.Common.{◌≡◌, ◌∙◌, refl, sym, ap}
 use Rattle.wasm_types.specs.decoding.Decoder.{Done, repeated}
 use Rattle.wasm_types.specs.decoding.Leb.{u32}
 use Rattle.wasm_types.specs.decoding.Lists.{size_within, listed_within}
-use Rattle.wasm_types.specs.limits.declared.Limits.{Limits}
+use Rattle.wasm_types.specs.settings.declared.Limits.{Limits}
 use Rattle.wasm_operators_immediates.specs.Labels.{labels}
 use Rattle.wasm_operators_immediates.proofs.Passing.{part_is}
 use Rattle.wasm_operators_immediates.proofs.read_br_table.BrTableFromReader.from_reader.Goals as goal

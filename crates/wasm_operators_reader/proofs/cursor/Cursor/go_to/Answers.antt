@@ -1,6 +1,6 @@
 use Rattle.std.proofs.Common.{◌≡◌, ◌-◌, length, refl, sym, ap, subst, arith}
 use Rattle.wasm_types.specs.decoding.Decoder.{State, Reaches}
-use Rattle.wasm_types_numbers.specs.Numbers.{behind}
+use Rattle.wasm_types.specs.decoding.Numbers.{behind}
 use Rattle.wasm_operators_reader.proofs.AtOnce.{stands_at, no_more_left}
 use Rattle.wasm_operators_reader.proofs.cursor.Cursor.go_to.Goals as goal
 

@@ -1,10 +1,10 @@
 use Rattle.std.proofs.Common.{inr, refl, sym, ◌∙◌, ◌+◌, ap, subst, ◌≡◌}
-use Rattle.wasm_operators_expression.specs.operator.Op.{op_of}
+use Rattle.wasm_operators_enums.specs.Op.{op_of}
 use Rattle.wasm_types.specs.decoding.Decoder.{State, Done}
 use Rattle.wasm_types.specs.reader.Reading.{Fails}
-use Rattle.wasm_operators_expression.specs.decode_encoding.Coded.{operator}
-use Rattle.wasm_operators_expression.specs.decode_encoding.Operators.{coded_of}
-use Rattle.wasm_operators_expression.specs.Stack.{OpenFrames}
+use Rattle.wasm_operators_encoding.specs.Coded.{operator}
+use Rattle.wasm_operators_encoding.specs.Operators.{coded_of}
+use Rattle.wasm_operators_encoding.specs.expressions.Stack.{OpenFrames}
 use Rattle.wasm_operators_reader.specs.Standing.{Standing, Refuses, IsUnfit, IsOpening, WantsMemory}
 use Rattle.wasm_operators_reader.specs.StandingLaws.{some_left, refuses_fault, refuses_unfit, same_parts, no_list}
 use Rattle.wasm_operators_reader.proofs.AtOnce.{operator_reaches}

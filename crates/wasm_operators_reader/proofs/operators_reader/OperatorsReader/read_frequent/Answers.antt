@@ -1,5 +1,5 @@
 use Rattle.std.proofs.Common.{◌∙◌, subst}
-use Rattle.wasm_operators_expression.specs.operator.Op.{op_of}
+use Rattle.wasm_operators_enums.specs.Op.{op_of}
 use Rattle.wasm_operators_reader.specs.Standing.{Standing, Reads}
 use Rattle.wasm_operators_reader.specs.StandingLaws.{same_parts}
 use Rattle.wasm_operators_reader.proofs.operators_reader.OperatorsReader.read_frequent.Goals as goal

@@ -1,7 +1,7 @@
 -- One more value is passed, or the read ends where it does.
 use Rattle.std.proofs.Common.{arith, subst, sym, ap, ◌∙◌}
 use Rattle.std.proofs.lemmas.Result.{err_from_is_err_and}
-use Rattle.wasm_types.specs.limits.Settings.{Settings}
+use Rattle.wasm_types.specs.settings.Settings.{Settings}
 use Rattle.wasm_types.specs.decoding.Laws.{reaches_then}
 use Rattle.wasm_types.specs.reader.Reading.{Fails}
 use Rattle.wasm_sections_items.specs.elements.PassingLaws.{goes_on, ends, is_done}

@@ -1,7 +1,7 @@
 -- A section over the bytes of a list that was passed holds that list.
 use Rattle.std.proofs.Common.{◌≡◌, ◌-◌, List, ℕ, sym, ap, ◌∙◌, subst}
 use Rattle.std.proofs.lemmas.Result.{err_from_is_err_and}
-use Rattle.wasm_types.specs.limits.Settings.{Settings}
+use Rattle.wasm_types.specs.settings.Settings.{Settings}
 use Rattle.wasm_types.specs.decoding.Decoder.{State, Done, bytes}
 use Rattle.wasm_types.specs.reader.Reading.{Fails}
 use Rattle.wasm_sections_items.specs.elements.Passing.{passed_list}

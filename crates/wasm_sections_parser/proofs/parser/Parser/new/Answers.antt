@@ -1,6 +1,6 @@
 use Rattle.std.proofs.Common.{sym, subst}
-use Rattle.wasm_types.specs.limits.Limits.{IsWithinCeilings}
-use Rattle.wasm_types.specs.limits.RowLaws.{default_within}
+use Rattle.wasm_types.specs.settings.Limits.{IsWithinCeilings}
+use Rattle.wasm_types.specs.settings.LimitsRowLaws.{default_within}
 use Rattle.wasm_sections_parser.proofs.parser.Parser.new.Goals as goal
 
 pub invariant_of-result : goal.invariant_of-result

@@ -2,7 +2,7 @@
 use Rattle.std.proofs.Common.{◌∙◌, ap, length, arith}
 use Rattle.std.proofs.lemmas.List.{length-drop}
 use Rattle.std.proofs.lemmas.Bool.{eqb-true}
-use Rattle.wasm_types_numbers.specs.decoding.Decoder.{State}
+use Rattle.wasm_types_decoding.specs.Decoder.{State}
 use Rattle.wasm_types_reader.proofs.binary_reader.BinaryReader.is_end_then_eof.Goals as goal
 
 pub returns-else-self-eq1 : goal.returns-else-self-eq1

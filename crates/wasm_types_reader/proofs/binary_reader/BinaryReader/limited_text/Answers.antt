@@ -1,6 +1,6 @@
 -- The message of a count above the limit.
 use Rattle.std.proofs.Common.{◌≡◌, ◌∙◌, ℕ, List, Bor, codes}
-use Rattle.wasm_types_numbers.specs.decoding.Leb.{u32}
+use Rattle.wasm_types_decoding.specs.Leb.{u32}
 use Rattle.wasm_types_reader.specs.Messages.{is_above}
 use Rattle.wasm_types_reader.proofs.Said.{says, too_long_fits}
 use Rattle.wasm_types_reader.proofs.binary_reader.BinaryReader.limited_text.Goals as goal

@@ -1,6 +1,6 @@
 -- The count, and the bytes behind it.
 use Rattle.std.proofs.Common.{◌≡◌, ap, sym, ◌∙◌, refl}
-use Rattle.wasm_types_numbers.specs.decoding.Decoder.{State, Done}
+use Rattle.wasm_types_decoding.specs.Decoder.{State, Done}
 use Rattle.std.proofs.lemmas.Result.{err_from_is_err_and}
 use Rattle.wasm_types_reader.specs.Parts.{part_at}
 use Rattle.wasm_types_reader.proofs.Sizes.{part_fails, part_ends, part_done}

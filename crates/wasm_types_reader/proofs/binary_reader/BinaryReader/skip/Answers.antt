@@ -1,6 +1,6 @@
 -- What was passed is what the closure took.
 use Rattle.std.proofs.Common.{refl, ap, length, arith}
-use Rattle.wasm_types_numbers.specs.decoding.Decoder.{State}
+use Rattle.wasm_types_decoding.specs.Decoder.{State}
 use Rattle.wasm_types_reader.proofs.Passed.{fewer_left, passed_is}
 use Rattle.wasm_types_reader.proofs.binary_reader.BinaryReader.skip.Goals as goal
 

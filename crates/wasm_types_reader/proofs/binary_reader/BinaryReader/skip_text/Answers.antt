@@ -1,6 +1,6 @@
 -- The message of a count above the limit.
 use Rattle.std.proofs.Common.{◌≡◌, ◌∙◌, codes}
-use Rattle.wasm_types_numbers.specs.decoding.Leb.{u32}
+use Rattle.wasm_types_decoding.specs.Leb.{u32}
 use Rattle.wasm_types_reader.specs.Messages.{is_above}
 use Rattle.wasm_types_reader.proofs.Said.{says, too_long_fits}
 use Rattle.wasm_types_reader.proofs.binary_reader.BinaryReader.skip_text.Goals as goal

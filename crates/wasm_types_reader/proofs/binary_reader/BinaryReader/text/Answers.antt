@@ -1,6 +1,6 @@
 -- The bytes, and whether they are UTF-8.
 use Rattle.std.proofs.Common.{◌≡◌, ◌∙◌, ℕ, List, Bor, codes}
-use Rattle.wasm_types_numbers.specs.decoding.Decoder.{bytes}
+use Rattle.wasm_types_decoding.specs.Decoder.{bytes}
 use Rattle.wasm_types_reader.specs.Reading.{is_read}
 use Rattle.wasm_types_reader.proofs.Spelled.{text_done, text_refused}
 use Rattle.wasm_types_reader.proofs.Said.{says, malformed_fits}

@@ -1,0 +1,38 @@
+-- That a valid module runs soundly (WebAssembly 3.0, appendix, soundness), and so does each module that bytes spell and that is accepted.
+use Rattle.std.specs.Prelude.{ℕ, List}
+use Rattle.wasm_types.specs.settings.Settings.{Settings}
+use Rattle.wasm_types.specs.trees.Trees.{TypeTree}
+use Rattle.wasm_operator_validator_rules.specs.Operands.{ValueType}
+use Rattle.wasm_module_validator_rules.specs.Syntax.{ModuleTree}
+use Rattle.wasm_module_validator_rules.specs.Valid.{IsValid}
+use Rattle.wasm_module_validator_rules.specs.Accepts.{Judges, AcceptsUnder}
+use Rattle.wasm_operator_validator_soundness.specs.runs.Values.{IsStandard}
+use Rattle.wasm_operator_validator_soundness.specs.runs.States.{State}
+use Rattle.wasm_operator_validator_soundness.specs.runs.Soundness.{IsStarted, IsNeverStuck}
+use Rattle.wasm_module_validator.specs.soundness.Modules.{program_of, AreHosts}
+use Rattle.wasm_module_validator.specs.soundness.Constants.{EachConstantFits}
+
+-- Whatever function of the module is started, with arguments that fit its parameters, and whatever is answered, it is never stuck; what
+-- it returns or throws fits. Each constant gives what fits its place.
+pub record RunsFrom (z : Settings) (m : ModuleTree) (hosts : List TypeTree) : Type 0 where
+  pub functions : (s : State) (results : List ValueType) → IsStarted (program_of z m hosts) s results
+      → IsNeverStuck (program_of z m hosts) results s
+  pub constants : EachConstantFits z m hosts
+
+-- so it is whatever the host gives for the functions that are imported
+abbrev pub ModuleRunsSoundly : Settings → ModuleTree → Type 0
+ModuleRunsSoundly z m = (hosts : List TypeTree) → AreHosts m hosts → RunsFrom z m hosts
+
+-- A valid module runs soundly under the features of the standard: without custom descriptors, shared everything and stack switching.
+abbrev pub ModulesAreSound : Type 0
+ModulesAreSound = (z : Settings) (m : ModuleTree) → IsStandard z.features → IsValid z m → ModuleRunsSoundly z m
+
+-- The bytes spell a valid module, and under the features of the standard it runs soundly.
+pub record RunsSoundly (z : Settings) (bytes : List ℕ) : Type 0 where
+  pub tree : ModuleTree
+  pub judged : Judges z bytes tree
+  pub runs : IsStandard z.features → ModuleRunsSoundly z tree
+
+-- What is accepted runs soundly.
+abbrev pub AcceptedIsSound : Type 0
+AcceptedIsSound = (z : Settings) (bytes : List ℕ) → AcceptsUnder z bytes → RunsSoundly z bytes

@@ -1,3 +1,0 @@
-pub mod Remapped
-pub mod Fitting
-pub mod WorkedProofs

@@ -1,0 +1,7 @@
+use Rattle.wasm_module_validator_state.specs.invariant.laws.Deciding.{tags_fit}
+use Rattle.wasm_module_validator_declarations.proofs.Telling.{tells_from}
+use Rattle.wasm_module_validator_declarations.proofs.counts.begin_tags.Goals as goal
+
+pub returns-clause-answer : goal.returns-clause-answer
+returns-clause-answer c =
+    λ groups z m h. tells_from c.check_tag_count.result _ _ (tags_fit groups c.args.state.now z m h.stands c.args.count) c.check_tag_count.ensures.answer

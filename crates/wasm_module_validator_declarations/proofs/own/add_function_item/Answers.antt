@@ -1,0 +1,22 @@
+use Rattle.std.proofs.Common.{ap}
+use Rattle.wasm_module_validator_state.specs.Items.{Items}
+use Rattle.wasm_module_validator_declarations.proofs.Telling.{function_told}
+use Rattle.wasm_module_validator_declarations.proofs.Leaving.{on_ok, in_both, function_left}
+use Rattle.wasm_module_validator_declarations.proofs.own.add_function_item.Goals as goal
+
+pub returns-clause-answer : goal.returns-clause-answer
+returns-clause-answer c = function_told c.args.types.now.groups c.args.state.now c.add_function.result c.args.type_index c.add_function.ensures.answer
+
+pub returns-clause-added : goal.returns-clause-added
+returns-clause-added c = on_ok c.add_function.result _ _ (function_left c.args.types.now.groups c.args.state.now c.args.type_index c.add_function.new.self) c.add_function.ensures.added
+
+pub returns-clause-settings : goal.returns-clause-settings
+returns-clause-settings c =
+    in_both c.add_function.result _ _ _ (λ e. ap (λ (l : Items). l.spaces.settings) e) (λ e. ap (λ (l : Items). l.spaces.settings) e) c.add_function.ensures.added c.add_function.ensures.stays
+
+pub returns-clause-types : goal.returns-clause-types
+returns-clause-types c =
+    in_both c.add_function.result _ _ _ (λ e. ap (λ (l : Items). l.spaces.types) e) (λ e. ap (λ (l : Items). l.spaces.types) e) c.add_function.ensures.added c.add_function.ensures.stays
+
+pub returns-clause-code : goal.returns-clause-code
+returns-clause-code c = in_both c.add_function.result _ _ _ (λ e. ap (λ (l : Items). l.next_code) e) (λ e. ap (λ (l : Items). l.next_code) e) c.add_function.ensures.added c.add_function.ensures.stays

@@ -1,0 +1,110 @@
+//! Exports and functions that their bytes alone tell.
+//!
+//! A reader makes a place for an error of each part of an item. Nearly all items are valid: they are read here at an offset of the bytes of
+//! their section, and whatever is not as it should be is left to the readers, which name the fault.
+
+ghost use Rattle.std.specs.Prelude.{◌≡◌, ◌≤◌, length, IfSome, IfNone};
+ghost use Rattle.wasm_sections_items.specs.imports.Spells.{kind_byte};
+ghost use Rattle.wasm_module_validator_state.specs.resources.Named.{IsReadOver};
+ghost use Rattle.wasm_module_validator_section_order.specs.rules_in_order.Between.{IsBetween};
+ghost use Rattle.wasm_module_validator_declarations.specs.Short.{AddsExport, AddsFunction, SpellsExport};
+
+use crate::exports::add_export_item;
+use crate::own::add_function_item;
+use std::str;
+use wasm_module_validator_state::invariant::ModuleState;
+use wasm_module_validator_type_list::TypeList;
+use wasm_sections_items::imports::{Export, ExternalKind};
+use wasm_types::Limits;
+use wasm_types_decoding::short_u32_at;
+
+// What stands for this byte.
+#[inline(always)]
+fn kind_of(byte: u8) -> Option<ExternalKind>
+    ensures { IfSome result (λ k. byte ≡ kind_byte k) }
+{
+    match byte {
+        0x00 => Some(ExternalKind::Func),
+        0x01 => Some(ExternalKind::Table),
+        0x02 => Some(ExternalKind::Memory),
+        0x03 => Some(ExternalKind::Global),
+        0x04 => Some(ExternalKind::Tag),
+        _ => None,
+    }
+}
+
+// The export at an offset, and where it ends.
+fn short_export_at<'a>(bytes: &'a [u8], at: usize, limits: &Limits) -> Option<(Export<'a>, usize)>
+    requires { at ≤ length bytes.now }
+    ensures { IfSome result (λ r. IsBetween (SpellsExport limits.now
+        (record { name = r.0.name.now; kind = r.0.kind; index = r.0.index }))
+        bytes.now at r.1) }
+{
+    let Some((count, first)) = short_u32_at(bytes, at) else {
+        return None;
+    };
+    let most = bytes.len() - first;
+    if count > limits.string_bytes || count as usize >= most {
+        return None;
+    }
+    let middle = first + count as usize;
+    let Ok(name) = str::from_utf8(&bytes[first..middle]) else {
+        return None;
+    };
+    let Some(kind) = kind_of(bytes[middle]) else {
+        return None;
+    };
+    let Some((index, end)) = short_u32_at(bytes, middle + 1) else {
+        return None;
+    };
+    Some((Export { name, kind, index }, end))
+}
+
+/// Adds the export at an offset of these bytes, if the bytes alone tell that it may be added, and answers where it ends. Else the state stays.
+pub fn add_short_export(
+    state: &mut ModuleState,
+    types: &TypeList,
+    bytes: &[u8],
+    at: usize,
+    limits: &Limits,
+) -> Option<usize>
+    requires over { IsReadOver types.now.groups state.old.spaces }
+    requires inside { at ≤ length bytes.now }
+    ensures added { IfSome result (AddsExport limits.now types.now.groups state.old state.new bytes.now at) }
+    ensures stays { IfNone result (state.new ≡ state.old) }
+    ensures over { IsReadOver types.now.groups state.new.spaces }
+    ensures settings { state.new.spaces.settings ≡ state.old.spaces.settings }
+    ensures types { state.new.spaces.types ≡ state.old.spaces.types }
+{
+    let Some((export, end)) = short_export_at(bytes, at, limits) else {
+        return None;
+    };
+    match add_export_item(state, types, export, 0) {
+        Ok(()) => Some(end),
+        Err(_error) => None,
+    }
+}
+
+/// The same of a function.
+pub fn add_short_function(
+    state: &mut ModuleState,
+    types: &TypeList,
+    bytes: &[u8],
+    at: usize,
+) -> Option<usize>
+    requires over { IsReadOver types.now.groups state.old.spaces }
+    requires inside { at ≤ length bytes.now }
+    ensures added { IfSome result (AddsFunction types.now.groups state.old state.new bytes.now at) }
+    ensures stays { IfNone result (state.new ≡ state.old) }
+    ensures over { IsReadOver types.now.groups state.new.spaces }
+    ensures settings { state.new.spaces.settings ≡ state.old.spaces.settings }
+    ensures types { state.new.spaces.types ≡ state.old.spaces.types }
+{
+    let Some((index, end)) = short_u32_at(bytes, at) else {
+        return None;
+    };
+    match add_function_item(state, types, index, 0) {
+        Ok(()) => Some(end),
+        Err(_error) => None,
+    }
+}

@@ -1,7 +1,0 @@
-use Rattle.wasm_module_validator_standing.specs.laws.Beginning.{exports_fit}
-use Rattle.wasm_module_validator_declaring.proofs.Telling.{tells_from}
-use Rattle.wasm_module_validator_declaring.proofs.counts.begin_exports.Goals as goal
-
-pub returns-clause-answer : goal.returns-clause-answer
-returns-clause-answer c =
-    λ groups z m h. tells_from c.check_export_count.result _ _ (exports_fit groups c.args.state.now z m h.stands h.unread c.args.count) c.check_export_count.ensures.answer

@@ -1,7 +1,0 @@
-use Rattle.wasm_module_validator_standing.specs.laws.Deciding.{memories_fit}
-use Rattle.wasm_module_validator_declaring.proofs.Telling.{tells_from}
-use Rattle.wasm_module_validator_declaring.proofs.counts.begin_memories.Goals as goal
-
-pub returns-clause-answer : goal.returns-clause-answer
-returns-clause-answer c =
-    λ groups z m h. tells_from c.check_memory_count.result _ _ (memories_fit groups c.args.state.now z m h.stands c.args.count) c.check_memory_count.ensures.answer

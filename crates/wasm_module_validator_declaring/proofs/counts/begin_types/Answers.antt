@@ -1,7 +1,0 @@
-use Rattle.wasm_module_validator_standing.specs.laws.Beginning.{types_fit}
-use Rattle.wasm_module_validator_declaring.proofs.Telling.{tells_from}
-use Rattle.wasm_module_validator_declaring.proofs.counts.begin_types.Goals as goal
-
-pub returns-clause-answer : goal.returns-clause-answer
-returns-clause-answer c =
-    λ groups z m h. tells_from c.check_type_count.result _ _ (types_fit groups c.args.state.now z m h.stands h.unread c.args.count) c.check_type_count.ensures.answer

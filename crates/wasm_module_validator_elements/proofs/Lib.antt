@@ -1,8 +1,0 @@
-mod Inside
-mod Walks
-mod Trees
-mod Names
-mod Places
-mod References
-mod Checked
-mod Worked

@@ -1,5 +1,0 @@
-use Rattle.std.proofs.Common.{rules}
-use Rattle.wasm_module_validator_elements.proofs.naming.push_name.Goals as goal
-
-pub returns-clause-named : goal.returns-clause-named
-returns-clause-named c = search rules

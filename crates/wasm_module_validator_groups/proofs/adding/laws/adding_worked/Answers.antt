@@ -1,5 +1,0 @@
-use Rattle.wasm_module_validator_groups.proofs.WorkedProofs.{adding_is_worked}
-use Rattle.wasm_module_validator_groups.proofs.adding.laws.adding_worked.Goals as goal
-
-pub returns : goal.returns
-returns c = adding_is_worked

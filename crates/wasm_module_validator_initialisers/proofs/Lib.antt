@@ -1,0 +1,19 @@
+mod Parts
+mod ShortData
+pub mod Worked
+mod Inside
+mod Walks
+mod Trees
+mod Names
+mod Places
+mod References
+mod Checked
+mod ElementsWorked
+mod TooMany
+mod Moved
+mod Marks
+mod NewGlobals
+mod NewTables
+mod NewElements
+mod NewData
+mod AddingShortData

@@ -1,0 +1,6 @@
+-- Definitions: items as they are read, and what they name.
+pub mod Read
+-- Definitions: why items are refused, and where.
+pub mod Refusals
+-- Worked rows.
+pub mod Worked

@@ -1,9 +1,0 @@
-//! Worked rows, on the contract of a function that does nothing.
-
-ghost use Rattle.wasm_types.specs.limits.Settings.{Settings};
-ghost use Rattle.wasm_module_validator_initialising.specs.Worked.{InitialisingWorked};
-
-/// What constants are judged in, names and refusals: a changed definition breaks a row.
-pub fn initialising_is_worked()
-    ensures { (z : Settings) → InitialisingWorked z }
-{}

@@ -1,3 +1,0 @@
-pub use Rattle.wasm_module_validator_progress.proofs.Adding
-pub use Rattle.wasm_module_validator_progress.proofs.Arms
-pub use Rattle.wasm_module_validator_progress.proofs.Counting

@@ -1,5 +1,0 @@
-pub mod Places
-pub mod Splits
-pub mod Chunks
-pub mod Halves
-pub mod Rows

@@ -1,4 +1,0 @@
--- Definitions and worked rows: a list that is shared as it stands.
-pub mod snapshots
--- Definitions, laws and worked rows: numbers in an order that the caller tells.
-pub mod ordered

@@ -1,8 +1,0 @@
-//! Worked rows, on the contract of a function that does nothing.
-
-ghost use Rattle.wasm_module_validator_lists.specs.snapshots.Worked.{PiecesWorked};
-
-/// A list in pieces, and where each piece begins.
-pub fn pieces_worked()
-    ensures { PiecesWorked }
-{}

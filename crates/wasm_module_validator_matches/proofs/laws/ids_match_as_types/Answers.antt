@@ -1,9 +1,0 @@
-use Rattle.wasm_module_validator_matches.specs.laws.Known.{entry_known}
-use Rattle.wasm_module_validator_matches.specs.laws.Matching.{ids_match}
-use Rattle.wasm_module_validator_matches.proofs.laws.ids_match_as_types.Goals as goal
-
-pub returns-clause-known : goal.returns-clause-known
-returns-clause-known c = entry_known
-
-pub returns-clause-matches : goal.returns-clause-matches
-returns-clause-matches c = ids_match

@@ -1,5 +1,0 @@
-use Rattle.std.proofs.Common.{rules}
-use Rattle.wasm_module_validator_module.proofs.module.Module.import_global.Goals as goal
-
-pub returns-clause-added : goal.returns-clause-added
-returns-clause-added c = search rules

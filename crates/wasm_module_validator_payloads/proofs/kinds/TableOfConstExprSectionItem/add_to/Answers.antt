@@ -1,0 +1,19 @@
+use Rattle.std.proofs.Common.{ap}
+use Rattle.wasm_module_validator_section_order.specs.rules.Syntax.{ModuleTree}
+use Rattle.wasm_module_validator_section_order.specs.rules_in_order.Sections as section
+use Rattle.wasm_module_validator_section_order.specs.sections.Kinds.{table_read}
+use Rattle.wasm_module_validator_section_order.specs.items.FullLaws.{unless_full}
+use Rattle.wasm_module_validator_payloads.proofs.Counting.{item_added}
+use Rattle.wasm_module_validator_payloads.specs.laws.Growing.{list_stays}
+use Rattle.wasm_module_validator_payloads.proofs.kinds.TableOfConstExprSectionItem.add_to.Goals as goal
+
+pub returns-clause-answer : goal.returns-clause-answer
+returns-clause-answer c = unless_full _ c.add_table.result _ (λ z m h. c.add_table.ensures.answer z m h.reading)
+
+pub returns-clause-added : goal.returns-clause-added
+returns-clause-added c =
+    item_added section.tables (table_read c.args.self) c.add_table.result c.args.types.now.groups c.args.types.now.groups c.args.state.now c.add_table.new.state c.args.groups.now
+    (λ z m n a. ap (λ (t : ModuleTree). t.types) a.2.added) c.add_table.ensures.added
+
+pub returns-clause-grown : goal.returns-clause-grown
+returns-clause-grown c = list_stays c.add_table.result c.args.types.now.groups c.args.state.now.spaces c.add_table.new.state.spaces c.add_table.ensures.types

@@ -1,8 +1,0 @@
-use Rattle.wasm_module_validator_pieces.specs.laws.WorkedReaders.{reader_rows, step_rows}
-use Rattle.wasm_module_validator_pieces.proofs.laws.readers_are_worked.Goals as goal
-
-pub returns-clause-readers : goal.returns-clause-readers
-returns-clause-readers c = reader_rows
-
-pub returns-clause-steps : goal.returns-clause-steps
-returns-clause-steps c = step_rows

@@ -1,9 +1,0 @@
-use Rattle.wasm_module_validator_standing.specs.laws.Deciding.{globals_fit}
-use Rattle.wasm_module_validator_progress.proofs.Counting.{alike_told, other_there}
-use Rattle.wasm_module_validator_progress.proofs.kinds.GlobalOfConstExprSectionItem.check_count.Goals as goal
-
-pub returns : goal.returns
-returns c = record {
-  answer = λ groups z m h u. alike_told c.check_global_count.result _ _ (globals_fit groups c.args.state.now z m h c.args.count) c.check_global_count.ensures.answer;
-  refused = other_there c.check_global_count.result c.args.offset c.check_global_count.ensures.refused;
-}

@@ -1,9 +1,0 @@
-use Rattle.wasm_module_validator_standing.specs.laws.Deciding.{tables_fit}
-use Rattle.wasm_module_validator_progress.proofs.Counting.{alike_told, other_there}
-use Rattle.wasm_module_validator_progress.proofs.kinds.TableOfConstExprSectionItem.check_count.Goals as goal
-
-pub returns : goal.returns
-returns c = record {
-  answer = λ groups z m h u. alike_told c.check_table_count.result _ _ (tables_fit groups c.args.state.now z m h c.args.count) c.check_table_count.ensures.answer;
-  refused = other_there c.check_table_count.result c.args.offset c.check_table_count.ensures.refused;
-}

@@ -1,8 +1,0 @@
-use Rattle.std.proofs.Common.{ap, subst}
-use Rattle.wasm_types.specs.limits.Limits.{IsWithinCeilings}
-use Rattle.wasm_module_validator_progress.specs.Progress.{Kept}
-use Rattle.wasm_module_validator_progress.proofs.shared.SharedModule.types.Goals as goal
-
-pub returns-clause-within : goal.returns-clause-within
-returns-clause-within c =
-    subst IsWithinCeilings (ap (λ (k : Kept). k.items.spaces.settings.limits) c.self.view_is) c.self.invariant.2

@@ -1,3 +1,0 @@
-mod Parts
-mod ShortData
-pub mod Worked

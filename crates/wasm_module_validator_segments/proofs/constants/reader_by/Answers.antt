@@ -1,5 +1,0 @@
-use Rattle.wasm_module_validator_segments.proofs.Parts.{settled}
-use Rattle.wasm_module_validator_segments.proofs.constants.reader_by.Goals as goal
-
-pub returns : goal.returns
-returns c = settled c.args.settings.now c.args.expr.now _ _ _ _ _ c.get_binary_reader-reader.ensures c.features.ensures c.set_features.ensures c.limits.ensures c.set_limits.ensures

@@ -1,9 +1,0 @@
-use Rattle.wasm_module_validator_steps.specs.contexts.laws.Constants.{constant_agrees}
-use Rattle.wasm_module_validator_steps.specs.contexts.laws.Numbers.{number_names_none}
-use Rattle.wasm_module_validator_steps.proofs.contexts.laws.constants_look_at.Goals as goal
-
-pub returns-clause-constants : goal.returns-clause-constants
-returns-clause-constants c = constant_agrees
-
-pub returns-clause-numbers : goal.returns-clause-numbers
-returns-clause-numbers c = number_names_none

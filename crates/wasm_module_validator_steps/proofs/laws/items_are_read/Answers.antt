@@ -1,5 +1,0 @@
-use Rattle.wasm_module_validator_steps.specs.laws.Reading.{items_read}
-use Rattle.wasm_module_validator_steps.proofs.laws.items_are_read.Goals as goal
-
-pub returns : goal.returns
-returns c = items_read

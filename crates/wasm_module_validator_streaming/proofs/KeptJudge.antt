@@ -1,0 +1,51 @@
+-- A judge of a module is one of it behind a body too.
+use Rattle.std.proofs.Common.{◌≡◌, ◌∙◌, ℕ, Option, Some, None, Ok, is_some, refl, sym, ap, subst}
+use Rattle.wasm_types.specs.decoding.Decoder.{State as Bytes}
+use Rattle.wasm_types.specs.decoding.declared.error.ErrorKind.{ErrorKind}
+use Rattle.wasm_module_validator_function_bodies.specs.declared.plain.PlainJudge.{PlainJudge}
+use Rattle.wasm_module_validator.specs.resources.Reading.{context_of}
+use Rattle.wasm_sections.specs.declared.payload.Payload.{Payload}
+use Rattle.wasm_module_validator.specs.drivers.Sharing.{Handed, IsHandedOut}
+use Rattle.wasm_module_validator.specs.module_validator_payloads.Progress.{Kept}
+use Rattle.wasm_module_validator.specs.declared.payloads.ValidPayload.TheVariants as valid
+use Rattle.wasm_module_validator.specs.declared.validator.Validator.{Validator}
+use Rattle.wasm_module_validator.specs.Methods.{refusal, TakesBody}
+use Rattle.wasm_module_validator.specs.Payloads.{TakesPayload}
+use Rattle.wasm_module_validator_streaming.specs.Judges.{IsJudgeKept, IsJudgeFor}
+use Rattle.wasm_module_validator_streaming.specs.laws.Payloads.{handed_out, body_handed}
+
+-- of one module and one set of features
+same_judge : (k l : Kept) (a b : ℕ) (judge : Option PlainJudge) → k ≡ l → a ≡ b → IsJudgeKept (context_of k.groups k.items.spaces) a judge
+    → IsJudgeKept (context_of l.groups l.items.spaces) b judge
+same_judge k l a b judge e f h =
+    subst (λ (n : ℕ). IsJudgeKept (context_of l.groups l.items.spaces) n judge) f
+    (subst (λ (x : Kept). IsJudgeKept (context_of x.groups x.items.spaces) a judge) e h)
+
+not_some : {A : Type 0} (x : A) → None ≡ Some x → ⊥
+not_some x e = cc
+
+-- what a body leaves as it was
+left_by_body : (body : Bytes) (v w : Validator) (h : Handed) → TakesBody body v (Ok h) w
+    → (w ≡ record v { reached = w.reached }) × (w.reached.progress.kept ≡ v.reached.progress.kept)
+left_by_body body v w h t = go (refusal v.state (is_some v.reached.code)) refl
+  where
+    go : (o : Option ErrorKind) → refusal v.state (is_some v.reached.code) ≡ o → (w ≡ record v { reached = w.reached }) × (w.reached.progress.kept ≡ v.reached.progress.kept)
+    go None c = let k = t.left c in (k.1, k.3)
+    go (Some k) c = absurd (not_some k (t.out k c).0)
+
+module _ (x : Payload) (v w : Validator) (h : Handed) (body : Bytes) (t : TakesPayload x v (Ok (valid.Func h body)) w) (judge : Option PlainJudge) where
+  handed : IsHandedOut v.reached v.settings h
+  handed = body_handed body v w h (handed_out x v w h body t).1
+
+  left : (w ≡ record v { reached = w.reached }) × (w.reached.progress.kept ≡ v.reached.progress.kept)
+  left = left_by_body body v w h (handed_out x v w h body t).1
+
+  -- it is one of what is handed out
+  pub judge_of_handed : IsJudgeFor v judge → IsJudgeKept (context_of h.resources.shared.value.groups h.resources.shared.value.items.spaces) h.features.0 judge
+  judge_of_handed k = same_judge v.reached.progress.kept h.resources.shared.value v.settings.features h.features.0 judge (sym handed.resources) (sym handed.features) k
+
+  -- and then of what is kept
+  pub judge_behind : IsJudgeKept (context_of h.resources.shared.value.groups h.resources.shared.value.items.spaces) h.features.0 judge → IsJudgeFor w judge
+  judge_behind k =
+      let settings = ap (λ (u : Validator). u.settings.features) left.0 in
+      same_judge h.resources.shared.value w.reached.progress.kept h.features.0 w.settings.features judge (handed.resources ∙ sym left.1) (handed.features ∙ sym settings) k

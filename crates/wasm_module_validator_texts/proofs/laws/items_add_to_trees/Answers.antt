@@ -1,9 +1,0 @@
-use Rattle.wasm_module_validator_texts.specs.laws.Once.{adds_once}
-use Rattle.wasm_module_validator_texts.specs.laws.Telling.{added_in}
-use Rattle.wasm_module_validator_texts.proofs.laws.items_add_to_trees.Goals as goal
-
-pub returns-clause-under : goal.returns-clause-under
-returns-clause-under c = added_in
-
-pub returns-clause-once : goal.returns-clause-once
-returns-clause-once c = adds_once

@@ -1,0 +1,23 @@
+use Rattle.std.proofs.Common.{rules}
+use Rattle.std.proofs.Common.{ap, arith}
+use Rattle.std.proofs.lemmas.Option.{slice_get_within}
+use Rattle.wasm_module_validator_type_storage.specs.trees.Groups.{count, group_numbers}
+use Rattle.wasm_module_validator_type_list.specs.List.{groups_in}
+use Rattle.wasm_module_validator_type_list.proofs.Knowing.{found_some}
+use Rattle.wasm_module_validator_type_list.proofs.Parts.{length_homes}
+use Rattle.wasm_module_validator_type_list.proofs.list.TypeList.find.Goals as goal
+
+pub rec_group_id_of-requires : goal.rec_group_id_of-requires
+rec_group_id_of-requires c =
+    let found = found_some (groups_in c.self.inside.lists) c.self.inside.lists.types.items c.self.inside.known c.in-Some.known c.args.group.now c.in-Some.is c.self.invariant.knows
+    c.in-Some-id_of.id c.in-Some-id_of.ensures in
+    omega (
+      arith,
+      slice_get_within (group_numbers (groups_in c.self.inside.lists)) c.in-Some-id_of.id found.0 found.1,
+      length_homes (groups_in c.self.inside.lists),
+      ap (λ l. count l.groups) c.self.view_is,
+      c.new.ensures,
+    )
+
+pub returns-in-Some-id_of : goal.returns-in-Some-id_of
+returns-in-Some-id_of c = search rules

@@ -1,0 +1,136 @@
+//! What a list knows of its groups in canonical form: which it has, and their numbers.
+
+ghost use Rattle.std.specs.Prelude.{◌≡◌, ◌∷◌, [], length, map, false, IsTrue, Some, MatchOption, AllPairs, IsOk, OnOk, OnErr};
+ghost use Rattle.wasm_types.specs.Entries.{declared_of, declared_types};
+ghost use Rattle.wasm_module_validator_type_list.specs.Beside.{Precedes};
+ghost use Rattle.wasm_module_validator_type_list.specs.Known.{Numbers, number_in, Learns, FindsTheSame, Declares, NoneDeclares, CanLearn, Gains, StaysKnown, KnowsMore};
+
+use crate::RecGroupId;
+use crate::beside::Beside;
+use std::alloc::{AllocError, Global};
+use std::collections::BTreeMap;
+use wasm_module_validator_type_storage::ordered::Ordered;
+use wasm_module_validator_type_storage::snapshots::SnapshotList;
+use wasm_types::laws::{clones_declare_the_same, equality_is_of_declarations, order_is_of_types};
+use wasm_types::{RecGroup, SubType};
+
+/// The groups in canonical form of a list.
+///
+/// Most groups are a type alone that names no place of its own group. What the list stores of such a type is what the group
+/// says, so its id is kept in the order of the types, and no copy of it. Any other group is kept once more, with its number.
+#[derive(Drop)]
+pub(crate) struct Known {
+    alone: Ordered,
+    numbers: BTreeMap<RecGroup, RecGroupId>,
+}
+
+impl Known {
+    /// No groups. It takes no memory.
+    pub(crate) fn new(alloc: Global) -> Known
+        ensures alone { result.alone ≡ [] }
+        ensures numbers { result.numbers.entries ≡ [] }
+    {
+        Known {
+            alone: Ordered::new(alloc),
+            numbers: BTreeMap::new(alloc),
+        }
+    }
+
+    /// The number of a group that is kept as a copy.
+    pub(crate) fn number_of(&self, group: &RecGroup) -> Option<RecGroupId>
+        ensures { result ≡ number_in self.now.numbers group.now }
+    {
+        self.numbers.get(group).copied()
+    }
+
+    /// The id of the only type of this group, where it is by that id that the group is kept.
+    pub(crate) fn id_of(&self, types: &SnapshotList<SubType>, group: &RecGroup) -> Option<u32>
+        requires { AllPairs (Precedes types.now.items) self.now.alone }
+        ensures { MatchOption result (NoneDeclares types.now.items self.now.alone (declared_types group.now))
+            (λ n. Declares types.now.items self.now.alone (declared_types group.now) n) }
+    {
+        equality_is_of_declarations();
+        if group.types().len() != 1 {
+            return None;
+        }
+        let ty = &group.types()[0];
+        self.alone.find(&Beside { types, ty })
+    }
+
+    // Keeps a group that is none of those which are kept: by the id of its only type, or as a copy.
+    fn keep(
+        &mut self,
+        types: &SnapshotList<SubType>,
+        stored: &[SubType],
+        start: u32,
+        group: &RecGroup,
+        id: RecGroupId,
+    ) -> Result<(), AllocError>
+        requires ordered { AllPairs (Precedes types.now.items) self.old.alone }
+        requires new { NoneDeclares types.now.items self.old.alone (declared_types group.now) }
+        ensures ok { OnOk result (Gains types.now.items stored.now start group.now id self.old self.new) }
+        ensures err { OnErr result (StaysKnown (Some self.old) (Some self.new)) }
+    {
+        equality_is_of_declarations();
+        match only_type(group.types(), stored) {
+            Some(ty) => self.alone.insert(&Beside { types, ty }, start),
+            None => keep_copy(&mut self.numbers, group, id),
+        }
+    }
+}
+
+// The only type of a group, where what is stored of it is what the group says.
+fn only_type<'a>(types: &[SubType], stored: &'a [SubType]) -> Option<&'a SubType>
+    ensures { MatchOption result (length stored.now ≡ 1 → map declared_of types.now ≡ map declared_of stored.now → ⊥)
+        (λ ty. (stored.now ≡ ty.now ∷ []) × (map declared_of types.now ≡ declared_of ty.now ∷ [])) }
+{
+    equality_is_of_declarations();
+    if stored.len() != 1 || types.len() != 1 {
+        return None;
+    }
+    let ty = &stored[0];
+    if *ty == types[0] { Some(ty) } else { None }
+}
+
+// Gives a group a number. The map has a copy, which takes no more memory than it needs: lists that grew by `push` have room for
+// up to four times their items.
+fn keep_copy(
+    numbers: &mut BTreeMap<RecGroup, RecGroupId>,
+    group: &RecGroup,
+    id: RecGroupId,
+) -> Result<(), AllocError>
+    ensures ok { OnOk result (Learns numbers.old numbers.new group.now id) }
+    ensures err { OnErr result (FindsTheSame numbers.old numbers.new) }
+{
+    order_is_of_types();
+    clones_declare_the_same();
+    let key = group.clone()?;
+    numbers.insert(key, id)?;
+    Ok(())
+}
+
+/// Keeps a group of this number, where it is in canonical form and anything is known. Its types are stored so from the id `start`
+/// on, behind those of the list.
+pub(crate) fn learn(
+    known: &mut Option<Known>,
+    is_canonical: bool,
+    types: &SnapshotList<SubType>,
+    stored: &[SubType],
+    start: u32,
+    group: &RecGroup,
+    id: RecGroupId,
+) -> Result<(), AllocError>
+    requires { CanLearn is_canonical types.now.items group.now known.old }
+    ensures ok { OnOk result (KnowsMore is_canonical types.now.items stored.now start group.now id
+        known.old known.new) }
+    ensures err { OnErr result (StaysKnown known.old known.new) }
+    ensures sure { (is_canonical ≡ false) → IsOk result }
+{
+    if !is_canonical {
+        return Ok(());
+    }
+    match known {
+        Some(known) => known.keep(types, stored, start, group, id),
+        None => Ok(()),
+    }
+}

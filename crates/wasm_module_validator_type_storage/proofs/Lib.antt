@@ -1,0 +1,6 @@
+pub mod Places
+pub mod Splits
+pub mod Chunks
+pub mod Halves
+pub mod Rows
+pub mod WorkedProofs

@@ -1,5 +1,0 @@
-use Rattle.wasm_module_validator_type_trees.specs.laws.GroupIds.{group_ids}
-use Rattle.wasm_module_validator_type_trees.proofs.laws.group_ids_unfold.Goals as goal
-
-pub returns : goal.returns
-returns c = group_ids

@@ -1,9 +1,0 @@
-//! Interned types as plain data: the groups of a list in canonical form, the tree that each id stands for, and which
-//! lists are formed (WebAssembly 3.0, validation, types).
-//!
-//! The rules stand in `specs/Groups.antt`, `specs/Formed.antt` and `specs/ByIds.antt`; `specs/Worked.antt` has worked
-//! lists, and `specs/laws` the laws with their proofs. The tree of a type is that of `wasm_types_trees`. This crate has no
-//! code but the functions that promise the laws and the worked lists.
-#![tactic(auto)]
-
-pub mod laws;

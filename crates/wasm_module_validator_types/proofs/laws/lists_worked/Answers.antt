@@ -1,5 +1,0 @@
-use Rattle.wasm_module_validator_types.proofs.WorkedProofs.{lists_worked}
-use Rattle.wasm_module_validator_types.proofs.laws.lists_worked.Goals as goal
-
-pub returns : goal.returns
-returns c = lists_worked

@@ -1,6 +1,0 @@
-use Rattle.std.proofs.Common.{◌∙◌, ap, length}
-use Rattle.wasm_module_validator_types.proofs.Parts.{element_total}
-use Rattle.wasm_module_validator_types.proofs.list.TypeList.group_count.Goals as goal
-
-pub returns : goal.returns
-returns c = c.len.ensures ∙ element_total _ c.self.inside.lists c.self.inside.known c.self.invariant ∙ ap (λ l. length l.groups) c.self.view_is

@@ -1,7 +1,0 @@
-use Rattle.std.proofs.Common.{◌≡◌, map, take}
-use Rattle.wasm_types.specs.groups.Entries.{declared_of}
-use Rattle.wasm_module_validator_type_trees.specs.Groups.{supertype_id}
-use Rattle.wasm_module_validator_types.proofs.stored.stored_supertypes.Given as goal
-
-abbrev pub invariant-loop-ty : goal.invariant-loop-ty
-invariant-loop-ty l = l.supertypes.items ≡ map supertype_id (map declared_of (take l.ty-index l.types))

@@ -1,5 +1,0 @@
-use Rattle.wasm_operator_validator_blocks.proofs.Each.{AreBelowUpTo}
-use Rattle.wasm_operator_validator_blocks.proofs.below.are_below.Given as goal
-
-abbrev pub invariant-loop-i : goal.invariant-loop-i
-invariant-loop-i g l = AreBelowUpTo (g.R.WasmModuleResources.meaning l.resources) l.found l.expected l.i

@@ -1,6 +1,0 @@
-use Rattle.std.proofs.Common.{◌≡◌, length}
-use Rattle.wasm_operator_validator_bodies.specs.Known.{AreGlobalsIn}
-use Rattle.wasm_operator_validator_bodies.proofs.known.globals_of.Given as goal
-
-abbrev pub invariant-loop-at : goal.invariant-loop-at
-invariant-loop-at g l = AreGlobalsIn (g.R.WasmModuleResources.meaning l.resources).«module» l.globals.items × (length l.globals.items ≡ l.at)

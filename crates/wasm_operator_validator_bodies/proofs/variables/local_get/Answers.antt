@@ -1,8 +1,0 @@
-use Rattle.std.proofs.Common.{refl}
-use Rattle.wasm_operator_validator_bodies.proofs.Rows.{took_local_get}
-use Rattle.wasm_operator_validator_bodies.proofs.variables.local_get.Goals as goal
-
-pub returns-clause-leads : goal.returns-clause-leads
-returns-clause-leads c =
-    took_local_get c.args.tables.now c.args.bytes.now c.args.at c.in-Some.end c.args.opens.now.inner c.args.opens.now.outer c.args.stack.now c.put.new.self c.requires c.in-Some.index c.in-Some.ensures.found
-    (rw c.as_slice-locals.ensures.value at c.if-index-locals.false) (rw c.as_slice-locals.ensures.value at (c.if-not-put.ensures refl))

@@ -1,0 +1,190 @@
+-- Frames that begin and end, and whole bodies.
+use Rattle.std.proofs.Common.{map, ◌≡◌, ◌∙◌, ℕ, ◌+◌, List, [], ◌∷◌, ◌++◌, Bool, true, false, Some, refl, arith, sym, ap, subst, append-nil, length, drop, reverse, slice_get, nat_lt}
+use Rattle.std.proofs.lemmas.List.{map-append}
+use Rattle.std.proofs.lemmas.Grind.{common_steps}
+use Rattle.std.specs.Prelude.{if◌then◌else◌}
+use Rattle.wasm_types.specs.settings.Settings.{Settings}
+use Rattle.wasm_types.specs.decoding.Numbers.{GivesAt}
+use Rattle.wasm_operators_immediates.specs.Blocks.{block_type}
+use Rattle.wasm_operators_immediates.specs.Immediates.{Block}
+use Rattle.wasm_operators_frequent.specs.Short.{Begins, IsTold}
+use Rattle.wasm_operators_frequent.proofs.ShortReading.{told_with, told_alone}
+use Rattle.wasm_operators_frequent.proofs.Carried.{block_of}
+use Rattle.wasm_operators_encoding.specs.expressions.Code.{Code, walk}
+use Rattle.wasm_operators_encoding.specs.expressions.Spelling.{SpelledOperators, SpelledExpression}
+use Rattle.wasm_operators_enums.specs.declared.control.ControlOperator.TheVariants as control
+use Rattle.wasm_operators_immediates.specs.declared.block.BlockType.{BlockType}
+use Rattle.wasm_operators_immediates.specs.declared.frames.FrameKind.{FrameKind}
+use Rattle.wasm_operators_immediates.specs.declared.frames.FrameKind.TheVariants as frames
+use Rattle.wasm_operators_enums.specs.Op as op
+use Rattle.wasm_operators_enums.specs.Op.{Op}
+use Rattle.wasm_operators_enums.specs.Roles.{role_of}
+use Rattle.wasm_operators_enums.specs.declared.role.Role.TheVariants.{Opens}
+use Rattle.wasm_operator_validator_rules.specs.Context.{Context, IsBlockType, initialised_at_first, inside, label_of, is_catch}
+use Rattle.wasm_operator_validator_rules.specs.Typed.{block_type_of, HasType, MayNest, entry_of, IsBody, Typed}
+use Rattle.wasm_operator_validator_state.specs.State.{InFrame}
+use Rattle.wasm_operator_validator_state.specs.laws.Closing.{end, else, in_open, in_else, in_end}
+use Rattle.wasm_operator_validator_fast_path.specs.declared.tables.Open.{Open}
+use Rattle.wasm_operator_validator_fast_path.specs.declared.tables.Sig.{Sig}
+use Rattle.wasm_operator_validator_fast_path.specs.declared.tables.Tables.{Tables}
+use Rattle.wasm_operator_validator_fast_path.specs.Stacks.{Values, lying, with_all}
+use Rattle.wasm_operator_validator_fast_path.specs.Values.{type_of, types, operands}
+use Rattle.wasm_operator_validator_fast_path.specs.Tables.{params_in, results_in, signature_in, Fits}
+use Rattle.wasm_operator_validator_fast_path.specs.Loop.{outermost, Full, inside_all, label, Closes, Goes, Leads, Enters, Leaves}
+use Rattle.wasm_operator_validator_fast_path.proofs.Stepping.{Stands, stood, step}
+use Rattle.wasm_operator_validator_fast_path.proofs.Rows.{on_stack, same_below}
+
+module _ (t : Tables) (text : List ℕ) (i e : ℕ) (o : Open) (outer : List Open) (v w : Values) where
+  abbrev results : Open → List ℕ
+  results n = results_in t.known.flat.items n.sig
+
+  -- ---- a frame that begins
+
+  -- the operators of the frame, and then those behind it
+  opened : (p : Op) (n : Open) (ts under : List ℕ) → role_of p ≡ Opens n.kind → entry_of n.kind (signature_in t.known.flat.items n.sig) ≡ types ts
+      → (c : Context) → HasType c (block_type_of p) (signature_in t.known.flat.items n.sig) → ((g : Context) → MayNest g p)
+      → (os : List Op) → Closes t c (n ∷ o ∷ outer) (with_all (params_in t.known.flat.items n.sig) ([], under)) os
+      → Closes t c (o ∷ outer) (with_all ts (lying n.base under)) (p ∷ os)
+  opened p n ts under is entry c typed nests os h set before full whole =
+      let g = inside_all c t.known.flat.items (o ∷ outer) in
+      let b = signature_in t.known.flat.items n.sig in
+      let r = (lying n.base under).0 in
+      let (code, rest, inner, walked, body, k) = h set set full full in
+      (in_open g (record { kind = o.kind; block = signature_in t.known.flat.items o.sig; before = before }) set (operands (reverse ts ++ r)) p n.kind os
+      (λ later. Closes t c outer (with_all (results o) (lying o.base (lying n.base under).1)) later) is).1 (
+        b,
+        operands r,
+        (is, typed, nests g),
+        rw entry (same_below _ _ (on_stack ts r)),
+        (
+          code,
+          rest,
+          inner,
+          walked,
+          subst (λ s. Typed (inside_all c t.known.flat.items (n ∷ o ∷ outer)) (record { kind = n.kind; block = b; before = set }) set code s) (on_stack (params_in t.known.flat.items n.sig) [] ∙ append-nil _) body,
+          subst (λ s. InFrame g (record { kind = o.kind; block = signature_in t.known.flat.items o.sig; before = before }) set s rest
+              (λ later. Closes t c outer (with_all (results o) (lying o.base (lying n.base under).1)) later)) (on_stack (results n) r) (k set before full whole),
+        ),
+      )
+
+  took_opener : (k : FrameKind) (s : Sig) (p : Op) (ts : List ℕ) → Stands t.features.0 text i e p → role_of p ≡ Opens k → entry_of k (signature_in t.known.flat.items s) ≡ types ts
+      → ((z : Settings) (c : Context) → Fits z text t c → HasType c (block_type_of p) (signature_in t.known.flat.items s)) → ((g : Context) → MayNest g p) → (m : Values) (n : Open) (others : List Open) (h : Enters t.known.flat.items k s m w o outer n others)
+      → v ≡ with_all ts (lying n.base h.under) → Leads text t i (o ∷ outer) v e (n ∷ others) w
+  took_opener k s p ts stands is entry typed nests m n others h there z c fits =
+      step z text t c i e (o ∷ outer) (n ∷ others) v w fits p stands (λ os x. rw there (opened p n ts h.under (is ∙ ap Opens (sym h.kind)) (rw (h.kind, h.sig) entry) c (rw h.sig (typed z c fits)) nests os
+      (rw (h.frames, h.begun) at x)))
+
+  -- an opener by its byte and its block type
+  opener_stands : (p : Op) → IsTold t.features.0 text i e (λ q. q ≡ p) → Stands t.features.0 text i e p
+  opener_stands p told = stood t.features.0 text i e p told
+
+  pub took_block : Begins text i 0x02 → (bt : BlockType) → GivesAt block_type text (i + 1) bt e → (s : Sig) → ((z : Settings) (c : Context) → Fits z text t c → IsBlockType c bt (signature_in t.known.flat.items s))
+      → (n : Open) (others : List Open) → Enters t.known.flat.items frames.Block s v w o outer n others → Leads text t i (o ∷ outer) v e (n ∷ others) w
+  took_block begins bt g s typed n others h =
+      took_opener frames.Block s (op.Control (control.Block bt)) (params_in t.known.flat.items s)
+      (opener_stands (op.Control (control.Block bt)) (told_with t.features.0 text i 2 2 begins refl (op.Control (control.Block bt)) refl refl _ refl refl refl (Block bt) e refl (λ limits. block_of _ _ _ _ bt g))) refl refl typed (λ g. tt) v n others h (rw h.sig at h.params)
+
+  pub took_loop : Begins text i 0x03 → (bt : BlockType) → GivesAt block_type text (i + 1) bt e → (s : Sig) → ((z : Settings) (c : Context) → Fits z text t c → IsBlockType c bt (signature_in t.known.flat.items s))
+      → (n : Open) (others : List Open) → Enters t.known.flat.items frames.Loop s v w o outer n others → Leads text t i (o ∷ outer) v e (n ∷ others) w
+  took_loop begins bt g s typed n others h =
+      took_opener frames.Loop s (op.Control (control.Loop bt)) (params_in t.known.flat.items s)
+      (opener_stands (op.Control (control.Loop bt)) (told_with t.features.0 text i 3 3 begins refl (op.Control (control.Loop bt)) refl refl _ refl refl refl (Block bt) e refl (λ limits. block_of _ _ _ _ bt g))) refl refl typed (λ g. tt) v n others h (rw h.sig at h.params)
+
+  pub took_if : Begins text i 0x04 → (bt : BlockType) → GivesAt block_type text (i + 1) bt e → (s : Sig) → ((z : Settings) (c : Context) → Fits z text t c → IsBlockType c bt (signature_in t.known.flat.items s))
+      → (m : Values) → v ≡ (0 ∷ m.0, m.1) → (n : Open) (others : List Open) → Enters t.known.flat.items frames.If s m w o outer n others → Leads text t i (o ∷ outer) v e (n ∷ others) w
+  took_if begins bt g s typed m condition n others h =
+      let ps = params_in t.known.flat.items s in
+      let r = (lying n.base h.under).0 in
+      let all : 0 ∷ (reverse ps ++ r) ≡ reverse (ps ++ 0 ∷ []) ++ r = grind (arith, common_steps) in
+      took_opener frames.If s (op.Control (control.If bt)) (ps ++ 0 ∷ [])
+      (opener_stands (op.Control (control.If bt)) (told_with t.features.0 text i 4 4 begins refl (op.Control (control.If bt)) refl refl _ refl refl refl (Block bt) e refl (λ limits. block_of _ _ _ _ bt g)))
+      refl (sym (map-append type_of ps (0 ∷ []))) typed (λ g. tt) m n others h
+      (condition ∙ ap (λ (x : Values). (0 ∷ x.0, x.1)) (rw h.sig at h.params) ∙ ap (λ xs. (xs, (lying n.base h.under).1)) all)
+
+  -- ---- a frame that turns
+
+  single_stands : (p : Op) → IsTold t.features.0 text i (i + 1) (λ q. q ≡ p) → i + 1 ≡ e → Stands t.features.0 text i e p
+  single_stands p told behind = rw (← behind) (stood t.features.0 text i (i + 1) p told)
+
+  abbrev second_part : Open
+  second_part = record { kind = frames.Else; base = o.base; sig = o.sig }
+
+  turned : o.kind ≡ frames.If → (c : Context) → (m : Values) → m.0 ≡ [] → (os : List Op) → Closes t c (second_part ∷ outer) (with_all (params_in t.known.flat.items o.sig) m) os
+      → Closes t c (o ∷ outer) (with_all (results o) m) ((else) ∷ os)
+  turned is c m none os x set before full whole =
+      let b = signature_in t.known.flat.items o.sig in
+      let ps = params_in t.known.flat.items o.sig in
+      let same : label t.known.flat.items second_part ≡ label t.known.flat.items o = sym (ap (λ k. label_of k b) is) in
+      let caught : is_catch frames.Else ≡ is_catch o.kind = sym (ap is_catch is) in
+      let there : inside_all c t.known.flat.items (second_part ∷ outer) ≡ inside_all c t.known.flat.items (o ∷ outer)
+      = λ i. record c { labels = same i ∷ (map (label t.known.flat.items) outer ++ c.labels); catches = caught i ∷ (map (λ q. is_catch q.kind) outer ++ c.catches) } in
+      let inner = subst (λ (h : Context). InFrame h (record { kind = frames.Else; block = b; before = before }) before (operands (reverse ps ++ m.0)) os
+      (λ rest. Closes t c outer (with_all (results o) (lying o.base m.1)) rest)) there (x before before whole whole) in
+      (in_else (inside_all c t.known.flat.items (o ∷ outer)) (record { kind = o.kind; block = b; before = before }) set (operands (reverse (results o) ++ m.0)) os
+      (λ rest. Closes t c outer (with_all (results o) (lying o.base m.1)) rest)).1 (
+        is,
+        same_below _ _ (rw none (on_stack (results o) [] ∙ append-nil _)),
+        subst (λ s. InFrame (inside_all c t.known.flat.items (o ∷ outer)) (record { kind = frames.Else; block = b; before = before }) before s os
+            (λ rest. Closes t c outer (with_all (results o) (lying o.base m.1)) rest)) (rw none (on_stack ps [] ∙ append-nil _)) inner,
+      )
+
+  pub took_else : Begins text i 0x05 → i + 1 ≡ e → o.kind ≡ frames.If → (rs ps : List ℕ) → rs ≡ results o → ps ≡ params_in t.known.flat.items o.sig → (m : Values) → v ≡ with_all rs m → m.0 ≡ []
+      → w ≡ with_all ps m → Leads text t i (o ∷ outer) v e (second_part ∷ outer) w
+  took_else begins behind is rs ps same_rs same_ps m taken none put z c fits =
+      step z text t c i e (o ∷ outer) (second_part ∷ outer) v w fits (else) (single_stands (else) (told_alone t.features.0 text i 5 5 begins refl (else) refl refl _ refl refl refl refl) behind)
+      (λ os x. rw (taken, same_rs) (turned is c m none os (rw (put, same_ps) at x)))
+
+  -- ---- a frame that ends
+
+  closed : (c : Context) → Leaves t.known.flat.items o v w → (os : List Op) → Closes t c outer w os → Closes t c (o ∷ outer) v (end ∷ os)
+  closed c h os x set before full whole =
+      (in_end (inside_all c t.known.flat.items (o ∷ outer)) (record { kind = o.kind; block = signature_in t.known.flat.items o.sig; before = before }) set (operands v.0) os
+      (λ rest. Closes t c outer (with_all (results o) (lying o.base v.1)) rest)).1 (
+        same_below _ _ (ap (λ (y : Values). operands y.0) h.results ∙ on_stack (results o) [] ∙ append-nil _),
+        h.kind,
+        subst (λ y. Closes t c outer y os) (h.ended ∙ ap (λ (y : Values). with_all (results o) (lying o.base y.1)) (sym h.results)) x,
+      )
+
+  pub took_end : Begins text i 0x0b → i + 1 ≡ e → (p : Open) (others : List Open) → outer ≡ p ∷ others → Leaves t.known.flat.items o v w → Leads text t i (o ∷ outer) v e (p ∷ others) w
+  took_end begins behind p others there h z c fits =
+      step z text t c i e (o ∷ outer) (p ∷ others) v w fits end (single_stands end (told_alone t.features.0 text i 11 11 begins refl end refl refl _ refl refl refl refl) behind)
+      (λ os x. closed c h os (rw there x))
+
+  pub finished : Begins text i 0x0b → i + 1 ≡ length text → outer ≡ [] → Leaves t.known.flat.items o v w → (z : Settings) (c : Context) → Fits z text t c → Goes z text t c i (o ∷ outer) v
+  finished begins all none h z c fits =
+      step z text t c i (i + 1) (o ∷ outer) [] v w fits end (stood t.features.0 text i (i + 1) end (told_alone t.features.0 text i 11 11 begins refl end refl refl _ refl refl refl refl))
+      (λ os x. closed c h os (rw none x)) ([], (let past : drop (i + 1) text ≡ [] = grind (arith, common_steps) in past), refl)
+
+-- the first of some frames and the others
+pub split_first : (p : Open) (xs ys : List Open) → slice_get xs 0 ≡ Some p → ys ≡ drop 1 xs → xs ≡ p ∷ ys
+split_first p [] ys e d = absurd cc
+split_first p (x ∷ xs) ys e d = let i : x ≡ p = cc in let j : ys ≡ xs = d in ap (λ y. y ∷ xs) i ∙ ap (λ zs. p ∷ zs) (sym j)
+
+pub no_frames : (xs : List Open) → length xs ≡ 0 → xs ≡ []
+no_frames [] e = refl
+no_frames (x ∷ xs) e = absurd (omega (arith, e))
+
+-- ---- whole bodies
+
+all_set : (z : Settings) (text : List ℕ) (t : Tables) (g : Context) → Fits z text t g → (params : ℕ) → Full t (initialised_at_first params g.locals)
+all_set z text t g fits params x lt = rw (fits.locals x lt) (either (nat_lt x params))
+  where
+    either : (b : Bool) → (if b then true else true) ≡ true
+    either true = refl
+    either false = refl
+
+pub whole_body : (t : Tables) (text : List ℕ) (start : ℕ) (v : Values) → v.0 ≡ [] → (z : Settings) (g : Context) → Fits z text t g
+    → Goes z text t g start (outermost t.results ∷ []) v → (params : ℕ) → (c : Code) × SpelledExpression z c (drop start text) × IsBody g params c
+whole_body t text start v none z g fits (os, h, goes) params =
+    let set = initialised_at_first params g.locals in
+    let full = all_set z text t g fits params in
+    let (c, rest, inner, walked, typed, k) = goes set set full full in
+    let all : os ≡ walk c = walked ∙ ap (λ xs. walk c ++ xs) k ∙ append-nil (walk c) in (
+      c,
+      record { expression = inner; spelled = subst (λ xs. SpelledOperators z xs (drop start text)) all h },
+      record {
+        expression = inner;
+        typed = subst (λ r. Typed (inside frames.Block r g) (record { kind = frames.Block; block = record { params = []; results = r }; before = set }) set c []) (sym fits.results)
+            (subst (λ xs. Typed (inside frames.Block (types (results_in t.known.flat.items t.results)) g) (record { kind = frames.Block; block = record { params = []; results = types (results_in t.known.flat.items t.results) }; before = set }) set c (operands xs)) none typed);
+      },
+    )

@@ -1,0 +1,62 @@
+-- What operators on numbers take and give, by their codes (WebAssembly 3.0, binary format, instructions).
+use Rattle.std.specs.Prelude.{◌≡◌, ◌<◌, ℕ, List, [], ◌∷◌, Option, None, Some, IsTrue, false}
+use Rattle.wasm_operators_enums.specs.declared.numeric.NumericOperator.{NumericOperator}
+use Rattle.wasm_operators_enums.specs.numbers.Table.{numeric_info}
+use Rattle.wasm_operator_validator_rules.specs.Numbers.{class_of, taken_by, given_by, numbers}
+use Rattle.wasm_types.specs.trees.Types.{Number}
+use Rattle.wasm_operators_immediates.specs.declared.memory.MemArg.{MemArg}
+use Rattle.wasm_operators_immediates.specs.declared.proposal.Proposal.TheVariants.{Mvp}
+use Rattle.wasm_operators_enums.specs.declared.memory.MemoryOperator.{MemoryOperator}
+use Rattle.wasm_operators_enums.specs.Op as op
+use Rattle.wasm_operators_enums.specs.Table.{info_of}
+use Rattle.wasm_operators_enums.specs.Immediates.{immediates_of, is_canonical}
+use Rattle.wasm_operators_immediates.specs.Kinds.{Plain}
+use Rattle.wasm_operators_immediates.specs.Immediates.{MemoryArgument}
+use Rattle.wasm_operator_validator_rules.specs.Accesses.{Access, load, store}
+use Rattle.wasm_operator_validator_rules.specs.Operands.{Operand}
+use Rattle.wasm_operator_validator_rules.specs.Context.{Context, Initialised}
+use Rattle.wasm_operator_validator_rules.specs.InstructionTypes.{instruction_type, accesses}
+use Rattle.wasm_operator_validator_rules.specs.Row.{TableRow, GroupRow, IsEnabled, after}
+use Rattle.wasm_operator_validator_fast_path.specs.Tables.{Allows}
+use Rattle.wasm_operator_validator_fast_path.specs.Values.{number_of, types}
+use Rattle.wasm_operator_validator_fast_path.specs.declared.shape.Shape.{Shape}
+use Rattle.wasm_operator_validator_fast_path.specs.declared.shape.Shape.TheVariants as shape
+
+-- the operator on numbers with this prefix, if it has one, and this code takes and gives these types
+pub record IsNumberAt (prefix : Option ℕ) (code : ℕ) (takes gives : List ℕ) : Type 0 where
+  pub operator : NumericOperator
+  pub code_is : (numeric_info operator).code ≡ code
+  pub prefix_is : (numeric_info operator).prefix ≡ prefix
+  pub low : code < 0xfb
+  pub enabled : (bits : ℕ) → Allows bits → IsEnabled bits (op.Numeric operator)
+  pub taken : types takes ≡ numbers (taken_by (class_of operator))
+  pub given : types gives ≡ numbers (given_by (class_of operator))
+
+-- with any argument of this natural alignment the operator with this code is an access of this kind and type
+pub record IsAccessAt (kind : Number → Access) (code natural ty : ℕ) : Type 0 where
+  pub operator : MemArg → MemoryOperator
+  pub low : code < 0xfb
+  pub code_is : (a : MemArg) → (info_of (op.Memory (operator a))).code ≡ code
+  pub no_prefix : (a : MemArg) → (info_of (op.Memory (operator a))).prefix ≡ None
+  pub of : (a : MemArg) → (info_of (op.Memory (operator a))).proposal ≡ Mvp
+  pub carries : (a : MemArg) → immediates_of (op.Memory (operator a)) ≡ MemoryArgument Plain natural a ∷ []
+  pub canonical : (a : MemArg) → IsTrue (is_canonical (op.Memory (operator a)))
+  pub keeps : (a : MemArg) (set : Initialised) → after (op.Memory (operator a)) set ≡ set
+  pub table : (a : MemArg) (g : Context)
+      → instruction_type g (op.Memory (operator a)) ≡ accesses g false (Some (record { access = kind (number_of ty); argument = a }))
+  pub row : (a : MemArg) (g : Context) (set : Initialised) (popped pushed : List Operand)
+      → TableRow g (op.Memory (operator a)) popped pushed
+      → GroupRow g set (op.Memory (operator a)) popped pushed
+
+-- a code of one byte has this shape
+abbrev pub IsShape : Shape → ℕ → Type 0
+IsShape shape.Other code = Unit {0}
+IsShape (shape.Load natural t) code = IsAccessAt load code natural t
+IsShape (shape.Store natural t) code = IsAccessAt store code natural t
+IsShape (shape.Change a b) code = IsNumberAt None code (a ∷ []) (b ∷ [])
+IsShape (shape.Combine a b) code = IsNumberAt None code (a ∷ a ∷ []) (b ∷ [])
+
+-- behind the prefix `fc` this code is that of a conversion between these types
+abbrev pub IsSaturating : Option (ℕ × ℕ) → ℕ → Type 0
+IsSaturating None code = Unit {0}
+IsSaturating (Some t) code = IsNumberAt (Some 0xfc) code (t.0 ∷ []) (t.1 ∷ [])

@@ -1,0 +1,302 @@
+//! Frames that begin, turn and end.
+
+ghost use Rattle.std.specs.Prelude.{◌≡◌, ◌<◌, ◌≤◌, ◌∷◌, ℕ, List, true, length, [], IfSome};
+ghost use Rattle.wasm_operators_frequent.specs.Short.{Begins};
+ghost use Rattle.wasm_operator_validator_fast_path.specs.Loop.{Leads, Goes, Enters, Leaves, all};
+ghost use Rattle.wasm_types.specs.settings.Settings.{Settings};
+ghost use Rattle.wasm_types.specs.decoding.Numbers.{GivesAt};
+ghost use Rattle.wasm_types.specs.values.Decode.{begins_index};
+ghost use Rattle.wasm_operators_immediates.specs.Blocks.{block_type};
+ghost use Rattle.wasm_operators_immediates.specs.declared.block.BlockType.{BlockType};
+ghost use Rattle.wasm_operator_validator_rules.specs.Context.{Context, IsBlockType};
+ghost use Rattle.wasm_operator_validator_rules.specs.Typed.{MayClose};
+ghost use Rattle.wasm_operator_validator_fast_path.specs.Tables.{Fits, signature_in};
+
+use crate::lookups::part;
+use crate::stack::Stack;
+use crate::tables::{Open, Opens, Sig, Tables};
+use wasm_operator_validator_state::FrameKind;
+use wasm_types_decoding::short_s33_at;
+
+// Whether a number that is not negative begins with this byte.
+#[inline(always)]
+fn begins_index(byte: u8) -> bool
+    ensures { result ≡ begins_index byte }
+{
+    byte < 0x40 || 0x7f < byte
+}
+
+// The signature of a block by the index of its type, and the offset behind it.
+#[inline(never)]
+fn block_by_index(tables: &Tables, bytes: &[u8], at: usize) -> Option<(Sig, usize)>
+    requires { at < length bytes.now }
+    ensures { IfSome result (λ r. (bt : BlockType) × GivesAt block_type bytes.now at bt r.1
+        × ((z : Settings) (g : Context) → Fits z bytes.now tables.now g
+        → IsBlockType g bt (signature_in tables.now.known.flat.items r.0))) }
+{
+    if !begins_index(bytes[at]) {
+        return None;
+    }
+    let Some((index, end)) = short_s33_at(bytes, at) else {
+        return None;
+    };
+    if index < 0 || index >= 0x1_0000_0000 {
+        return None;
+    }
+    let index = index as u32 as usize;
+    let types = tables.known.types.as_slice();
+    if index >= types.len() {
+        return None;
+    }
+    let sig = types[index];
+    if sig.param_count as usize > tables.known.flat.as_slice().len() {
+        return None;
+    }
+    Some((sig, end))
+}
+
+// The signature of a block of no operands.
+#[inline(always)]
+fn bare() -> Sig
+    ensures { (flat : List ℕ) → signature_in flat result ≡ record { params = []; results = [] } }
+{
+    Sig {
+        params: 0,
+        param_count: 0,
+        results: 0,
+        result_count: 0,
+    }
+}
+
+// The signature of a block of one number.
+#[inline(always)]
+fn single(code: u32) -> Sig
+    ensures { result ≡ record { params = 0; param_count = 0; results = code; result_count = 1 } }
+{
+    Sig {
+        params: 0,
+        param_count: 0,
+        results: code,
+        result_count: 1,
+    }
+}
+
+// The signature of a block, and the offset behind its type.
+#[inline(always)]
+fn block_at(tables: &Tables, bytes: &[u8], at: usize) -> Option<(Sig, usize)>
+    ensures { IfSome result (λ r. (bt : BlockType) × GivesAt block_type bytes.now at bt r.1
+        × ((z : Settings) (g : Context) → Fits z bytes.now tables.now g
+        → IsBlockType g bt (signature_in tables.now.known.flat.items r.0))) }
+{
+    if at >= bytes.len() {
+        return None;
+    }
+    match bytes[at] {
+        0x40 => Some((bare(), at + 1)),
+        0x7f => Some((single(0), at + 1)),
+        0x7e => Some((single(1), at + 1)),
+        0x7d => Some((single(2), at + 1)),
+        0x7c => Some((single(3), at + 1)),
+        _ => block_by_index(tables, bytes, at),
+    }
+}
+
+// A frame begins.
+#[inline(always)]
+fn enter(tables: &Tables, kind: FrameKind, sig: Sig, stack: &mut Stack, opens: &mut Opens) -> bool
+    ensures { result ≡ true → Enters tables.now.known.flat.items kind sig stack.old stack.new
+        opens.old.inner opens.old.outer opens.new.inner opens.new.outer }
+{
+    let Some(params) = part(tables.known.flat.as_slice(), sig.params, sig.param_count) else {
+        return false;
+    };
+    if !stack.take_all(params) {
+        return false;
+    }
+    let base = stack.enter();
+    if !stack.put_all(params) || !opens.outer.push(opens.inner) {
+        return false;
+    }
+    opens.inner = Open { kind, base, sig };
+    true
+}
+
+/// A block begins.
+#[inline(always)]
+pub(crate) fn block(
+    tables: &Tables,
+    bytes: &[u8],
+    at: usize,
+    stack: &mut Stack,
+    opens: &mut Opens,
+) -> Option<usize>
+    requires { Begins bytes.now at 0x02 }
+    ensures leads { IfSome result (λ end. Leads bytes.now tables.now at (all opens.old) stack.old
+        end (all opens.new) stack.new) }
+    ensures forward { IfSome result (λ end. at < end) }
+    ensures inside { IfSome result (λ end. end ≤ length bytes.now) }
+{
+    let Some((sig, end)) = block_at(tables, bytes, at + 1) else {
+        return None;
+    };
+    if !enter(tables, FrameKind::Block, sig, stack, opens) {
+        return None;
+    }
+    Some(end)
+}
+
+/// A loop begins.
+#[inline(always)]
+pub(crate) fn begin_loop(
+    tables: &Tables,
+    bytes: &[u8],
+    at: usize,
+    stack: &mut Stack,
+    opens: &mut Opens,
+) -> Option<usize>
+    requires { Begins bytes.now at 0x03 }
+    ensures leads { IfSome result (λ end. Leads bytes.now tables.now at (all opens.old) stack.old
+        end (all opens.new) stack.new) }
+    ensures forward { IfSome result (λ end. at < end) }
+    ensures inside { IfSome result (λ end. end ≤ length bytes.now) }
+{
+    let Some((sig, end)) = block_at(tables, bytes, at + 1) else {
+        return None;
+    };
+    if !enter(tables, FrameKind::Loop, sig, stack, opens) {
+        return None;
+    }
+    Some(end)
+}
+
+/// A choice begins.
+#[inline(always)]
+pub(crate) fn begin_if(
+    tables: &Tables,
+    bytes: &[u8],
+    at: usize,
+    stack: &mut Stack,
+    opens: &mut Opens,
+) -> Option<usize>
+    requires { Begins bytes.now at 0x04 }
+    ensures leads { IfSome result (λ end. Leads bytes.now tables.now at (all opens.old) stack.old
+        end (all opens.new) stack.new) }
+    ensures forward { IfSome result (λ end. at < end) }
+    ensures inside { IfSome result (λ end. end ≤ length bytes.now) }
+{
+    let Some((sig, end)) = block_at(tables, bytes, at + 1) else {
+        return None;
+    };
+    if !stack.take(0) || !enter(tables, FrameKind::If, sig, stack, opens) {
+        return None;
+    }
+    Some(end)
+}
+
+/// The second part of a choice begins.
+#[inline(always)]
+pub(crate) fn turn(
+    tables: &Tables,
+    bytes: &[u8],
+    at: usize,
+    stack: &mut Stack,
+    opens: &mut Opens,
+) -> Option<usize>
+    requires { Begins bytes.now at 0x05 }
+    ensures leads { IfSome result (λ end. Leads bytes.now tables.now at (all opens.old) stack.old
+        end (all opens.new) stack.new) }
+    ensures forward { IfSome result (λ end. at < end) }
+    ensures inside { IfSome result (λ end. end ≤ length bytes.now) }
+{
+    let _bytes = bytes;
+    match opens.inner.kind {
+        FrameKind::If => {}
+        _ => return None,
+    }
+    let sig = opens.inner.sig;
+    let flat = tables.known.flat.as_slice();
+    let Some(results) = part(flat, sig.results, sig.result_count) else {
+        return None;
+    };
+    let Some(params) = part(flat, sig.params, sig.param_count) else {
+        return None;
+    };
+    if !stack.take_all(results) || !stack.is_empty() || !stack.put_all(params) {
+        return None;
+    }
+    opens.inner.kind = FrameKind::Else;
+    Some(at + 1)
+}
+
+// Whether a frame may end here: a choice without a second part may if it takes and gives nothing.
+#[inline(always)]
+fn may_close(frame: &Open) -> bool
+    ensures { result ≡ true → (flat : List ℕ) → MayClose frame.now.kind (signature_in flat frame.now.sig) }
+{
+    match frame.kind {
+        FrameKind::Block => true,
+        FrameKind::Loop => true,
+        FrameKind::Else => true,
+        FrameKind::If => frame.sig.param_count == 0 && frame.sig.result_count == 0,
+        _ => false,
+    }
+}
+
+// The innermost frame's operands are its results alone, which lie on those under it then.
+#[inline(always)]
+fn leave(tables: &Tables, frame: &Open, stack: &mut Stack) -> bool
+    ensures { result ≡ true → Leaves tables.now.known.flat.items frame.now stack.old stack.new }
+{
+    if !may_close(frame) {
+        return false;
+    }
+    let Some(results) = part(
+        tables.known.flat.as_slice(),
+        frame.sig.results,
+        frame.sig.result_count,
+    ) else {
+        return false;
+    };
+    stack.take_all(results) && stack.leave(frame.base) && stack.put_all(results)
+}
+
+/// The innermost frame ends, and is not the last.
+#[inline(always)]
+pub(crate) fn end(
+    tables: &Tables,
+    bytes: &[u8],
+    at: usize,
+    stack: &mut Stack,
+    opens: &mut Opens,
+) -> Option<usize>
+    requires { Begins bytes.now at 0x0b }
+    ensures leads { IfSome result (λ end. Leads bytes.now tables.now at (all opens.old) stack.old
+        end (all opens.new) stack.new) }
+    ensures forward { IfSome result (λ end. at < end) }
+    ensures inside { IfSome result (λ end. end ≤ length bytes.now) }
+{
+    let _bytes = bytes;
+    if opens.outer.len() == 0 || !leave(tables, &opens.inner, stack) {
+        return None;
+    }
+    opens.inner = opens.outer.under(0);
+    opens.outer.shorten();
+    Some(at + 1)
+}
+
+/// The last frame ends at the end of the bytes.
+pub(crate) fn finish(
+    tables: &Tables,
+    bytes: &[u8],
+    at: usize,
+    stack: &mut Stack,
+    opens: &Opens,
+) -> bool
+    ensures { result ≡ true → (z : Settings) (g : Context) → Fits z bytes.now tables.now g
+        → Goes z bytes.now tables.now g at (all opens.now) stack.old }
+{
+    if at >= bytes.len() || at + 1 != bytes.len() || bytes[at] != 0x0b || opens.outer.len() != 0 {
+        return false;
+    }
+    leave(tables, &opens.inner, stack)
+}

@@ -1,0 +1,349 @@
+//! Branches, calls, and operators that take any operand.
+
+ghost use Rattle.std.specs.Prelude.{◌≡◌, ◌<◌, ◌≤◌, ◌∷◌, ℕ, List, length, [], IfSome};
+ghost use Rattle.wasm_operators_frequent.specs.Short.{Begins};
+ghost use Rattle.wasm_operator_validator_fast_path.specs.Loop.{Leads, all};
+
+use crate::labels::labels_at;
+use crate::lookups::{frame_at, label, part};
+use crate::stack::Stack;
+use crate::tables::{Opens, Tables};
+use wasm_operators_frequent::zero_at;
+use wasm_types_decoding::short_u32_at;
+
+/// Nothing.
+#[inline(always)]
+pub(crate) fn nop(
+    tables: &Tables,
+    bytes: &[u8],
+    at: usize,
+    stack: &mut Stack,
+    opens: &Opens,
+) -> Option<usize>
+    requires { Begins bytes.now at 0x01 }
+    ensures leads { IfSome result (λ end. Leads bytes.now tables.now at (all opens.now) stack.old
+        end (all opens.now) stack.new) }
+    ensures forward { IfSome result (λ end. at < end) }
+    ensures inside { IfSome result (λ end. end ≤ length bytes.now) }
+{
+    let _opens = opens;
+    let _tables = tables;
+    let _bytes = bytes;
+    let _stack = stack;
+    Some(at + 1)
+}
+
+/// Nothing behind this is reached, so any operands may lie there: the frame's results do.
+#[inline(always)]
+pub(crate) fn unreachable(
+    tables: &Tables,
+    bytes: &[u8],
+    at: usize,
+    stack: &mut Stack,
+    opens: &Opens,
+) -> Option<usize>
+    requires { Begins bytes.now at 0x00 }
+    ensures leads { IfSome result (λ end. Leads bytes.now tables.now at (all opens.now) stack.old
+        end (all opens.now) stack.new) }
+    ensures forward { IfSome result (λ end. at < end) }
+    ensures inside { IfSome result (λ end. end ≤ length bytes.now) }
+{
+    let _bytes = bytes;
+    let Some(results) = part(
+        tables.known.flat.as_slice(),
+        opens.inner.sig.results,
+        opens.inner.sig.result_count,
+    ) else {
+        return None;
+    };
+    stack.cut();
+    if !stack.put_all(results) {
+        return None;
+    }
+    Some(at + 1)
+}
+
+/// An operand is dropped.
+#[inline(always)]
+pub(crate) fn drop_top(
+    tables: &Tables,
+    bytes: &[u8],
+    at: usize,
+    stack: &mut Stack,
+    opens: &Opens,
+) -> Option<usize>
+    requires { Begins bytes.now at 0x1a }
+    ensures leads { IfSome result (λ end. Leads bytes.now tables.now at (all opens.now) stack.old
+        end (all opens.now) stack.new) }
+    ensures forward { IfSome result (λ end. at < end) }
+    ensures inside { IfSome result (λ end. end ≤ length bytes.now) }
+{
+    let _opens = opens;
+    let _tables = tables;
+    let _bytes = bytes;
+    if !stack.forget() {
+        return None;
+    }
+    Some(at + 1)
+}
+
+/// One of two operands of one type.
+#[inline(always)]
+pub(crate) fn select(
+    tables: &Tables,
+    bytes: &[u8],
+    at: usize,
+    stack: &mut Stack,
+    opens: &Opens,
+) -> Option<usize>
+    requires { Begins bytes.now at 0x1b }
+    ensures leads { IfSome result (λ end. Leads bytes.now tables.now at (all opens.now) stack.old
+        end (all opens.now) stack.new) }
+    ensures forward { IfSome result (λ end. at < end) }
+    ensures inside { IfSome result (λ end. end ≤ length bytes.now) }
+{
+    let _opens = opens;
+    let _tables = tables;
+    let _bytes = bytes;
+    if !stack.choose() {
+        return None;
+    }
+    Some(at + 1)
+}
+
+/// A branch. Behind it nothing is reached, so any operands may lie there: the frame's results do.
+#[inline(always)]
+pub(crate) fn br(
+    tables: &Tables,
+    bytes: &[u8],
+    at: usize,
+    stack: &mut Stack,
+    opens: &Opens,
+) -> Option<usize>
+    requires { Begins bytes.now at 0x0c }
+    ensures leads { IfSome result (λ end. Leads bytes.now tables.now at (all opens.now) stack.old
+        end (all opens.now) stack.new) }
+    ensures forward { IfSome result (λ end. at < end) }
+    ensures inside { IfSome result (λ end. end ≤ length bytes.now) }
+{
+    let Some((depth, end)) = short_u32_at(bytes, at + 1) else {
+        return None;
+    };
+    let Some(frame) = frame_at(opens, depth) else {
+        return None;
+    };
+    let Some(types) = label(tables.known.flat.as_slice(), frame.kind, frame.sig) else {
+        return None;
+    };
+    let Some(results) = part(
+        tables.known.flat.as_slice(),
+        opens.inner.sig.results,
+        opens.inner.sig.result_count,
+    ) else {
+        return None;
+    };
+    if !stack.take_all(types) {
+        return None;
+    }
+    stack.cut();
+    if !stack.put_all(results) {
+        return None;
+    }
+    Some(end)
+}
+
+/// A branch on a condition.
+#[inline(always)]
+pub(crate) fn br_if(
+    tables: &Tables,
+    bytes: &[u8],
+    at: usize,
+    stack: &mut Stack,
+    opens: &Opens,
+) -> Option<usize>
+    requires { Begins bytes.now at 0x0d }
+    ensures leads { IfSome result (λ end. Leads bytes.now tables.now at (all opens.now) stack.old
+        end (all opens.now) stack.new) }
+    ensures forward { IfSome result (λ end. at < end) }
+    ensures inside { IfSome result (λ end. end ≤ length bytes.now) }
+{
+    let Some((depth, end)) = short_u32_at(bytes, at + 1) else {
+        return None;
+    };
+    let Some(frame) = frame_at(opens, depth) else {
+        return None;
+    };
+    let Some(types) = label(tables.known.flat.as_slice(), frame.kind, frame.sig) else {
+        return None;
+    };
+    if !stack.take(0) || !stack.take_all(types) || !stack.put_all(types) {
+        return None;
+    }
+    Some(end)
+}
+
+/// A branch to one of several labels, which all take the same types.
+#[inline(always)]
+pub(crate) fn br_table(
+    tables: &Tables,
+    bytes: &[u8],
+    at: usize,
+    stack: &mut Stack,
+    opens: &Opens,
+) -> Option<usize>
+    requires { Begins bytes.now at 0x0e }
+    ensures leads { IfSome result (λ end. Leads bytes.now tables.now at (all opens.now) stack.old
+        end (all opens.now) stack.new) }
+    ensures forward { IfSome result (λ end. at < end) }
+    ensures inside { IfSome result (λ end. end ≤ length bytes.now) }
+{
+    let Some((count, first)) = short_u32_at(bytes, at + 1) else {
+        return None;
+    };
+    if count as usize > bytes.len() {
+        return None;
+    }
+    let Some((types, end)) = labels_at(tables.known.flat.as_slice(), bytes, first, count, opens)
+    else {
+        return None;
+    };
+    let Some(results) = part(
+        tables.known.flat.as_slice(),
+        opens.inner.sig.results,
+        opens.inner.sig.result_count,
+    ) else {
+        return None;
+    };
+    if !stack.take(0) || !stack.take_all(types) {
+        return None;
+    }
+    stack.cut();
+    if !stack.put_all(results) {
+        return None;
+    }
+    Some(end)
+}
+
+/// The function returns.
+#[inline(always)]
+pub(crate) fn return_all(
+    tables: &Tables,
+    bytes: &[u8],
+    at: usize,
+    stack: &mut Stack,
+    opens: &Opens,
+) -> Option<usize>
+    requires { Begins bytes.now at 0x0f }
+    ensures leads { IfSome result (λ end. Leads bytes.now tables.now at (all opens.now) stack.old
+        end (all opens.now) stack.new) }
+    ensures forward { IfSome result (λ end. at < end) }
+    ensures inside { IfSome result (λ end. end ≤ length bytes.now) }
+{
+    let _bytes = bytes;
+    let Some(types) = part(
+        tables.known.flat.as_slice(),
+        tables.results.results,
+        tables.results.result_count,
+    ) else {
+        return None;
+    };
+    let Some(results) = part(
+        tables.known.flat.as_slice(),
+        opens.inner.sig.results,
+        opens.inner.sig.result_count,
+    ) else {
+        return None;
+    };
+    if !stack.take_all(types) {
+        return None;
+    }
+    stack.cut();
+    if !stack.put_all(results) {
+        return None;
+    }
+    Some(at + 1)
+}
+
+/// A call.
+#[inline(always)]
+pub(crate) fn call(
+    tables: &Tables,
+    bytes: &[u8],
+    at: usize,
+    stack: &mut Stack,
+    opens: &Opens,
+) -> Option<usize>
+    requires { Begins bytes.now at 0x10 }
+    ensures leads { IfSome result (λ end. Leads bytes.now tables.now at (all opens.now) stack.old
+        end (all opens.now) stack.new) }
+    ensures forward { IfSome result (λ end. at < end) }
+    ensures inside { IfSome result (λ end. end ≤ length bytes.now) }
+{
+    let _opens = opens;
+    let Some((index, end)) = short_u32_at(bytes, at + 1) else {
+        return None;
+    };
+    let index = index as usize;
+    let functions = tables.known.functions.as_slice();
+    if index >= functions.len() {
+        return None;
+    }
+    let ty = functions[index] as usize;
+    let types = tables.known.types.as_slice();
+    if ty >= types.len() {
+        return None;
+    }
+    let sig = types[ty];
+    let flat = tables.known.flat.as_slice();
+    let Some(params) = part(flat, sig.params, sig.param_count) else {
+        return None;
+    };
+    let Some(results) = part(flat, sig.results, sig.result_count) else {
+        return None;
+    };
+    if !stack.take_all(params) || !stack.put_all(results) {
+        return None;
+    }
+    Some(end)
+}
+
+/// A call through table 0.
+#[inline(always)]
+pub(crate) fn call_indirect(
+    tables: &Tables,
+    bytes: &[u8],
+    at: usize,
+    stack: &mut Stack,
+    opens: &Opens,
+) -> Option<usize>
+    requires { Begins bytes.now at 0x11 }
+    ensures leads { IfSome result (λ end. Leads bytes.now tables.now at (all opens.now) stack.old
+        end (all opens.now) stack.new) }
+    ensures forward { IfSome result (λ end. at < end) }
+    ensures inside { IfSome result (λ end. end ≤ length bytes.now) }
+{
+    let _opens = opens;
+    let Some((index, middle)) = short_u32_at(bytes, at + 1) else {
+        return None;
+    };
+    let Some((_table, end)) = zero_at(bytes, middle) else {
+        return None;
+    };
+    let index = index as usize;
+    let types = tables.known.types.as_slice();
+    if !tables.known.table || index >= types.len() {
+        return None;
+    }
+    let sig = types[index];
+    let flat = tables.known.flat.as_slice();
+    let Some(params) = part(flat, sig.params, sig.param_count) else {
+        return None;
+    };
+    let Some(results) = part(flat, sig.results, sig.result_count) else {
+        return None;
+    };
+    if !stack.take(0) || !stack.take_all(params) || !stack.put_all(results) {
+        return None;
+    }
+    Some(end)
+}

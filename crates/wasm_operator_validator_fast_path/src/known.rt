@@ -1,0 +1,232 @@
+//! The tables of a module, made once for all its bodies.
+
+ghost use Rattle.std.specs.Prelude.{◌≡◌, ◌<◌, ◌≤◌, ◌-◌, ◌++◌, ◌∷◌, ◌↔◌, [], ℕ, List, IsTrue, true, false, length, take, IfSome};
+ghost use Rattle.wasm_types.specs.trees.Types.{ref, abstract, func};
+ghost use Rattle.wasm_types.specs.trees.Below.{Below};
+ghost use Rattle.wasm_operator_validator_state.specs.State.{types_in};
+ghost use Rattle.wasm_operator_validator_state.specs.resources.Meaning.{Meaning, type_in, reference_in};
+ghost use Rattle.wasm_operator_validator_fast_path.specs.Values.{type_of, types};
+ghost use Rattle.wasm_operator_validator_fast_path.specs.Tables.{Knows, HasTypeIn, IsGlobalIn, HasMemory, HasTable};
+ghost use Rattle.wasm_operator_validator_fast_path.specs.Known.{IsMore, IsSigIn, AreSigsIn, AreFunctionsIn, AreGlobalsIn};
+
+use crate::tables::{Held, Known, Sig};
+use std::alloc::Global;
+use wasm_operator_validator_state::WasmModuleResources;
+use wasm_operator_validator_state::blocks::function_at;
+use wasm_types::{AbstractHeapType, HeapType, RefType, ValType};
+
+/// What bodies ask of a module, as far as so many entries of each table tell. None if there is no memory for the least.
+pub fn known_of<R: WasmModuleResources>(alloc: Global, resources: &R, most: u32) -> Option<Known>
+    ensures { IfSome result (Knows (R.meaning resources.now).«module») }
+{
+    let mut flat = Vec::new(alloc);
+    if most < 4 || most >= u32::MAX || !put_numbers(&mut flat) {
+        return None;
+    }
+    let mut types = Vec::new(alloc);
+    sign_all(resources, &mut flat, &mut types, most);
+    Some(Known {
+        flat,
+        types,
+        functions: functions_of(alloc, resources, most),
+        globals: globals_of(alloc, resources, most),
+        memory: has_memory(resources),
+        table: has_table(resources),
+    })
+}
+
+// The codes of the four types of numbers.
+fn put_numbers(flat: &mut Vec<u8>) -> bool
+    requires { flat.old.items ≡ [] }
+    ensures { result ≡ true → flat.new.items ≡ 0 ∷ 1 ∷ 2 ∷ 3 ∷ [] }
+{
+    let Ok(()) = flat.push(0) else {
+        return false;
+    };
+    let Ok(()) = flat.push(1) else {
+        return false;
+    };
+    let Ok(()) = flat.push(2) else {
+        return false;
+    };
+    let Ok(()) = flat.push(3) else {
+        return false;
+    };
+    true
+}
+
+// The code of a type of numbers, or one past them.
+fn code_of(ty: &ValType) -> u8
+    ensures { result < 4 → (m : Meaning) → type_in m ty.now ≡ type_of result }
+{
+    match ty {
+        ValType::I32 => 0,
+        ValType::I64 => 1,
+        ValType::F32 => 2,
+        ValType::F64 => 3,
+        ValType::V128 => 4,
+        ValType::Ref(_) => 4,
+    }
+}
+
+// Puts the codes of types behind the others, if all are those of numbers.
+fn put_codes(flat: &mut Vec<u8>, written: &[ValType]) -> bool
+    ensures codes { result ≡ true → (cs : List ℕ) × (flat.new.items ≡ flat.old.items ++ cs)
+        × ((m : Meaning) → types_in m written.now ≡ types cs) }
+    ensures more { IsMore flat.old.items flat.new.items (length written.now) }
+{
+    for ty in written {
+        let code = code_of(ty);
+        if code >= 4 {
+            return false;
+        }
+        let Ok(()) = flat.push(code) else {
+            return false;
+        };
+    }
+    true
+}
+
+// A signature that is not for use.
+fn unusable() -> Sig
+    ensures { result.param_count ≡ 0xffffffff }
+{
+    Sig {
+        params: 0,
+        param_count: 0xffffffff,
+        results: 0,
+        result_count: 0,
+    }
+}
+
+// The signature of the type at an index, with its types behind the other codes, if all are numbers and there is room for them.
+fn sig_of<R: WasmModuleResources>(resources: &R, at: u32, flat: &mut Vec<u8>, most: u32) -> Sig
+    requires { length flat.old.items ≤ most }
+    ensures sig { IsSigIn (R.meaning resources.now).«module» flat.new.items at result }
+    ensures more { IsMore flat.old.items flat.new.items (most - length flat.old.items) }
+{
+    let Some(function) = function_at(resources, at) else {
+        return unusable();
+    };
+    let room = most as usize - flat.as_slice().len();
+    let params = function.params();
+    let results = function.results();
+    if params.len() > room || results.len() > room - params.len() {
+        return unusable();
+    }
+    let from = flat.as_slice().len();
+    if !put_codes(flat, params) {
+        return unusable();
+    }
+    let middle = flat.as_slice().len();
+    if !put_codes(flat, results) {
+        return unusable();
+    }
+    Sig {
+        params: from as u32,
+        param_count: params.len() as u32,
+        results: middle as u32,
+        result_count: results.len() as u32,
+    }
+}
+
+// The signatures of types, in order, as far as there is memory.
+fn sign_all<R: WasmModuleResources>(
+    resources: &R,
+    flat: &mut Vec<u8>,
+    types: &mut Vec<Sig>,
+    most: u32,
+)
+    requires numbers { flat.old.items ≡ 0 ∷ 1 ∷ 2 ∷ 3 ∷ [] }
+    requires none { types.old.items ≡ [] }
+    requires least { 4 ≤ most }
+    ensures types { AreSigsIn (R.meaning resources.now).«module» flat.new.items types.new.items }
+    ensures numbers { take 4 flat.new.items ≡ 0 ∷ 1 ∷ 2 ∷ 3 ∷ [] }
+    ensures within { length flat.new.items ≤ most }
+{
+    for at in 0..most {
+        if resources.sub_type_at(at).is_none() {
+            return;
+        }
+        let sig = sig_of(resources, at, flat, most);
+        let Ok(()) = types.push(sig) else {
+            return;
+        };
+    }
+}
+
+// Functions by the indices of their types, as far as there is memory.
+fn functions_of<R: WasmModuleResources>(alloc: Global, resources: &R, most: u32) -> Vec<u32>
+    ensures { AreFunctionsIn (R.meaning resources.now).«module» result.items }
+{
+    let mut functions = Vec::new(alloc);
+    for at in 0..most {
+        let Some(ty) = resources.type_index_of_function(at) else {
+            return functions;
+        };
+        let Ok(()) = functions.push(ty) else {
+            return functions;
+        };
+    }
+    functions
+}
+
+// Globals, as far as there is memory.
+fn globals_of<R: WasmModuleResources>(alloc: Global, resources: &R, most: u32) -> Vec<Held>
+    ensures { AreGlobalsIn (R.meaning resources.now).«module» result.items }
+{
+    let mut globals = Vec::new(alloc);
+    for at in 0..most {
+        let Some(global) = resources.global_at(at) else {
+            return globals;
+        };
+        let held = Held {
+            ty: code_of(&global.content_type),
+            mutable: global.mutable,
+        };
+        let Ok(()) = globals.push(held) else {
+            return globals;
+        };
+    }
+    globals
+}
+
+// Whether memory 0 is one of 32 bits.
+fn has_memory<R: WasmModuleResources>(resources: &R) -> bool
+    ensures { result ≡ true → HasMemory (R.meaning resources.now).«module» }
+{
+    let Some(memory) = resources.memory_at(0) else {
+        return false;
+    };
+    if memory.memory64 {
+        return false;
+    }
+    true
+}
+
+// Whether table 0 is one of functions and of 32 bits.
+fn has_table<R: WasmModuleResources>(resources: &R) -> bool
+    ensures { result ≡ true → HasTable (R.meaning resources.now).«module» }
+{
+    let Some(table) = resources.table_at(0) else {
+        return false;
+    };
+    if table.table64 || !is_of_functions(resources, table.element_type) {
+        return false;
+    }
+    true
+}
+
+// Whether references of a type are references to functions.
+fn is_of_functions<R: WasmModuleResources>(resources: &R, element: RefType) -> bool
+    ensures { IsTrue result ↔ Below (reference_in (R.meaning resources.now) element) (ref true (abstract false func)) }
+{
+    let functions = HeapType::Abstract {
+        shared: false,
+        ty: AbstractHeapType::Func,
+    };
+    match RefType::new(true, functions) {
+        Some(functions) => resources.is_subtype(ValType::Ref(element), ValType::Ref(functions)),
+        None => unreachable!(),
+    }
+}

@@ -1,0 +1,209 @@
+//! Memory 0.
+
+ghost use Rattle.std.specs.Prelude.{◌≡◌, ◌<◌, ◌≤◌, ◌∷◌, ℕ, List, length, [], IfSome};
+ghost use Rattle.wasm_operators_frequent.specs.Short.{Begins, BeginsPrefixed};
+ghost use Rattle.wasm_operator_validator_fast_path.specs.Loop.{Leads, all};
+ghost use Rattle.wasm_operator_validator_rules.specs.Accesses.{load as load_of, store as store_of};
+ghost use Rattle.wasm_operator_validator_fast_path.specs.Shapes.{IsAccessAt};
+
+use crate::stack::Stack;
+use crate::tables::{Opens, Tables};
+use wasm_operators_frequent::{access_at, zero_at};
+use wasm_types_decoding::short_u32_at;
+
+/// A load.
+#[inline(always)]
+pub(crate) fn load(
+    code: u8,
+    natural: u8,
+    gives: u8,
+    tables: &Tables,
+    bytes: &[u8],
+    at: usize,
+    stack: &mut Stack,
+    opens: &Opens,
+) -> Option<usize>
+    requires begins { Begins bytes.now at code }
+    requires access { IsAccessAt load_of code natural gives }
+    ensures leads { IfSome result (λ end. Leads bytes.now tables.now at (all opens.now) stack.old
+        end (all opens.now) stack.new) }
+    ensures forward { IfSome result (λ end. at < end) }
+    ensures inside { IfSome result (λ end. end ≤ length bytes.now) }
+{
+    let _opens = opens;
+    let _code = code;
+    if !tables.known.memory {
+        return None;
+    }
+    let Some((access, end)) = access_at(bytes, at + 1, tables.features) else {
+        return None;
+    };
+    if access.0 > natural || access.1 >= 0x1_0000_0000 {
+        return None;
+    }
+    if !stack.change(0, gives) {
+        return None;
+    }
+    Some(end)
+}
+
+/// A store.
+#[inline(always)]
+pub(crate) fn store(
+    code: u8,
+    natural: u8,
+    takes: u8,
+    tables: &Tables,
+    bytes: &[u8],
+    at: usize,
+    stack: &mut Stack,
+    opens: &Opens,
+) -> Option<usize>
+    requires begins { Begins bytes.now at code }
+    requires access { IsAccessAt store_of code natural takes }
+    ensures leads { IfSome result (λ end. Leads bytes.now tables.now at (all opens.now) stack.old
+        end (all opens.now) stack.new) }
+    ensures forward { IfSome result (λ end. at < end) }
+    ensures inside { IfSome result (λ end. end ≤ length bytes.now) }
+{
+    let _opens = opens;
+    let _code = code;
+    if !tables.known.memory {
+        return None;
+    }
+    let Some((access, end)) = access_at(bytes, at + 1, tables.features) else {
+        return None;
+    };
+    if access.0 > natural || access.1 >= 0x1_0000_0000 {
+        return None;
+    }
+    if !stack.take(takes) || !stack.take(0) {
+        return None;
+    }
+    Some(end)
+}
+
+/// How large it is.
+#[inline(always)]
+pub(crate) fn memory_size(
+    tables: &Tables,
+    bytes: &[u8],
+    at: usize,
+    stack: &mut Stack,
+    opens: &Opens,
+) -> Option<usize>
+    requires { Begins bytes.now at 0x3f }
+    ensures leads { IfSome result (λ end. Leads bytes.now tables.now at (all opens.now) stack.old
+        end (all opens.now) stack.new) }
+    ensures forward { IfSome result (λ end. at < end) }
+    ensures inside { IfSome result (λ end. end ≤ length bytes.now) }
+{
+    let _opens = opens;
+    if !tables.known.memory {
+        return None;
+    }
+    let Some((_memory, end)) = zero_at(bytes, at + 1) else {
+        return None;
+    };
+    if !stack.put(0) {
+        return None;
+    }
+    Some(end)
+}
+
+/// It grows.
+#[inline(always)]
+pub(crate) fn memory_grow(
+    tables: &Tables,
+    bytes: &[u8],
+    at: usize,
+    stack: &mut Stack,
+    opens: &Opens,
+) -> Option<usize>
+    requires { Begins bytes.now at 0x40 }
+    ensures leads { IfSome result (λ end. Leads bytes.now tables.now at (all opens.now) stack.old
+        end (all opens.now) stack.new) }
+    ensures forward { IfSome result (λ end. at < end) }
+    ensures inside { IfSome result (λ end. end ≤ length bytes.now) }
+{
+    let _opens = opens;
+    if !tables.known.memory {
+        return None;
+    }
+    let Some((_memory, end)) = zero_at(bytes, at + 1) else {
+        return None;
+    };
+    if !stack.has(0) {
+        return None;
+    }
+    Some(end)
+}
+
+/// A part of it is copied.
+#[inline(always)]
+pub(crate) fn memory_copy(
+    middle: usize,
+    tables: &Tables,
+    bytes: &[u8],
+    at: usize,
+    stack: &mut Stack,
+    opens: &Opens,
+) -> Option<usize>
+    requires { BeginsPrefixed bytes.now at 0xfc 0x0a middle }
+    ensures leads { IfSome result (λ end. Leads bytes.now tables.now at (all opens.now) stack.old
+        end (all opens.now) stack.new) }
+    ensures forward { IfSome result (λ end. at < end) }
+    ensures inside { IfSome result (λ end. end ≤ length bytes.now) }
+{
+    let _opens = opens;
+    let _at = at;
+    if !tables.known.memory {
+        return None;
+    }
+    let Some((to, next)) = short_u32_at(bytes, middle) else {
+        return None;
+    };
+    let Some((from, end)) = short_u32_at(bytes, next) else {
+        return None;
+    };
+    if to != 0 || from != 0 {
+        return None;
+    }
+    if !stack.take(0) || !stack.take(0) || !stack.take(0) {
+        return None;
+    }
+    Some(end)
+}
+
+/// A part of it is filled.
+#[inline(always)]
+pub(crate) fn memory_fill(
+    middle: usize,
+    tables: &Tables,
+    bytes: &[u8],
+    at: usize,
+    stack: &mut Stack,
+    opens: &Opens,
+) -> Option<usize>
+    requires { BeginsPrefixed bytes.now at 0xfc 0x0b middle }
+    ensures leads { IfSome result (λ end. Leads bytes.now tables.now at (all opens.now) stack.old
+        end (all opens.now) stack.new) }
+    ensures forward { IfSome result (λ end. at < end) }
+    ensures inside { IfSome result (λ end. end ≤ length bytes.now) }
+{
+    let _opens = opens;
+    let _at = at;
+    if !tables.known.memory {
+        return None;
+    }
+    let Some((memory, end)) = short_u32_at(bytes, middle) else {
+        return None;
+    };
+    if memory != 0 {
+        return None;
+    }
+    if !stack.take(0) || !stack.take(0) || !stack.take(0) {
+        return None;
+    }
+    Some(end)
+}

@@ -1,0 +1,99 @@
+//! Operators on numbers.
+
+ghost use Rattle.std.specs.Prelude.{◌≡◌, ◌<◌, ◌≤◌, ◌∷◌, ℕ, List, length, [], IfSome};
+ghost use Rattle.wasm_operators_frequent.specs.Short.{Begins, BeginsPrefixed};
+ghost use Rattle.wasm_operator_validator_fast_path.specs.Loop.{Leads, all};
+ghost use Rattle.std.specs.Prelude.{None, Some};
+ghost use Rattle.wasm_operator_validator_fast_path.specs.Shapes.{IsNumberAt};
+
+use crate::stack::Stack;
+use crate::tables::{Opens, Tables};
+
+/// One that makes a number of one.
+#[inline(always)]
+pub(crate) fn change(
+    code: u8,
+    takes: u8,
+    gives: u8,
+    tables: &Tables,
+    bytes: &[u8],
+    at: usize,
+    stack: &mut Stack,
+    opens: &Opens,
+) -> Option<usize>
+    requires begins { Begins bytes.now at code }
+    requires number { IsNumberAt None code (takes ∷ []) (gives ∷ []) }
+    ensures leads { IfSome result (λ end. Leads bytes.now tables.now at (all opens.now) stack.old
+        end (all opens.now) stack.new) }
+    ensures forward { IfSome result (λ end. at < end) }
+    ensures inside { IfSome result (λ end. end ≤ length bytes.now) }
+{
+    let _opens = opens;
+    let _tables = tables;
+    let _bytes = bytes;
+    let _code = code;
+    if !stack.change(takes, gives) {
+        return None;
+    }
+    Some(at + 1)
+}
+
+/// One that makes a number of two of one type.
+#[inline(always)]
+pub(crate) fn combine(
+    code: u8,
+    takes: u8,
+    gives: u8,
+    tables: &Tables,
+    bytes: &[u8],
+    at: usize,
+    stack: &mut Stack,
+    opens: &Opens,
+) -> Option<usize>
+    requires begins { Begins bytes.now at code }
+    requires number { IsNumberAt None code (takes ∷ takes ∷ []) (gives ∷ []) }
+    ensures leads { IfSome result (λ end. Leads bytes.now tables.now at (all opens.now) stack.old
+        end (all opens.now) stack.new) }
+    ensures forward { IfSome result (λ end. at < end) }
+    ensures inside { IfSome result (λ end. end ≤ length bytes.now) }
+{
+    let _opens = opens;
+    let _tables = tables;
+    let _bytes = bytes;
+    let _code = code;
+    if !stack.combine(takes, gives) {
+        return None;
+    }
+    Some(at + 1)
+}
+
+/// One behind the prefix `fc` that makes a number of one.
+#[inline(always)]
+pub(crate) fn change_prefixed(
+    code: u32,
+    end: usize,
+    takes: u8,
+    gives: u8,
+    tables: &Tables,
+    bytes: &[u8],
+    at: usize,
+    stack: &mut Stack,
+    opens: &Opens,
+) -> Option<usize>
+    requires begins { BeginsPrefixed bytes.now at 0xfc code end }
+    requires number { IsNumberAt (Some 0xfc) code (takes ∷ []) (gives ∷ []) }
+    ensures leads { IfSome result (λ end. Leads bytes.now tables.now at (all opens.now) stack.old
+        end (all opens.now) stack.new) }
+    ensures forward { IfSome result (λ end. at < end) }
+    ensures inside { IfSome result (λ end. end ≤ length bytes.now) }
+{
+    let _opens = opens;
+    let _tables = tables;
+    let _bytes = bytes;
+    let _at = at;
+    let _code = code;
+    if !stack.change(takes, gives) {
+        return None;
+    }
+    Some(end)
+}

@@ -1,0 +1,152 @@
+//! Locals and globals.
+
+ghost use Rattle.std.specs.Prelude.{◌≡◌, ◌<◌, ◌≤◌, ◌∷◌, ℕ, List, length, [], IfSome};
+ghost use Rattle.wasm_operators_frequent.specs.Short.{Begins};
+ghost use Rattle.wasm_operator_validator_fast_path.specs.Loop.{Leads, all};
+
+use crate::stack::Stack;
+use crate::tables::{Opens, Tables};
+use wasm_types_decoding::short_u32_at;
+
+/// The value of a local.
+#[inline(always)]
+pub(crate) fn local_get(
+    tables: &Tables,
+    bytes: &[u8],
+    at: usize,
+    stack: &mut Stack,
+    opens: &Opens,
+) -> Option<usize>
+    requires { Begins bytes.now at 0x20 }
+    ensures leads { IfSome result (λ end. Leads bytes.now tables.now at (all opens.now) stack.old
+        end (all opens.now) stack.new) }
+    ensures forward { IfSome result (λ end. at < end) }
+    ensures inside { IfSome result (λ end. end ≤ length bytes.now) }
+{
+    let _opens = opens;
+    let Some((index, end)) = short_u32_at(bytes, at + 1) else {
+        return None;
+    };
+    let index = index as usize;
+    let locals = tables.locals.as_slice();
+    if index >= locals.len() || !stack.put(locals[index]) {
+        return None;
+    }
+    Some(end)
+}
+
+/// A local takes a value.
+#[inline(always)]
+pub(crate) fn local_set(
+    tables: &Tables,
+    bytes: &[u8],
+    at: usize,
+    stack: &mut Stack,
+    opens: &Opens,
+) -> Option<usize>
+    requires { Begins bytes.now at 0x21 }
+    ensures leads { IfSome result (λ end. Leads bytes.now tables.now at (all opens.now) stack.old
+        end (all opens.now) stack.new) }
+    ensures forward { IfSome result (λ end. at < end) }
+    ensures inside { IfSome result (λ end. end ≤ length bytes.now) }
+{
+    let _opens = opens;
+    let Some((index, end)) = short_u32_at(bytes, at + 1) else {
+        return None;
+    };
+    let index = index as usize;
+    let locals = tables.locals.as_slice();
+    if index >= locals.len() || !stack.take(locals[index]) {
+        return None;
+    }
+    Some(end)
+}
+
+/// A local takes a value, which stays.
+#[inline(always)]
+pub(crate) fn local_tee(
+    tables: &Tables,
+    bytes: &[u8],
+    at: usize,
+    stack: &mut Stack,
+    opens: &Opens,
+) -> Option<usize>
+    requires { Begins bytes.now at 0x22 }
+    ensures leads { IfSome result (λ end. Leads bytes.now tables.now at (all opens.now) stack.old
+        end (all opens.now) stack.new) }
+    ensures forward { IfSome result (λ end. at < end) }
+    ensures inside { IfSome result (λ end. end ≤ length bytes.now) }
+{
+    let _opens = opens;
+    let Some((index, end)) = short_u32_at(bytes, at + 1) else {
+        return None;
+    };
+    let index = index as usize;
+    let locals = tables.locals.as_slice();
+    if index >= locals.len() || !stack.has(locals[index]) {
+        return None;
+    }
+    Some(end)
+}
+
+/// The value of a global.
+#[inline(always)]
+pub(crate) fn global_get(
+    tables: &Tables,
+    bytes: &[u8],
+    at: usize,
+    stack: &mut Stack,
+    opens: &Opens,
+) -> Option<usize>
+    requires { Begins bytes.now at 0x23 }
+    ensures leads { IfSome result (λ end. Leads bytes.now tables.now at (all opens.now) stack.old
+        end (all opens.now) stack.new) }
+    ensures forward { IfSome result (λ end. at < end) }
+    ensures inside { IfSome result (λ end. end ≤ length bytes.now) }
+{
+    let _opens = opens;
+    let Some((index, end)) = short_u32_at(bytes, at + 1) else {
+        return None;
+    };
+    let index = index as usize;
+    let globals = tables.known.globals.as_slice();
+    if index >= globals.len() {
+        return None;
+    }
+    let held = globals[index];
+    if held.ty >= 4 || !stack.put(held.ty) {
+        return None;
+    }
+    Some(end)
+}
+
+/// A global takes a value.
+#[inline(always)]
+pub(crate) fn global_set(
+    tables: &Tables,
+    bytes: &[u8],
+    at: usize,
+    stack: &mut Stack,
+    opens: &Opens,
+) -> Option<usize>
+    requires { Begins bytes.now at 0x24 }
+    ensures leads { IfSome result (λ end. Leads bytes.now tables.now at (all opens.now) stack.old
+        end (all opens.now) stack.new) }
+    ensures forward { IfSome result (λ end. at < end) }
+    ensures inside { IfSome result (λ end. end ≤ length bytes.now) }
+{
+    let _opens = opens;
+    let Some((index, end)) = short_u32_at(bytes, at + 1) else {
+        return None;
+    };
+    let index = index as usize;
+    let globals = tables.known.globals.as_slice();
+    if index >= globals.len() {
+        return None;
+    }
+    let held = globals[index];
+    if held.ty >= 4 || !held.mutable || !stack.take(held.ty) {
+        return None;
+    }
+    Some(end)
+}

@@ -1,2 +1,0 @@
--- The parameters of a function as its locals.
-pub mod Params

@@ -1,2 +1,0 @@
--- Definitions: where the body of a function begins.
-pub mod Functions

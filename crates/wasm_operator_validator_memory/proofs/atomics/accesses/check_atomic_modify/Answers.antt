@@ -1,0 +1,26 @@
+use Rattle.std.proofs.Common.{[], ◌∷◌, false}
+use Rattle.wasm_operators_immediates.specs.declared.proposal.Proposal.TheVariants.{Threads}
+use Rattle.wasm_operators_enums.specs.Op as op
+use Rattle.wasm_operator_validator_rules.specs.Accesses.{modify}
+use Rattle.wasm_operator_validator_state.specs.Refusals.{refused}
+use Rattle.wasm_operator_validator_stacks.specs.determined.laws.Determined.{not_begun, refused_here, undetermined, determined}
+use Rattle.wasm_operator_validator_memory.proofs.Atomic.{in_table, modify_type, no_access}
+use Rattle.wasm_operator_validator_memory.proofs.atomics.accesses.check_atomic_modify.Goals as goal
+
+pub returns-in-Err : goal.returns-in-Err
+returns-in-Err g c =
+    let m = g.R.WasmModuleResources.meaning c.args.resources.now in
+    not_begun c.in-Err.refusal m c.args.validator.now (op.Atomic c.args.op) Threads false (in_table c.args.op).is c.in-Err.ensures.begins c.in-Err.ensures.stops
+
+pub returns-in-Err-reach_atomic : goal.returns-in-Err-reach_atomic
+returns-in-Err-reach_atomic g c =
+    let m = g.R.WasmModuleResources.meaning c.args.resources.now in
+    refused_here _ m c.args.validator.now (op.Atomic c.args.op) Threads false c.in-Ok.ensures.begins
+    (undetermined m c.args.validator.now (op.Atomic c.args.op) Threads false (in_table c.args.op) c.in-Ok.ensures.begins (no_access m c.args.validator.now modify c.args.op c.args.memarg.now c.args.ty.now c.requires c.in-Err-reach_atomic.ensures))
+
+pub returns : goal.returns
+returns g c =
+    let m = g.R.WasmModuleResources.meaning c.args.resources.now in
+    determined (refused c.exchange.result) m c.args.validator.now c.exchange.new.self (op.Atomic c.args.op) Threads false (c.in-Ok-reach_atomic.address ∷ c.args.ty.now ∷ []) (c.args.ty.now ∷ []) (in_table c.args.op) c.in-Ok.ensures.begins
+    (modify_type m c.args.validator.now c.args.op c.args.memarg.now c.args.ty.now c.in-Ok-reach_atomic.address c.in-Ok-reach_atomic.ensures c.requires) c.exchange.ensures.does
+    (record { given = c.exchange.ensures.given; failed = c.exchange.ensures.failed; saved = c.exchange.ensures.saved })

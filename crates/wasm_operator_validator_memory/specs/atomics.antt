@@ -1,0 +1,2 @@
+-- Definitions: which types a check names for an atomic access.
+pub mod Atomics

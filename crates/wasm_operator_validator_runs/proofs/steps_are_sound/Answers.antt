@@ -1,8 +1,0 @@
-use Rattle.wasm_operator_validator_runs.proofs.Steps.{starts_valid, steps_sound}
-use Rattle.wasm_operator_validator_runs.proofs.steps_are_sound.Goals as goal
-
-pub returns-clause-steps : goal.returns-clause-steps
-returns-clause-steps c = steps_sound
-
-pub returns-clause-starts : goal.returns-clause-starts
-returns-clause-starts c = starts_valid

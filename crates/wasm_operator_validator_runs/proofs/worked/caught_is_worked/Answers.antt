@@ -1,5 +1,0 @@
-use Rattle.wasm_operator_validator_runs.proofs.WorkedCaught.{caught_worked}
-use Rattle.wasm_operator_validator_runs.proofs.worked.caught_is_worked.Goals as goal
-
-pub returns : goal.returns
-returns c = caught_worked

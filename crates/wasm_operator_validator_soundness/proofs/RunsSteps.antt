@@ -1,0 +1,201 @@
+-- Each step from a state of the invariant asks no more than holds there, and leads to such a state again; so no run is stuck.
+use Rattle.std.proofs.Common.{◌≡◌, List, [], ◌∷◌, ◌++◌, reverse, suc, Option, Some, sym, subst, ◌∙◌}
+use Rattle.wasm_types.specs.trees.Below.{expanded}
+use Rattle.wasm_operators_immediates.specs.declared.frames.FrameKind.{FrameKind}
+use Rattle.wasm_operators_immediates.specs.declared.frames.FrameKind.TheVariants as frames
+use Rattle.wasm_operators_enums.specs.Op as op
+use Rattle.wasm_operators_enums.specs.Op.{Op, ParametricTree, ExceptionTree, ContinuationTree}
+use Rattle.wasm_operators_encoding.specs.expressions.Code.{Code, close, plain, nested, turn, IsIn}
+use Rattle.wasm_operator_validator_rules.specs.Operands.{ValueType, Operand, AllBelow, stack}
+use Rattle.wasm_operator_validator_rules.specs.Context.{Context, Initialised, Frame, initialised_at_first}
+use Rattle.wasm_operator_validator_rules.specs.Row.{GroupRow, after, IsEnabled}
+use Rattle.wasm_operator_validator_rules.specs.Typed.{Typed}
+use Rattle.wasm_operator_validator_soundness.specs.runs.Values.{Body, Function, Program, Value, AllFit}
+use Rattle.wasm_operator_validator_soundness.specs.runs.States.{Activation, State, Answer}
+use Rattle.wasm_operator_validator_soundness.specs.runs.States.{Outcome, next, returned, trapped, thrown, stuck, Move}
+use Rattle.wasm_operator_validator_soundness.specs.runs.Machine.{label_at, here}
+use Rattle.wasm_operator_validator_soundness.specs.runs.Machine.{operate, end, execute}
+use Rattle.wasm_operator_validator_soundness.specs.runs.Soundness.{HasValidBody, IsValidProgram, step, Runs, EndsWell, IsNeverStuck, ProgramsAreSound, StepsAreSound, StartsAreValid, evaluated, ConstantsAreValid, ConstantsAreSound, AncestorsAreSound}
+use Rattle.wasm_operator_validator_soundness.proofs.RunsFitting.{all_below}
+use Rattle.wasm_operator_validator_soundness.specs.runs.ValidStates.{AreSet, Around, around_of}
+use Rattle.wasm_operator_validator_soundness.proofs.RunsInvariant.{some_same}
+use Rattle.wasm_operator_validator_soundness.specs.runs.ValidStates.{IsValidState, IsValidOutcome}
+use Rattle.wasm_operator_validator_soundness.proofs.RunsInvariant.{IsOkay}
+use Rattle.wasm_operator_validator_soundness.proofs.Objects.{field_through, matches_along}
+use Rattle.wasm_operator_validator_soundness.proofs.Combining.{asks_okay, found_okay}
+use Rattle.wasm_operator_validator_soundness.proofs.RunsLeaving.{initially_set, come_out_okay, begun_awaits, standard_links}
+use Rattle.wasm_operator_validator_soundness.proofs.Values.{calls_through, no_descriptors, no_sharing, no_switching, results_below}
+use Rattle.wasm_operator_validator_soundness.proofs.Standing.{table_okay, Here}
+use Rattle.wasm_operator_validator_soundness.proofs.Calling.{control_okay}
+use Rattle.wasm_operator_validator_soundness.proofs.Operating.{bulk_okay, memory_okay, parametric_okay}
+use Rattle.wasm_operator_validator_soundness.proofs.Throwing.{exception_okay}
+use Rattle.wasm_operator_validator_soundness.proofs.Making.{gc_okay}
+use Rattle.wasm_operator_validator_soundness.proofs.Entering.{enter_okay}
+
+module _ (p : Program) (valid : IsValidProgram p) (final : List ValueType) (a : Answer) (act : Activation) (acts : List Activation) (h : Here p final act acts) where
+  abbrev w : Around
+  w = around_of act
+
+  abbrev g : Context
+  g = here p a act acts
+
+  abbrev f : Frame
+  f = record { kind = h.kind; block = act.innermost.block; before = h.before }
+
+  abbrev vs : List Value
+  vs = act.innermost.values
+
+  abbrev kind : FrameKind
+  kind = h.kind
+
+  abbrev before : Initialised
+  before = h.before
+
+  abbrev set : Initialised
+  set = h.set
+
+  abbrev are_set : AreSet h.set act.locals
+  are_set = h.are_set
+
+  abbrev s : List Operand
+  s = h.operands
+
+  abbrev fit : AllFit p act.innermost.values h.operands
+  fit = h.fit
+
+  abbrev Okay : Move → Type 0
+  Okay m = IsOkay p final m
+
+  -- the instructions to come are typed, and stand where they may
+  abbrev Goes : Initialised → Code → List Operand → Type 0
+  Goes init more m = IsIn h.kind more × Typed g f init more m
+
+  -- ---- all operators
+
+  pub operate_okay : (o : Op) (more : Code) (popped pushed rest m : List Operand) → IsEnabled p.bits o → GroupRow g set o popped pushed
+      → AllBelow s (reverse popped ++ rest) → m ≡ reverse pushed ++ rest → Goes (after o set) more m → Okay (operate p a act acts o more)
+  operate_okay (op.Control o) more popped pushed rest m n r b e t = control_okay p valid final a act acts h o more popped pushed rest m r b e t
+  operate_okay (op.Parametric o) more popped pushed rest m n r b e t = parametric_okay p valid final a act acts h o more popped pushed rest m r b e t
+  operate_okay (op.Exception o) more popped pushed rest m n r b e t = exception_okay p valid final a act acts h o more popped pushed rest m r b e t
+  operate_okay (op.Memory o) more popped pushed rest m n r b e t = memory_okay p valid final a act acts h o more popped pushed rest m r b e t
+  operate_okay (op.Bulk o) more popped pushed rest m n r b e t = bulk_okay p valid final a act acts h o more popped pushed rest m r b e t
+  operate_okay (op.Gc o) more popped pushed rest m n r b e t = gc_okay p valid final a act acts h o more popped pushed rest m r b e t
+  operate_okay (op.Const o) more popped pushed rest m n r b e t = table_okay p valid final a act acts h (op.Const o) more popped pushed rest m r b e t
+  operate_okay (op.Numeric o) more popped pushed rest m n r b e t = table_okay p valid final a act acts h (op.Numeric o) more popped pushed rest m r b e t
+  operate_okay (op.Simd o) more popped pushed rest m n r b e t = table_okay p valid final a act acts h (op.Simd o) more popped pushed rest m r b e t
+  operate_okay (op.SimdNumeric o) more popped pushed rest m n r b e t = table_okay p valid final a act acts h (op.SimdNumeric o) more popped pushed rest m r b e t
+  operate_okay (op.Atomic o) more popped pushed rest m n r b e t = table_okay p valid final a act acts h (op.Atomic o) more popped pushed rest m r b e t
+  operate_okay (op.Descriptor o) more popped pushed rest m n r b e t = absurd (no_descriptors p.bits valid.standard o n)
+  operate_okay (op.Shared o) more popped pushed rest m n r b e t = absurd (no_sharing p.bits valid.standard o n)
+  operate_okay (op.Continuation o) more popped pushed rest m n r b e t = absurd (no_switching p.bits valid.standard o n)
+
+  -- ---- all instructions
+
+  pub end_okay : AllBelow s (stack act.innermost.block.results) → Okay (end p a act acts)
+  end_okay b =
+      let y = all_below p vs s (stack act.innermost.block.results) fit b in
+      asks_okay p final (AllFit p vs (stack act.innermost.block.results)) _ y
+      (come_out_okay p final a act acts h.locals h.results h.below act.around vs (stack act.innermost.block.results) y h.around)
+
+  pub execute_okay : (c : Code) → IsIn kind c → Typed g f set c s → Okay (execute p a act acts c)
+  execute_okay (close (op.Exception (op.Delegate n))) i t = found_okay p final (label_at p a act acts (suc n)) t.2.1 _ t.2.2 (end_okay t.0)
+  execute_okay (close o) i t = end_okay t.0
+  execute_okay (plain o more) i t = operate_okay o more t.1.0 t.1.1 t.1.2 t.0 t.1.3.0 t.1.3.1 t.1.4 t.1.5 (i.1, t.2)
+  execute_okay (nested o body more) i t = enter_okay p valid final a act acts h o body more i t
+  execute_okay (turn o more) i t = end_okay t.2
+
+-- ---- a step, and a run
+
+pub step_okay : (p : Program) (final : List ValueType) (s : State) (a : Answer) → IsValidProgram p → IsValidState p final s → IsOkay p final (step p s a)
+step_okay p final [] a v w = absurd w
+step_okay p final (act ∷ acts) a v w =
+    let l = w.0.labels.0 in
+    execute_okay p v final a act acts
+    (record {
+      locals = w.0.locals;
+      results = w.0.results;
+      loops = l.loops;
+      handlers = l.handlers;
+      caught = l.caught;
+      around = w.0.labels.1;
+      below = w.1;
+      kind = l.kind;
+      before = l.before;
+      set = l.set;
+      are_set = l.are_set;
+      operands = l.operands;
+      fit = l.fit;
+    }) act.innermost.code l.inside l.typed
+
+pub runs_stay_valid : (p : Program) (final : List ValueType) (s : State) (answers : List Answer) (t : State) → IsValidProgram p → IsValidState p final s → Runs p s answers t → IsValidState p final t
+runs_stay_valid p final s [] t v w r = subst (λ (u : State). IsValidState p final u) r w
+runs_stay_valid p final s (a ∷ answers) t v w r =
+    runs_stay_valid p final r.0 answers t v (subst (λ (o : Outcome). IsValidOutcome p final o) r.2 ((step_okay p final s a v w).okay r.1).1) r.3
+
+-- a function that is started is in the invariant
+pub starts_valid : StartsAreValid
+starts_valid p s results v i =
+    let o = v.own i.index i.function i.named in
+    let r = v.functions i.index o.0 o.1 in
+    let e : r.0 ≡ i.function = some_same r.0 i.function (sym r.1 ∙ i.named) in
+    let body : HasValidBody p (i.function).type (Some i.body) = subst (λ (q : Option Body). HasValidBody p (i.function).type q) i.has_body (subst (λ (q : Function). HasValidBody p q.type q.body) e (r.2).body) in
+    subst (λ (ts : List ValueType). IsValidState p ts s) (sym i.gives)
+    (subst (λ (u : State). IsValidState p (i.signature).results u) (sym i.starts)
+    (begun_awaits p (i.function).type i.signature i.body i.arguments (i.signature).results body i.typed i.fit (λ us x. x), (λ us x. x)))
+
+valid_ends_well : (p : Program) (results : List ValueType) (o : Outcome) → IsValidOutcome p results o → EndsWell p results o
+valid_ends_well p results (next s) i = tt
+valid_ends_well p results (returned us) i = i
+valid_ends_well p results trapped i = tt
+valid_ends_well p results (thrown t us) i = i
+valid_ends_well p results stuck i = i
+
+run_sound : (p : Program) (results : List ValueType) (s : State) → IsValidProgram p → IsValidState p results s → IsNeverStuck p results s
+run_sound p results s v i answers t a r given =
+    let k = (step_okay p results t a v (runs_stay_valid p results s answers t v i r)).okay given in
+    (k.0, valid_ends_well p results (step p t a).outcome k.1)
+
+pub programs_sound : ProgramsAreSound
+programs_sound p s results v i = run_sound p results s v (starts_valid p s results v i)
+
+pub steps_sound : StepsAreSound
+steps_sound p results s a v i given = (step_okay p results s a v i).okay given
+
+-- ---- constants
+
+pub constants_valid : ConstantsAreValid
+constants_valid p u c v b = (
+  record {
+    locals = tt;
+    results = λ us x. x;
+    labels = (
+      record {
+        kind = frames.Block;
+        inside = b.expression;
+        before = initialised_at_first 0 [];
+        set = initialised_at_first 0 [];
+        are_set = initially_set p [] [] [] tt;
+        operands = [];
+        fit = tt;
+        typed = b.typed;
+        loops = tt;
+        handlers = tt;
+        caught = tt;
+      },
+      λ us x. x,
+    );
+  },
+  λ us x. x,
+)
+
+pub constants_sound : ConstantsAreSound
+constants_sound p u c v b = run_sound p (u ∷ []) (evaluated u c) v (constants_valid p u c v b)
+
+-- ---- ancestors
+
+pub ancestors_sound : AncestorsAreSound
+ancestors_sound t u i d = (
+  (tt, d),
+  λ b e. let k = calls_through t u b (standard_links t i) d e in (k.own, k.is, results_below b.params (k.own).params k.params, results_below (k.own).results b.results k.results),
+  λ n f e. field_through (expanded t) (expanded u) n f (matches_along t u (standard_links t i) d).1 e,
+)

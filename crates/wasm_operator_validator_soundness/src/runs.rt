@@ -1,0 +1,35 @@
+//! No run of a valid program is stuck (WebAssembly 3.0, appendix, soundness).
+//!
+//! There is no code here but the laws, each on the contract of a function that does nothing. `specs/` is read in the order of
+//! its `Lib.antt`: values and their types, states, how a program runs over all of its activations, the states in which all fits, and
+//! what it means that no run is stuck.
+
+mod worked;
+
+ghost use Rattle.wasm_operator_validator_soundness.specs.runs.Soundness.{AncestorsAreSound, ConstantsAreSound, ConstantsAreValid, ProgramsAreSound, StartsAreValid, StepsAreSound};
+
+pub use worked::{caught_is_worked, runs_are_worked, stuck_states_are_worked, sums_are_worked};
+
+/// A function of a valid program that is started with fitting arguments and answered by fitting values is never stuck, and what
+/// it returns or throws fits.
+pub fn programs_are_sound()
+    ensures { ProgramsAreSound }
+{}
+
+/// From activations whose values fit, a step has what it needs, and comes to such activations again or ends well. A function that is
+/// started is such an activation.
+pub fn steps_are_sound()
+    ensures steps { StepsAreSound }
+    ensures starts { StartsAreValid }
+{}
+
+/// A constant is in such a state too, so each of its steps has what it needs; and its value fits the type that it is typed with.
+pub fn constants_are_sound()
+    ensures steps { ConstantsAreValid }
+    ensures values { ConstantsAreSound }
+{}
+
+/// A value made with a type may be used through each type that is declared above it.
+pub fn ancestors_are_sound()
+    ensures { AncestorsAreSound }
+{}

@@ -1,0 +1,29 @@
+//! Worked runs and stuck states.
+
+ghost use Rattle.std.specs.Prelude.{ℤ};
+ghost use Rattle.wasm_operator_validator_soundness.specs.runs.worked.Caught.{CaughtWorked};
+ghost use Rattle.wasm_operator_validator_soundness.specs.runs.worked.Runs.{RunsWorked};
+ghost use Rattle.wasm_operator_validator_soundness.specs.runs.worked.Stuck.{PlacesWorked, StuckWorked};
+ghost use Rattle.wasm_operator_validator_soundness.specs.runs.worked.Sums.{SumsWorked};
+
+/// What some code comes to: it returns, throws or traps, after calls, tail calls and exceptions that callers catch.
+pub fn runs_are_worked()
+    ensures { (x : ℤ) → RunsWorked x }
+{}
+
+/// States that are stuck, one for each way to be so, and steps that tell whose place is meant.
+pub fn stuck_states_are_worked()
+    ensures stuck { (x : ℤ) → StuckWorked x }
+    ensures places { (x : ℤ) → PlacesWorked x }
+{}
+
+/// Runs of a program that is valid: it adds two numbers, calls an import, and calls that and a function of its own through a table.
+pub fn sums_are_worked()
+    ensures { (x : ℤ) → SumsWorked x }
+{}
+
+/// A run of a program that is valid: a call through a table finds a function of a subtype, and what that throws is caught two calls
+/// further out.
+pub fn caught_is_worked()
+    ensures { (x : ℤ) → CaughtWorked x }
+{}

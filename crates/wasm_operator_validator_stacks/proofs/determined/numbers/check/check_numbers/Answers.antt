@@ -1,0 +1,17 @@
+use Rattle.wasm_operators_enums.specs.Op as op
+use Rattle.wasm_operator_validator_state.specs.Refusals.{refused}
+use Rattle.wasm_operator_validator_stacks.specs.determined.laws.Determined.{not_begun, determined}
+use Rattle.wasm_operator_validator_stacks.proofs.NumberTypes.{numeric_in_table, numeric_type}
+use Rattle.wasm_operator_validator_stacks.proofs.determined.numbers.check.check_numbers.Goals as goal
+
+pub returns-in-Err : goal.returns-in-Err
+returns-in-Err g c =
+    let t = numeric_in_table c.args.op c.args.proposal c.args.floats c.args.takes.now c.args.gives.now c.requires in
+    not_begun c.in-Err.refusal (g.R.WasmModuleResources.meaning c.args.resources.now) c.args.validator.now (op.Numeric c.args.op) c.args.proposal c.args.floats t.is c.in-Err.ensures.begins c.in-Err.ensures.stops
+
+pub returns : goal.returns
+returns g c =
+    let m = g.R.WasmModuleResources.meaning c.args.resources.now in
+    determined (refused c.exchange.result) m c.args.validator.now c.exchange.new.self (op.Numeric c.args.op) c.args.proposal c.args.floats c.args.takes.now c.args.gives.now
+    (numeric_in_table c.args.op c.args.proposal c.args.floats c.args.takes.now c.args.gives.now c.requires) c.in-Ok.ensures.begins
+    (numeric_type m c.args.validator.now c.args.op c.args.proposal c.args.floats c.args.takes.now c.args.gives.now c.requires) c.exchange.ensures.does (record { given = c.exchange.ensures.given; failed = c.exchange.ensures.failed; saved = c.exchange.ensures.saved })

@@ -1,9 +1,0 @@
-use Rattle.std.proofs.Common.{refl}
-use Rattle.wasm_operators_visit_operator.specs.operator.Op as op
-use Rattle.wasm_operators_visit_operator.specs.groups.declared.gc.GcOperator.TheVariants as gc
-use Rattle.wasm_operators_visit_short.proofs.Reading.{told_alone}
-use Rattle.wasm_operator_validator_walk.proofs.objects.equal_references.Goals as goal
-
-pub returns-in-211-clause-told : goal.returns-in-211-clause-told
-returns-in-211-clause-told g c = told_alone c.args.features.0 c.args.bytes.now c.args.at c.args.code 211 c.requires c.in-211.is
-    (op.Gc gc.RefEq) refl refl _ c.visit_ref_eq.ensures refl refl refl

@@ -1,0 +1,2 @@
+pub mod AtomicCodes
+pub mod SimdNumericCodes

@@ -1,0 +1,130 @@
+-- Atomic accesses: each variant takes any immediates of its kinds.
+use Rattle.std.proofs.Common.{true, map, refl}
+use Rattle.wasm_operators_immediates.specs.Immediates.{kind_of}
+use Rattle.wasm_operators_enums.specs.threads.Table.{atomic_info, shared_info}
+use Rattle.wasm_operators_enums.specs.threads.Immediates.{atomic_immediates, shared_immediates}
+use Rattle.wasm_operators_enums.specs.declared.atomic.AtomicOperator.{AtomicOperator}
+use Rattle.wasm_operators_enums.specs.declared.atomic.AtomicOperator.TheVariants as atomic
+use Rattle.wasm_operators_enums.specs.declared.atomic.SharedOperator.{SharedOperator}
+use Rattle.wasm_operators_enums.specs.declared.atomic.SharedOperator.TheVariants as shared
+use Rattle.wasm_operators_encoding.specs.codes.Carried.{Carriers}
+use Rattle.wasm_operators_encoding.specs.codes.Filled.{IsMaker, Fills, fills}
+
+-- ---- atomic
+
+atomic_by : (o : AtomicOperator) (f : Carriers (map kind_of (atomic_immediates o)) → AtomicOperator)
+    → IsMaker atomic_info atomic_immediates (λ o. true) o f → Fills atomic_info atomic_immediates (λ o. true) o
+atomic_by o f m = fills atomic_info atomic_immediates (λ o. true) o f m
+
+pub atomic_fills : (o : AtomicOperator) → Fills atomic_info atomic_immediates (λ o. true) o
+atomic_fills (atomic.MemoryAtomicNotify memarg) = atomic_by (atomic.MemoryAtomicNotify memarg) (λ c. atomic.MemoryAtomicNotify c.0) (λ c. (refl, refl, refl, refl))
+atomic_fills (atomic.MemoryAtomicWait32 memarg) = atomic_by (atomic.MemoryAtomicWait32 memarg) (λ c. atomic.MemoryAtomicWait32 c.0) (λ c. (refl, refl, refl, refl))
+atomic_fills (atomic.MemoryAtomicWait64 memarg) = atomic_by (atomic.MemoryAtomicWait64 memarg) (λ c. atomic.MemoryAtomicWait64 c.0) (λ c. (refl, refl, refl, refl))
+atomic_fills atomic.AtomicFence = atomic_by atomic.AtomicFence (λ c. atomic.AtomicFence) (λ c. (refl, refl, refl, refl))
+atomic_fills (atomic.I32AtomicLoad memarg) = atomic_by (atomic.I32AtomicLoad memarg) (λ c. atomic.I32AtomicLoad c.0) (λ c. (refl, refl, refl, refl))
+atomic_fills (atomic.I64AtomicLoad memarg) = atomic_by (atomic.I64AtomicLoad memarg) (λ c. atomic.I64AtomicLoad c.0) (λ c. (refl, refl, refl, refl))
+atomic_fills (atomic.I32AtomicLoad8U memarg) = atomic_by (atomic.I32AtomicLoad8U memarg) (λ c. atomic.I32AtomicLoad8U c.0) (λ c. (refl, refl, refl, refl))
+atomic_fills (atomic.I32AtomicLoad16U memarg) = atomic_by (atomic.I32AtomicLoad16U memarg) (λ c. atomic.I32AtomicLoad16U c.0) (λ c. (refl, refl, refl, refl))
+atomic_fills (atomic.I64AtomicLoad8U memarg) = atomic_by (atomic.I64AtomicLoad8U memarg) (λ c. atomic.I64AtomicLoad8U c.0) (λ c. (refl, refl, refl, refl))
+atomic_fills (atomic.I64AtomicLoad16U memarg) = atomic_by (atomic.I64AtomicLoad16U memarg) (λ c. atomic.I64AtomicLoad16U c.0) (λ c. (refl, refl, refl, refl))
+atomic_fills (atomic.I64AtomicLoad32U memarg) = atomic_by (atomic.I64AtomicLoad32U memarg) (λ c. atomic.I64AtomicLoad32U c.0) (λ c. (refl, refl, refl, refl))
+atomic_fills (atomic.I32AtomicStore memarg) = atomic_by (atomic.I32AtomicStore memarg) (λ c. atomic.I32AtomicStore c.0) (λ c. (refl, refl, refl, refl))
+atomic_fills (atomic.I64AtomicStore memarg) = atomic_by (atomic.I64AtomicStore memarg) (λ c. atomic.I64AtomicStore c.0) (λ c. (refl, refl, refl, refl))
+atomic_fills (atomic.I32AtomicStore8 memarg) = atomic_by (atomic.I32AtomicStore8 memarg) (λ c. atomic.I32AtomicStore8 c.0) (λ c. (refl, refl, refl, refl))
+atomic_fills (atomic.I32AtomicStore16 memarg) = atomic_by (atomic.I32AtomicStore16 memarg) (λ c. atomic.I32AtomicStore16 c.0) (λ c. (refl, refl, refl, refl))
+atomic_fills (atomic.I64AtomicStore8 memarg) = atomic_by (atomic.I64AtomicStore8 memarg) (λ c. atomic.I64AtomicStore8 c.0) (λ c. (refl, refl, refl, refl))
+atomic_fills (atomic.I64AtomicStore16 memarg) = atomic_by (atomic.I64AtomicStore16 memarg) (λ c. atomic.I64AtomicStore16 c.0) (λ c. (refl, refl, refl, refl))
+atomic_fills (atomic.I64AtomicStore32 memarg) = atomic_by (atomic.I64AtomicStore32 memarg) (λ c. atomic.I64AtomicStore32 c.0) (λ c. (refl, refl, refl, refl))
+atomic_fills (atomic.I32AtomicRmwAdd memarg) = atomic_by (atomic.I32AtomicRmwAdd memarg) (λ c. atomic.I32AtomicRmwAdd c.0) (λ c. (refl, refl, refl, refl))
+atomic_fills (atomic.I64AtomicRmwAdd memarg) = atomic_by (atomic.I64AtomicRmwAdd memarg) (λ c. atomic.I64AtomicRmwAdd c.0) (λ c. (refl, refl, refl, refl))
+atomic_fills (atomic.I32AtomicRmw8AddU memarg) = atomic_by (atomic.I32AtomicRmw8AddU memarg) (λ c. atomic.I32AtomicRmw8AddU c.0) (λ c. (refl, refl, refl, refl))
+atomic_fills (atomic.I32AtomicRmw16AddU memarg) = atomic_by (atomic.I32AtomicRmw16AddU memarg) (λ c. atomic.I32AtomicRmw16AddU c.0) (λ c. (refl, refl, refl, refl))
+atomic_fills (atomic.I64AtomicRmw8AddU memarg) = atomic_by (atomic.I64AtomicRmw8AddU memarg) (λ c. atomic.I64AtomicRmw8AddU c.0) (λ c. (refl, refl, refl, refl))
+atomic_fills (atomic.I64AtomicRmw16AddU memarg) = atomic_by (atomic.I64AtomicRmw16AddU memarg) (λ c. atomic.I64AtomicRmw16AddU c.0) (λ c. (refl, refl, refl, refl))
+atomic_fills (atomic.I64AtomicRmw32AddU memarg) = atomic_by (atomic.I64AtomicRmw32AddU memarg) (λ c. atomic.I64AtomicRmw32AddU c.0) (λ c. (refl, refl, refl, refl))
+atomic_fills (atomic.I32AtomicRmwSub memarg) = atomic_by (atomic.I32AtomicRmwSub memarg) (λ c. atomic.I32AtomicRmwSub c.0) (λ c. (refl, refl, refl, refl))
+atomic_fills (atomic.I64AtomicRmwSub memarg) = atomic_by (atomic.I64AtomicRmwSub memarg) (λ c. atomic.I64AtomicRmwSub c.0) (λ c. (refl, refl, refl, refl))
+atomic_fills (atomic.I32AtomicRmw8SubU memarg) = atomic_by (atomic.I32AtomicRmw8SubU memarg) (λ c. atomic.I32AtomicRmw8SubU c.0) (λ c. (refl, refl, refl, refl))
+atomic_fills (atomic.I32AtomicRmw16SubU memarg) = atomic_by (atomic.I32AtomicRmw16SubU memarg) (λ c. atomic.I32AtomicRmw16SubU c.0) (λ c. (refl, refl, refl, refl))
+atomic_fills (atomic.I64AtomicRmw8SubU memarg) = atomic_by (atomic.I64AtomicRmw8SubU memarg) (λ c. atomic.I64AtomicRmw8SubU c.0) (λ c. (refl, refl, refl, refl))
+atomic_fills (atomic.I64AtomicRmw16SubU memarg) = atomic_by (atomic.I64AtomicRmw16SubU memarg) (λ c. atomic.I64AtomicRmw16SubU c.0) (λ c. (refl, refl, refl, refl))
+atomic_fills (atomic.I64AtomicRmw32SubU memarg) = atomic_by (atomic.I64AtomicRmw32SubU memarg) (λ c. atomic.I64AtomicRmw32SubU c.0) (λ c. (refl, refl, refl, refl))
+atomic_fills (atomic.I32AtomicRmwAnd memarg) = atomic_by (atomic.I32AtomicRmwAnd memarg) (λ c. atomic.I32AtomicRmwAnd c.0) (λ c. (refl, refl, refl, refl))
+atomic_fills (atomic.I64AtomicRmwAnd memarg) = atomic_by (atomic.I64AtomicRmwAnd memarg) (λ c. atomic.I64AtomicRmwAnd c.0) (λ c. (refl, refl, refl, refl))
+atomic_fills (atomic.I32AtomicRmw8AndU memarg) = atomic_by (atomic.I32AtomicRmw8AndU memarg) (λ c. atomic.I32AtomicRmw8AndU c.0) (λ c. (refl, refl, refl, refl))
+atomic_fills (atomic.I32AtomicRmw16AndU memarg) = atomic_by (atomic.I32AtomicRmw16AndU memarg) (λ c. atomic.I32AtomicRmw16AndU c.0) (λ c. (refl, refl, refl, refl))
+atomic_fills (atomic.I64AtomicRmw8AndU memarg) = atomic_by (atomic.I64AtomicRmw8AndU memarg) (λ c. atomic.I64AtomicRmw8AndU c.0) (λ c. (refl, refl, refl, refl))
+atomic_fills (atomic.I64AtomicRmw16AndU memarg) = atomic_by (atomic.I64AtomicRmw16AndU memarg) (λ c. atomic.I64AtomicRmw16AndU c.0) (λ c. (refl, refl, refl, refl))
+atomic_fills (atomic.I64AtomicRmw32AndU memarg) = atomic_by (atomic.I64AtomicRmw32AndU memarg) (λ c. atomic.I64AtomicRmw32AndU c.0) (λ c. (refl, refl, refl, refl))
+atomic_fills (atomic.I32AtomicRmwOr memarg) = atomic_by (atomic.I32AtomicRmwOr memarg) (λ c. atomic.I32AtomicRmwOr c.0) (λ c. (refl, refl, refl, refl))
+atomic_fills (atomic.I64AtomicRmwOr memarg) = atomic_by (atomic.I64AtomicRmwOr memarg) (λ c. atomic.I64AtomicRmwOr c.0) (λ c. (refl, refl, refl, refl))
+atomic_fills (atomic.I32AtomicRmw8OrU memarg) = atomic_by (atomic.I32AtomicRmw8OrU memarg) (λ c. atomic.I32AtomicRmw8OrU c.0) (λ c. (refl, refl, refl, refl))
+atomic_fills (atomic.I32AtomicRmw16OrU memarg) = atomic_by (atomic.I32AtomicRmw16OrU memarg) (λ c. atomic.I32AtomicRmw16OrU c.0) (λ c. (refl, refl, refl, refl))
+atomic_fills (atomic.I64AtomicRmw8OrU memarg) = atomic_by (atomic.I64AtomicRmw8OrU memarg) (λ c. atomic.I64AtomicRmw8OrU c.0) (λ c. (refl, refl, refl, refl))
+atomic_fills (atomic.I64AtomicRmw16OrU memarg) = atomic_by (atomic.I64AtomicRmw16OrU memarg) (λ c. atomic.I64AtomicRmw16OrU c.0) (λ c. (refl, refl, refl, refl))
+atomic_fills (atomic.I64AtomicRmw32OrU memarg) = atomic_by (atomic.I64AtomicRmw32OrU memarg) (λ c. atomic.I64AtomicRmw32OrU c.0) (λ c. (refl, refl, refl, refl))
+atomic_fills (atomic.I32AtomicRmwXor memarg) = atomic_by (atomic.I32AtomicRmwXor memarg) (λ c. atomic.I32AtomicRmwXor c.0) (λ c. (refl, refl, refl, refl))
+atomic_fills (atomic.I64AtomicRmwXor memarg) = atomic_by (atomic.I64AtomicRmwXor memarg) (λ c. atomic.I64AtomicRmwXor c.0) (λ c. (refl, refl, refl, refl))
+atomic_fills (atomic.I32AtomicRmw8XorU memarg) = atomic_by (atomic.I32AtomicRmw8XorU memarg) (λ c. atomic.I32AtomicRmw8XorU c.0) (λ c. (refl, refl, refl, refl))
+atomic_fills (atomic.I32AtomicRmw16XorU memarg) = atomic_by (atomic.I32AtomicRmw16XorU memarg) (λ c. atomic.I32AtomicRmw16XorU c.0) (λ c. (refl, refl, refl, refl))
+atomic_fills (atomic.I64AtomicRmw8XorU memarg) = atomic_by (atomic.I64AtomicRmw8XorU memarg) (λ c. atomic.I64AtomicRmw8XorU c.0) (λ c. (refl, refl, refl, refl))
+atomic_fills (atomic.I64AtomicRmw16XorU memarg) = atomic_by (atomic.I64AtomicRmw16XorU memarg) (λ c. atomic.I64AtomicRmw16XorU c.0) (λ c. (refl, refl, refl, refl))
+atomic_fills (atomic.I64AtomicRmw32XorU memarg) = atomic_by (atomic.I64AtomicRmw32XorU memarg) (λ c. atomic.I64AtomicRmw32XorU c.0) (λ c. (refl, refl, refl, refl))
+atomic_fills (atomic.I32AtomicRmwXchg memarg) = atomic_by (atomic.I32AtomicRmwXchg memarg) (λ c. atomic.I32AtomicRmwXchg c.0) (λ c. (refl, refl, refl, refl))
+atomic_fills (atomic.I64AtomicRmwXchg memarg) = atomic_by (atomic.I64AtomicRmwXchg memarg) (λ c. atomic.I64AtomicRmwXchg c.0) (λ c. (refl, refl, refl, refl))
+atomic_fills (atomic.I32AtomicRmw8XchgU memarg) = atomic_by (atomic.I32AtomicRmw8XchgU memarg) (λ c. atomic.I32AtomicRmw8XchgU c.0) (λ c. (refl, refl, refl, refl))
+atomic_fills (atomic.I32AtomicRmw16XchgU memarg) = atomic_by (atomic.I32AtomicRmw16XchgU memarg) (λ c. atomic.I32AtomicRmw16XchgU c.0) (λ c. (refl, refl, refl, refl))
+atomic_fills (atomic.I64AtomicRmw8XchgU memarg) = atomic_by (atomic.I64AtomicRmw8XchgU memarg) (λ c. atomic.I64AtomicRmw8XchgU c.0) (λ c. (refl, refl, refl, refl))
+atomic_fills (atomic.I64AtomicRmw16XchgU memarg) = atomic_by (atomic.I64AtomicRmw16XchgU memarg) (λ c. atomic.I64AtomicRmw16XchgU c.0) (λ c. (refl, refl, refl, refl))
+atomic_fills (atomic.I64AtomicRmw32XchgU memarg) = atomic_by (atomic.I64AtomicRmw32XchgU memarg) (λ c. atomic.I64AtomicRmw32XchgU c.0) (λ c. (refl, refl, refl, refl))
+atomic_fills (atomic.I32AtomicRmwCmpxchg memarg) = atomic_by (atomic.I32AtomicRmwCmpxchg memarg) (λ c. atomic.I32AtomicRmwCmpxchg c.0) (λ c. (refl, refl, refl, refl))
+atomic_fills (atomic.I64AtomicRmwCmpxchg memarg) = atomic_by (atomic.I64AtomicRmwCmpxchg memarg) (λ c. atomic.I64AtomicRmwCmpxchg c.0) (λ c. (refl, refl, refl, refl))
+atomic_fills (atomic.I32AtomicRmw8CmpxchgU memarg) = atomic_by (atomic.I32AtomicRmw8CmpxchgU memarg) (λ c. atomic.I32AtomicRmw8CmpxchgU c.0) (λ c. (refl, refl, refl, refl))
+atomic_fills (atomic.I32AtomicRmw16CmpxchgU memarg) = atomic_by (atomic.I32AtomicRmw16CmpxchgU memarg) (λ c. atomic.I32AtomicRmw16CmpxchgU c.0) (λ c. (refl, refl, refl, refl))
+atomic_fills (atomic.I64AtomicRmw8CmpxchgU memarg) = atomic_by (atomic.I64AtomicRmw8CmpxchgU memarg) (λ c. atomic.I64AtomicRmw8CmpxchgU c.0) (λ c. (refl, refl, refl, refl))
+atomic_fills (atomic.I64AtomicRmw16CmpxchgU memarg) = atomic_by (atomic.I64AtomicRmw16CmpxchgU memarg) (λ c. atomic.I64AtomicRmw16CmpxchgU c.0) (λ c. (refl, refl, refl, refl))
+atomic_fills (atomic.I64AtomicRmw32CmpxchgU memarg) = atomic_by (atomic.I64AtomicRmw32CmpxchgU memarg) (λ c. atomic.I64AtomicRmw32CmpxchgU c.0) (λ c. (refl, refl, refl, refl))
+
+-- ---- shared
+
+shared_by : (o : SharedOperator) (f : Carriers (map kind_of (shared_immediates o)) → SharedOperator)
+    → IsMaker shared_info shared_immediates (λ o. true) o f → Fills shared_info shared_immediates (λ o. true) o
+shared_by o f m = fills shared_info shared_immediates (λ o. true) o f m
+
+pub shared_fills : (o : SharedOperator) → Fills shared_info shared_immediates (λ o. true) o
+shared_fills (shared.GlobalAtomicGet ordering global_index) = shared_by (shared.GlobalAtomicGet ordering global_index) (λ c. shared.GlobalAtomicGet c.0 c.1.0) (λ c. (refl, refl, refl, refl))
+shared_fills (shared.GlobalAtomicSet ordering global_index) = shared_by (shared.GlobalAtomicSet ordering global_index) (λ c. shared.GlobalAtomicSet c.0 c.1.0) (λ c. (refl, refl, refl, refl))
+shared_fills (shared.GlobalAtomicRmwAdd ordering global_index) = shared_by (shared.GlobalAtomicRmwAdd ordering global_index) (λ c. shared.GlobalAtomicRmwAdd c.0 c.1.0) (λ c. (refl, refl, refl, refl))
+shared_fills (shared.GlobalAtomicRmwSub ordering global_index) = shared_by (shared.GlobalAtomicRmwSub ordering global_index) (λ c. shared.GlobalAtomicRmwSub c.0 c.1.0) (λ c. (refl, refl, refl, refl))
+shared_fills (shared.GlobalAtomicRmwAnd ordering global_index) = shared_by (shared.GlobalAtomicRmwAnd ordering global_index) (λ c. shared.GlobalAtomicRmwAnd c.0 c.1.0) (λ c. (refl, refl, refl, refl))
+shared_fills (shared.GlobalAtomicRmwOr ordering global_index) = shared_by (shared.GlobalAtomicRmwOr ordering global_index) (λ c. shared.GlobalAtomicRmwOr c.0 c.1.0) (λ c. (refl, refl, refl, refl))
+shared_fills (shared.GlobalAtomicRmwXor ordering global_index) = shared_by (shared.GlobalAtomicRmwXor ordering global_index) (λ c. shared.GlobalAtomicRmwXor c.0 c.1.0) (λ c. (refl, refl, refl, refl))
+shared_fills (shared.GlobalAtomicRmwXchg a b) = shared_by (shared.GlobalAtomicRmwXchg a b) (λ c. shared.GlobalAtomicRmwXchg c.0 c.1.0) (λ c. (refl, refl, refl, refl))
+shared_fills (shared.GlobalAtomicRmwCmpxchg a b) = shared_by (shared.GlobalAtomicRmwCmpxchg a b) (λ c. shared.GlobalAtomicRmwCmpxchg c.0 c.1.0) (λ c. (refl, refl, refl, refl))
+shared_fills (shared.TableAtomicGet ordering table_index) = shared_by (shared.TableAtomicGet ordering table_index) (λ c. shared.TableAtomicGet c.0 c.1.0) (λ c. (refl, refl, refl, refl))
+shared_fills (shared.TableAtomicSet ordering table_index) = shared_by (shared.TableAtomicSet ordering table_index) (λ c. shared.TableAtomicSet c.0 c.1.0) (λ c. (refl, refl, refl, refl))
+shared_fills (shared.TableAtomicRmwXchg ordering table_index) = shared_by (shared.TableAtomicRmwXchg ordering table_index) (λ c. shared.TableAtomicRmwXchg c.0 c.1.0) (λ c. (refl, refl, refl, refl))
+shared_fills (shared.TableAtomicRmwCmpxchg a b) = shared_by (shared.TableAtomicRmwCmpxchg a b) (λ c. shared.TableAtomicRmwCmpxchg c.0 c.1.0) (λ c. (refl, refl, refl, refl))
+shared_fills (shared.StructAtomicGet a b c) = shared_by (shared.StructAtomicGet a b c) (λ x. shared.StructAtomicGet x.0 x.1.0 x.1.1.0) (λ x. (refl, refl, refl, refl))
+shared_fills (shared.StructAtomicGetS a b c) = shared_by (shared.StructAtomicGetS a b c) (λ x. shared.StructAtomicGetS x.0 x.1.0 x.1.1.0) (λ x. (refl, refl, refl, refl))
+shared_fills (shared.StructAtomicGetU a b c) = shared_by (shared.StructAtomicGetU a b c) (λ x. shared.StructAtomicGetU x.0 x.1.0 x.1.1.0) (λ x. (refl, refl, refl, refl))
+shared_fills (shared.StructAtomicSet a b c) = shared_by (shared.StructAtomicSet a b c) (λ x. shared.StructAtomicSet x.0 x.1.0 x.1.1.0) (λ x. (refl, refl, refl, refl))
+shared_fills (shared.StructAtomicRmwAdd a b c) = shared_by (shared.StructAtomicRmwAdd a b c) (λ x. shared.StructAtomicRmwAdd x.0 x.1.0 x.1.1.0) (λ x. (refl, refl, refl, refl))
+shared_fills (shared.StructAtomicRmwSub a b c) = shared_by (shared.StructAtomicRmwSub a b c) (λ x. shared.StructAtomicRmwSub x.0 x.1.0 x.1.1.0) (λ x. (refl, refl, refl, refl))
+shared_fills (shared.StructAtomicRmwAnd a b c) = shared_by (shared.StructAtomicRmwAnd a b c) (λ x. shared.StructAtomicRmwAnd x.0 x.1.0 x.1.1.0) (λ x. (refl, refl, refl, refl))
+shared_fills (shared.StructAtomicRmwOr a b c) = shared_by (shared.StructAtomicRmwOr a b c) (λ x. shared.StructAtomicRmwOr x.0 x.1.0 x.1.1.0) (λ x. (refl, refl, refl, refl))
+shared_fills (shared.StructAtomicRmwXor a b c) = shared_by (shared.StructAtomicRmwXor a b c) (λ x. shared.StructAtomicRmwXor x.0 x.1.0 x.1.1.0) (λ x. (refl, refl, refl, refl))
+shared_fills (shared.StructAtomicRmwXchg a b c) = shared_by (shared.StructAtomicRmwXchg a b c) (λ x. shared.StructAtomicRmwXchg x.0 x.1.0 x.1.1.0) (λ x. (refl, refl, refl, refl))
+shared_fills (shared.StructAtomicRmwCmpxchg a b c) = shared_by (shared.StructAtomicRmwCmpxchg a b c) (λ x. shared.StructAtomicRmwCmpxchg x.0 x.1.0 x.1.1.0) (λ x. (refl, refl, refl, refl))
+shared_fills (shared.ArrayAtomicGet ordering array_type_index) = shared_by (shared.ArrayAtomicGet ordering array_type_index) (λ c. shared.ArrayAtomicGet c.0 c.1.0) (λ c. (refl, refl, refl, refl))
+shared_fills (shared.ArrayAtomicGetS ordering array_type_index) = shared_by (shared.ArrayAtomicGetS ordering array_type_index) (λ c. shared.ArrayAtomicGetS c.0 c.1.0) (λ c. (refl, refl, refl, refl))
+shared_fills (shared.ArrayAtomicGetU ordering array_type_index) = shared_by (shared.ArrayAtomicGetU ordering array_type_index) (λ c. shared.ArrayAtomicGetU c.0 c.1.0) (λ c. (refl, refl, refl, refl))
+shared_fills (shared.ArrayAtomicSet ordering array_type_index) = shared_by (shared.ArrayAtomicSet ordering array_type_index) (λ c. shared.ArrayAtomicSet c.0 c.1.0) (λ c. (refl, refl, refl, refl))
+shared_fills (shared.ArrayAtomicRmwAdd a b) = shared_by (shared.ArrayAtomicRmwAdd a b) (λ c. shared.ArrayAtomicRmwAdd c.0 c.1.0) (λ c. (refl, refl, refl, refl))
+shared_fills (shared.ArrayAtomicRmwSub a b) = shared_by (shared.ArrayAtomicRmwSub a b) (λ c. shared.ArrayAtomicRmwSub c.0 c.1.0) (λ c. (refl, refl, refl, refl))
+shared_fills (shared.ArrayAtomicRmwAnd a b) = shared_by (shared.ArrayAtomicRmwAnd a b) (λ c. shared.ArrayAtomicRmwAnd c.0 c.1.0) (λ c. (refl, refl, refl, refl))
+shared_fills (shared.ArrayAtomicRmwOr a b) = shared_by (shared.ArrayAtomicRmwOr a b) (λ c. shared.ArrayAtomicRmwOr c.0 c.1.0) (λ c. (refl, refl, refl, refl))
+shared_fills (shared.ArrayAtomicRmwXor a b) = shared_by (shared.ArrayAtomicRmwXor a b) (λ c. shared.ArrayAtomicRmwXor c.0 c.1.0) (λ c. (refl, refl, refl, refl))
+shared_fills (shared.ArrayAtomicRmwXchg a b) = shared_by (shared.ArrayAtomicRmwXchg a b) (λ c. shared.ArrayAtomicRmwXchg c.0 c.1.0) (λ c. (refl, refl, refl, refl))
+shared_fills (shared.ArrayAtomicRmwCmpxchg a b) = shared_by (shared.ArrayAtomicRmwCmpxchg a b) (λ c. shared.ArrayAtomicRmwCmpxchg c.0 c.1.0) (λ c. (refl, refl, refl, refl))
+shared_fills shared.RefI31Shared = shared_by shared.RefI31Shared (λ c. shared.RefI31Shared) (λ c. (refl, refl, refl, refl))

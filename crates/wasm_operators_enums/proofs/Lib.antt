@@ -1,0 +1,15 @@
+pub mod Copies
+pub mod Codes
+pub mod Equality
+pub mod ControlCodes
+pub mod ControlEquality
+pub mod MemoryCodes
+pub mod MemoryEquality
+pub mod NumbersCodes
+pub mod NumbersEquality
+pub mod GcCodes
+pub mod GcEquality
+pub mod ThreadsCodes
+pub mod ThreadsEquality
+pub mod VectorsCodes
+pub mod VectorsEquality

@@ -1,0 +1,2 @@
+pub mod ShortReading
+pub mod Carried

@@ -1,0 +1,57 @@
+//! Operators on whole memories.
+
+ghost use Rattle.std.specs.Prelude.{◌≡◌, IfSome};
+ghost use Rattle.wasm_operators_enums.specs.Op.{op_of};
+ghost use Rattle.wasm_operators_frequent.specs.Short.{BeginsPrefixed, IsTold};
+
+use wasm_operators_visit::{BulkOperator, Operator};
+use wasm_types::WasmFeatures;
+use wasm_types_decoding::short_u32_at;
+
+/// The copy of bytes between memories, behind the prefix `fc`; its code ends at `middle`.
+#[inline(always)]
+pub(crate) fn memory_copy<'a>(
+    bytes: &'a [u8],
+    at: usize,
+    code: u32,
+    middle: usize,
+    features: WasmFeatures,
+) -> Option<(Operator<'a>, usize)>
+    requires { BeginsPrefixed bytes.now at 0xfc code middle }
+    ensures { IfSome result (λ r. IsTold features.0 bytes.now at r.1 (λ o. o ≡ op_of r.0)) }
+{
+    let Some((dst_mem, next)) = short_u32_at(bytes, middle) else {
+        return None;
+    };
+    let Some((src_mem, end)) = short_u32_at(bytes, next) else {
+        return None;
+    };
+    match code {
+        0x0a => Some((
+            Operator::Bulk(BulkOperator::MemoryCopy { dst_mem, src_mem }),
+            end,
+        )),
+        _ => None,
+    }
+}
+
+/// The filling of a memory with a byte, behind the prefix `fc`; its code ends at `middle`.
+#[inline(always)]
+pub(crate) fn memory_fill<'a>(
+    bytes: &'a [u8],
+    at: usize,
+    code: u32,
+    middle: usize,
+    features: WasmFeatures,
+) -> Option<(Operator<'a>, usize)>
+    requires { BeginsPrefixed bytes.now at 0xfc code middle }
+    ensures { IfSome result (λ r. IsTold features.0 bytes.now at r.1 (λ o. o ≡ op_of r.0)) }
+{
+    let Some((mem, end)) = short_u32_at(bytes, middle) else {
+        return None;
+    };
+    match code {
+        0x0b => Some((Operator::Bulk(BulkOperator::MemoryFill { mem }), end)),
+        _ => None,
+    }
+}

@@ -1,2 +1,0 @@
--- Rules: what is told of an operator.
-pub mod Info

@@ -1,5 +1,0 @@
-use Rattle.wasm_operators_operator.proofs.Copies.{copied}
-use Rattle.wasm_operators_operator.proofs.laws.clones_have_the_tree.Goals as goal
-
-pub returns : goal.returns
-returns c = copied

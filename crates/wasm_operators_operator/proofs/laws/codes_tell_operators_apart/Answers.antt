@@ -1,5 +1,0 @@
-use Rattle.wasm_operators_operator.proofs.Codes.{apart}
-use Rattle.wasm_operators_operator.proofs.laws.codes_tell_operators_apart.Goals as goal
-
-pub returns : goal.returns
-returns c = apart

@@ -1,0 +1,4 @@
+-- Definitions, in reading order.
+pub mod InFrame
+-- Laws.
+pub mod InFrameLaws

@@ -1,6 +1,0 @@
-use Rattle.std.proofs.Common.{refl}
-use Rattle.wasm_operators_visit_short.proofs.Reading.{told_so}
-use Rattle.wasm_operators_visit_short.proofs.tell.LentVisitorTellOperator.tell_short.Goals as goal
-
-pub returns-clause-told : goal.returns-clause-told
-returns-clause-told g c = told_so _ _ _ _ _ _ (λ o h. (h, refl)) c.in-Some.ensures.told

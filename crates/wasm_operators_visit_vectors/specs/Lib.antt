@@ -1,3 +1,0 @@
--- The rules and laws of the crates below, under their names: crates above cite them here.
-pub use Rattle.wasm_operators_visit_vectors_floats.specs.operator as operator
-pub use Rattle.wasm_operators_visit_vectors_floats.specs.visit as visit

@@ -1,5 +1,0 @@
-use Rattle.std.proofs.Common.{refl}
-use Rattle.wasm_operators_visiting.proofs.expressions.visit_expression_with_offset.Goals as goal
-
-pub tell_lent-requires : goal.tell_lent-requires
-tell_lent-requires g c κs = (refl, tt)

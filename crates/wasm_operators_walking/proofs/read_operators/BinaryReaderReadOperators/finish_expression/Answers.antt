@@ -1,6 +1,0 @@
-use Rattle.std.proofs.Common.{arith}
-use Rattle.std.proofs.lemmas.Grind.{common_steps}
-use Rattle.wasm_operators_walking.proofs.read_operators.BinaryReaderReadOperators.finish_expression.Goals as goal
-
-pub returns-clause-finished : goal.returns-clause-finished
-returns-clause-finished c = grind (arith, common_steps)

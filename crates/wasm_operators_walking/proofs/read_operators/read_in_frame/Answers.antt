@@ -1,5 +1,0 @@
-use Rattle.wasm_operators_reader.specs.StandingLaws.{some_left}
-use Rattle.wasm_operators_walking.proofs.read_operators.read_in_frame.Goals as goal
-
-pub misplaced-error-requires : goal.misplaced-error-requires
-misplaced-error-requires c = rw c.clone-start.ensures (some_left _ _ _ _ c.in-Ok.ensures.answer)

@@ -1,5 +1,0 @@
-use Rattle.std.proofs.Common.{rules}
-use Rattle.wasm_operators_walking.proofs.read_operators.read_plain_in_frame.Goals as goal
-
-pub returns-then-is_simd-clause-read : goal.returns-then-is_simd-clause-read
-returns-then-is_simd-clause-read c = search rules

@@ -1,0 +1,128 @@
+//! The parser of a module as payloads.
+
+ghost use Rattle.std.specs.Prelude.{◌≡◌, ◌+◌, ◌<◌, ◌≤◌, ◌^◌, length, false};
+ghost use Rattle.wasm_types.specs.settings.Sets.{bits_of, default_features};
+ghost use Rattle.wasm_types.specs.settings.Limits.{default_limits, IsWithinCeilings};
+ghost use Rattle.wasm_types.specs.reader.Reading.{NeedsNoMemory};
+ghost use Rattle.wasm_sections_parser.specs.runs.calls.Runs.{fresh};
+ghost use Rattle.wasm_sections.specs.Parsing.{taken, ParsesPayload};
+
+use crate::walk::walk_from;
+use crate::{ParseAll, Payload};
+use std::alloc::Global;
+use wasm_sections_parser::{Chunk as FrameChunk, Parser as FrameParser};
+use wasm_types::{Limits, Result, WasmFeatures};
+
+/// What a call of a parser gives.
+#[derive(Drop)]
+pub enum Chunk<'a> {
+    /// So many more bytes than were given are needed, and no fewer: with fewer the call is answered so again, and some so many bring a
+    /// payload or a refusal. The parser is as it was: the next call is given the same bytes again, with more behind them. Where `eof`
+    /// was said this never comes.
+    NeedMoreData(usize),
+    /// A payload of so many bytes.
+    Parsed {
+        /// The bytes of the payload.
+        consumed: usize,
+        /// The payload.
+        payload: Payload<'a>,
+    },
+}
+
+/// Reads a module from its bytes, in pieces, by the features that are allowed and the limits that hold (WebAssembly 3.0, binary format,
+/// modules).
+#[derive(Clone, Copy)]
+pub struct Parser {
+    frames: FrameParser,
+    alloc: Global,
+}
+
+impl Parser {
+    /// A parser of a module that begins at this offset of the input, with the default features and the default limits. What is read
+    /// of its payloads takes memory of `alloc`; the parser takes none.
+    pub fn new(alloc: Global, offset: u64) -> Parser
+        ensures offset { result.frames.offset ≡ offset }
+        ensures settings { result.frames.settings ≡ record {
+          features = bits_of default_features;
+          limits = default_limits;
+        } }
+        ensures fresh { result.frames.progress ≡ fresh }
+    {
+        Parser {
+            frames: FrameParser::new(offset),
+            alloc,
+        }
+    }
+
+    /// The features that are allowed.
+    pub fn features(&self) -> WasmFeatures
+        ensures { result.0 ≡ self.now.frames.settings.features }
+    {
+        self.frames.features()
+    }
+
+    /// Allows these features from here on.
+    pub fn set_features(&mut self, features: WasmFeatures)
+        ensures { self.new.frames ≡ record self.old.frames {
+          settings = record
+              { features = features.0; limits = self.old.frames.settings.limits };
+        } }
+    {
+        self.frames.set_features(features);
+    }
+
+    /// The limits that hold.
+    pub fn limits(&self) -> Limits
+        ensures value { result ≡ self.now.frames.settings.limits }
+        ensures within { IsWithinCeilings result }
+    {
+        self.frames.limits()
+    }
+
+    /// Holds to these limits from here on.
+    pub fn set_limits(&mut self, limits: Limits)
+        requires within { IsWithinCeilings limits }
+        ensures { self.new.frames ≡ record self.old.frames {
+          settings = record
+              { features = self.old.frames.settings.features; limits = limits };
+        } }
+    {
+        self.frames.set_limits(limits);
+    }
+
+    /// What comes next of the module, at the front of these bytes; `eof` says that none follow them. Where more bytes are needed
+    /// the parser stays as it is. A payload is of `consumed` bytes, and the parser stands behind them. It is refused where the
+    /// bytes are no frame of a module, and where a section's contents don't begin with its count, or a start section or a data
+    /// count section is not one number. Then the parser stays at the offset where it stood, the start of the section, and has
+    /// failed; behind that and behind the end each call is refused with kind 4. It takes no memory.
+    pub fn parse<'d>(&mut self, data: &'d [u8], eof: bool) -> Result<Chunk<'d>>
+        requires { self.old.frames.offset + length data.now < 2 ^ 64 }
+        ensures answer { ParsesPayload self.old.frames data.now eof result self.new.frames }
+        ensures within { taken result ≤ length data.now }
+        ensures moves { self.new.frames.offset ≡ self.old.frames.offset + taken result }
+        ensures no_memory { NeedsNoMemory result }
+    {
+        let before = self.frames;
+        let (consumed, frame) = match self.frames.parse(data, eof) {
+            Ok(FrameChunk::Parsed { consumed, frame }) => (consumed, frame),
+            Ok(FrameChunk::NeedMoreData(needed)) => return Ok(Chunk::NeedMoreData(needed)),
+            Err(error) => return Err(error),
+        };
+        match Payload::from_frame(self.alloc, frame) {
+            Ok(payload) => Ok(Chunk::Parsed { consumed, payload }),
+            Err(error) => {
+                self.frames = before;
+                self.frames.fail();
+                Err(error)
+            }
+        }
+    }
+
+    /// The payloads of these bytes, which are all that is left of the module.
+    pub fn parse_all(self, data: &[u8]) -> ParseAll<'_>
+        requires { self.frames.offset + length data.now < 2 ^ 64 }
+        ensures { result ≡ record { parser = self.frames; rest = data.now; over = false } }
+    {
+        walk_from(self.alloc, self.frames, data)
+    }
+}

@@ -1,6 +1,0 @@
--- By the law of modules.
-use Rattle.wasm_sections_frames.specs.OuterLaws.{one_outer}
-use Rattle.wasm_sections_frames.proofs.laws.frames_are_unique.Goals as goal
-
-pub returns : goal.returns
-returns c = one_outer

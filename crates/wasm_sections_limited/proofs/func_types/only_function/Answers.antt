@@ -1,5 +1,0 @@
-use Rattle.std.proofs.Common.{rules}
-use Rattle.wasm_sections_limited.proofs.func_types.only_function.Goals as goal
-
-pub returns : goal.returns
-returns c = search rules

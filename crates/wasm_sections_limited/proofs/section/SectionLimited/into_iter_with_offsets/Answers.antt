@@ -1,5 +1,0 @@
-use Rattle.std.proofs.Common.{rules}
-use Rattle.wasm_sections_limited.proofs.section.SectionLimited.into_iter_with_offsets.Goals as goal
-
-pub returns-clause-remaining : goal.returns-clause-remaining
-returns-clause-remaining c = search rules

@@ -1,0 +1,21 @@
+-- What was kept, and what there is room for of the text.
+use Rattle.std.proofs.Common.{ap, ◌-◌, ℕ, subst, Bool, true, false}
+use Rattle.std.proofs.lemmas.Str.{IsCharBoundary-start}
+use Rattle.wasm_types_decoding.specs.ErrorText.{Keeps}
+use Rattle.wasm_types_decoding.proofs.Kept.{keeps_full, keeps_more}
+use Rattle.wasm_types_decoding.proofs.message.MessageWrite.write_str.Goals as goal
+
+pub returns-then-self : goal.returns-then-self
+returns-then-self c = record {
+  ok = λ _ text k.
+      let full : Keeps text c.args.self.now.kept.bytes true = subst (λ (b : Bool). Keeps text c.args.self.now.kept.bytes b) c.if-self.true k in
+      rw c.if-self.true (keeps_full text c.args.s.now c.args.self.now.kept.bytes full);
+}
+
+pub returns : goal.returns
+returns c = record {
+  ok = λ _ text k.
+      let open_still : Keeps text c.args.self.now.kept.bytes false = subst (λ (b : Bool). Keeps text c.args.self.now.kept.bytes b) c.if-self.false k in
+      rw (c.push_str.ensures.bytes, c.front.ensures.value) (keeps_more text c.args.s.now c.args.self.now.kept.bytes _
+      (IsCharBoundary-start c.args.s.now c.utf8.s) open_still (ap (λ (n : ℕ). 256 - n) c.len-room.ensures.value));
+}

@@ -1,0 +1,11 @@
+-- Numbers of one byte and of two.
+use Rattle.std.proofs.Common.{arith}
+use Rattle.wasm_types_decoding.proofs.AtOnce.{signed_of_one_32, signed_of_two_32}
+use Rattle.wasm_types_decoding.proofs.short.short_i32_at.Goals as goal
+
+pub returns-then-first-lt128-clause-found : goal.returns-then-first-lt128-clause-found
+returns-then-first-lt128-clause-found c = signed_of_one_32 c.args.bytes.now c.args.at c.if-at-bytes.true 3 4 _ c.if-first-lt128.true c.seven_bits.ensures
+
+pub returns-then-second-lt128-clause-found : goal.returns-then-second-lt128-clause-found
+returns-then-second-lt128-clause-found c = signed_of_two_32 c.args.bytes.now c.args.at c.if-at-bytes.true 2 4 _ c.if-first-lt128.false
+    c.if-second-lt128.true (omega arith) c.two_groups.ensures

@@ -1,0 +1,5 @@
+-- The laws and decoders that attributes of readers in crates above cite.
+pub use Rattle.wasm_types_settings.specs.LimitsRowLaws.{default_within}
+pub use Rattle.wasm_types_decoding.specs.Laws.{reaches_self, reaches_then}
+unfoldable pub use Rattle.wasm_types_decoding.specs.Lists.{listed_within}
+unfoldable pub use Rattle.wasm_types_decoding.specs.Text.{any_name, counted_within, skipped, text_of, word}

@@ -1,5 +1,0 @@
--- The pieces of the text, one after the other.
-use Rattle.wasm_types_error.proofs.error.ErrorDisplay.fmt.Goals as goal
-
-pub returns-clause-writes : goal.returns-clause-writes
-returns-clause-writes g c = rw (← c.self.view_is) (rw (c.in_radix.ensures, c.as_str.ensures.value) at c.write.ensures.writes)

@@ -1,7 +1,0 @@
-pub use Rattle.wasm_types_fields.proofs.Rows
-pub mod Equality
-pub mod Copies
-pub mod Counts
-pub mod Values
-pub mod Places
-pub mod Remapping

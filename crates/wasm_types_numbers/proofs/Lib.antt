@@ -1,4 +1,0 @@
-pub mod LebGroups
-pub mod LebSigned
-pub mod LebUnsigned
-pub mod AtOnce
