@@ -1,18 +1,18 @@
 -- The laws of the features, as `specs/Laws.antt` states them.
-use Rattle.std.proofs.Common.{◌≡◌, ℕ, ◌<◌, true, ◌&&◌, nat_eq, List, [], ◌∷◌, get_or, refl, sym, subst, ◌∙◌, ap, arith}
+use Rattle.std.proofs.Common.{◌≡◌, ℕ, ◌<◌, true, false, ◌&&◌, nat_eq, List, [], ◌∷◌, get_or, refl, sym, subst, ◌∙◌, ap, arith}
 use Rattle.std.specs.Int.{bit_at}
 use Rattle.std.specs.Int.RustNames.{bit_and}
-use Rattle.std.proofs.lemmas.Bool.{agree_below_at, eq-eqb, eqb-true}
-use Rattle.std.proofs.lemmas.Nat.{and_assoc, and_le_r}
+use Rattle.std.proofs.lemmas.Bool.{agree_below_at, eq-eqb, eqb-true, ne_eqb}
+use Rattle.std.proofs.lemmas.Nat.{and_assoc, and_le_l, and_le_r}
 use Rattle.std.proofs.lemmas.Nat.Bits.{bit_at-lt, same_from_bits_below}
 use Rattle.wasm_types_settings.specs.declared.inflated.WasmFeaturesInflated.{WasmFeaturesInflated}
 use Rattle.wasm_types_settings.specs.Features.{Feature, mask, place, has, has_bit, has_each, MutableGlobal, SaturatingFloatToInt, SignExtension}
 use Rattle.wasm_types_settings.specs.Features.{ReferenceTypes, MultiValue, BulkMemory, Simd, RelaxedSimd, Threads, SharedEverythingThreads, TailCall}
 use Rattle.wasm_types_settings.specs.Features.{Floats, MultiMemory, Exceptions, Memory64, ExtendedConst, ComponentModel, FunctionReferences}
 use Rattle.wasm_types_settings.specs.Features.{MemoryControl, Gc, CustomPageSizes, LegacyExceptions, GcTypes, StackSwitching, WideArithmetic}
-use Rattle.wasm_types_settings.specs.Features.{CallIndirectOverlong, BulkMemoryOpt, CustomDescriptors}
+use Rattle.wasm_types_settings.specs.Features.{CallIndirectOverlong, BulkMemoryOpt, CustomDescriptors, judges_vectors, vectors_bit}
 use Rattle.wasm_types_settings.specs.Inflated.{field, Packs, settled}
-use Rattle.wasm_types_settings.specs.Laws.{AllowedByBits, LargerAllowsMore, OwnInUnion, OwnInIntersection, OwnInDifference, PackedOnce, InflatedAgain}
+use Rattle.wasm_types_settings.specs.Laws.{AllowedByBits, LargerAllowsMore, OwnInUnion, OwnInIntersection, OwnInDifference, AskedApart, PackedOnce, InflatedAgain}
 use Rattle.wasm_types_settings.proofs.Bits.{or_bit, and_bit, without_bit, one_bit, two_bits}
 use Rattle.wasm_types_settings.proofs.Packing.{place_inside}
 
@@ -38,6 +38,10 @@ larger_allows_more f a b within allowed =
     let whole : bit_and a m ≡ m = eqb-true _ _ allowed in
     let moved : bit_and a (bit_and b m) ≡ m = sym (and_assoc m a b) ∙ ap (λ x. bit_and x m) within ∙ whole in
     eq-eqb _ _ (omega (arith, moved, and_le_r a (bit_and b m), and_le_r b m))
+
+pub asked_apart : AskedApart
+unfolding judges_vectors
+asked_apart bits below = ne_eqb _ _ (λ e. absurd (omega (arith, e, below, and_le_l bits vectors_bit)))
 
 -- ---- the inflated form
 

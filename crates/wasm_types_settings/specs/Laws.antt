@@ -1,9 +1,9 @@
 -- What holds of every set of features.
-use Rattle.std.specs.Prelude.{ℕ, ◌≡◌, ◌<◌, ◌^◌, ◌&&◌, ◌||◌, not, IsTrue}
+use Rattle.std.specs.Prelude.{ℕ, ◌≡◌, ◌<◌, ◌^◌, ◌&&◌, ◌||◌, not, false, IsTrue}
 use Rattle.std.specs.Int.RustNames.{bit_and, bit_or}
 use Rattle.bitflags.specs.Sets.{without}
 use Rattle.wasm_types_settings.specs.declared.inflated.WasmFeaturesInflated.{WasmFeaturesInflated}
-use Rattle.wasm_types_settings.specs.Features.{Feature, has, has_own, has_each}
+use Rattle.wasm_types_settings.specs.Features.{Feature, has, has_own, has_each, judges_vectors}
 use Rattle.wasm_types_settings.specs.Inflated.{Inflates, Packs, settled}
 use Rattle.wasm_types_settings.specs.Sets.{Within}
 
@@ -36,3 +36,7 @@ InflatedAgain = (i j : WasmFeaturesInflated) (bits : ℕ) → Packs i bits → I
 -- a set that was inflated and packed again: each feature that was allowed has its own bit, and no other has
 abbrev pub PackedAgain : Type 0
 PackedAgain = (f : Feature) (i : WasmFeaturesInflated) (bits after : ℕ) → Inflates bits i → Packs i after → has_own f after ≡ has f bits
+
+-- no set of features alone asks that operators on vectors be judged
+abbrev pub AskedApart : Type 0
+AskedApart = (bits : ℕ) → bits < 2 ^ 28 → judges_vectors bits ≡ false

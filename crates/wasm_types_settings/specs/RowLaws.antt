@@ -1,7 +1,7 @@
 -- The rows of `Rows`, each by computing it.
 use Rattle.std.proofs.Common.{refl}
-use Rattle.wasm_types_settings.specs.Features.{has}
-use Rattle.wasm_types_settings.specs.Rows.{MaskRows, SetRows, AllowedRows, CanonicalRows}
+use Rattle.wasm_types_settings.specs.Features.{has, judges_vectors}
+use Rattle.wasm_types_settings.specs.Rows.{MaskRows, SetRows, AllowedRows, CanonicalRows, VectorRows}
 
 pub mask_rows : MaskRows
 mask_rows = record {
@@ -61,3 +61,7 @@ allowed_rows = record {
 pub canonical_rows : CanonicalRows
 unfolding has
 canonical_rows = record { by_function_references = refl; by_collection = refl; by_descriptors = refl; by_continuations = refl; by_none = refl; by_all_others = refl }
+
+pub vector_rows : VectorRows
+unfolding judges_vectors
+vector_rows = record { by_the_bit = refl; with_others = refl; by_default = refl; by_all_features = refl; by_the_next_bit = refl }

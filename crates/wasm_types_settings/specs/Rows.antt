@@ -4,7 +4,7 @@ use Rattle.wasm_types_settings.specs.Features.{MutableGlobal, SaturatingFloatToI
 use Rattle.wasm_types_settings.specs.Features.{RelaxedSimd, Threads, SharedEverythingThreads, TailCall, Floats, MultiMemory, Exceptions, Memory64}
 use Rattle.wasm_types_settings.specs.Features.{ExtendedConst, ComponentModel, FunctionReferences, MemoryControl, Gc, CustomPageSizes}
 use Rattle.wasm_types_settings.specs.Features.{LegacyExceptions, GcTypes, StackSwitching, WideArithmetic, CallIndirectOverlong, BulkMemoryOpt}
-use Rattle.wasm_types_settings.specs.Features.{CustomDescriptors, mask, has, needs_canonical_types}
+use Rattle.wasm_types_settings.specs.Features.{CustomDescriptors, mask, has, needs_canonical_types, judges_vectors}
 use Rattle.wasm_types_settings.specs.Sets.{bits_of, mvp, wasm1, wasm2, wasm3, lime1, default_features}
 
 pub record MaskRows : Type 0 where
@@ -69,3 +69,10 @@ pub record CanonicalRows : Type 0 where
   pub by_continuations : needs_canonical_types 0x800000 ≡ true
   pub by_none : needs_canonical_types 0 ≡ false
   pub by_all_others : needs_canonical_types 0x775ffff ≡ false
+
+pub record VectorRows : Type 0 where
+  pub by_the_bit : judges_vectors 0x10000000 ≡ true
+  pub with_others : judges_vectors 0x164bfdff ≡ true
+  pub by_default : judges_vectors (bits_of default_features) ≡ false
+  pub by_all_features : judges_vectors 0xfffffff ≡ false
+  pub by_the_next_bit : judges_vectors 0x20000000 ≡ false

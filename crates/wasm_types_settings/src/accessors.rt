@@ -5,7 +5,7 @@ ghost use Rattle.wasm_types_settings.specs.Features.{has, needs_canonical_types,
 ghost use Rattle.wasm_types_settings.specs.Features.{MultiValue, BulkMemory, Simd, RelaxedSimd, Threads, SharedEverythingThreads, TailCall, Floats};
 ghost use Rattle.wasm_types_settings.specs.Features.{MultiMemory, Exceptions, Memory64, ExtendedConst, ComponentModel, FunctionReferences};
 ghost use Rattle.wasm_types_settings.specs.Features.{MemoryControl, Gc, CustomPageSizes, LegacyExceptions, GcTypes, StackSwitching, WideArithmetic};
-ghost use Rattle.wasm_types_settings.specs.Features.{CallIndirectOverlong, BulkMemoryOpt, CustomDescriptors};
+ghost use Rattle.wasm_types_settings.specs.Features.{CallIndirectOverlong, BulkMemoryOpt, CustomDescriptors, judges_vectors};
 
 use crate::features::WasmFeatures;
 use bitflags::Flags;
@@ -234,6 +234,15 @@ impl WasmFeatures {
         ensures { result ≡ has CustomDescriptors self.now.0 }
     {
         self.contains(WasmFeatures::CUSTOM_DESCRIPTORS)
+    }
+
+    /// Whether operators on vectors are judged.
+    #[inline]
+    #[tactic(auto, unfolding(crate::specs::Features::judges_vectors))]
+    pub fn vector_operators(&self) -> bool
+        ensures { result ≡ judges_vectors self.now.0 }
+    {
+        self.contains(WasmFeatures::VECTOR_OPERATORS)
     }
 
     /// Whether types have to be made canonical, since a type may refer to another by its index.

@@ -135,6 +135,12 @@ impl Flags for WasmFeatures {
 }
 
 impl WasmFeatures {
+    /// The switch by which operators on vectors are judged as all others are; without it they are refused.
+    ///
+    /// It is no feature: `all`, the named sets, `iter` and `from_name` leave it out, and the operators need `SIMD` or
+    /// `RELAXED_SIMD` besides.
+    pub const VECTOR_OPERATORS: WasmFeatures = WasmFeatures(1 << 28);
+
     /// The first release of WebAssembly, without mutable globals at a module's border.
     pub const MVP: WasmFeatures = WasmFeatures(Self::FLOATS.0 | Self::GC_TYPES.0);
 

@@ -1,8 +1,8 @@
 //! Laws of the features, each the contract of a function that does nothing.
 
 ghost use Rattle.std.specs.Prelude.{◌≡◌};
-ghost use Rattle.wasm_types_settings.specs.Laws.{AllowedByBits, LargerAllowsMore, OwnInUnion, OwnInIntersection, OwnInDifference, PackedOnce, InflatedAgain, PackedAgain};
-ghost use Rattle.wasm_types_settings.specs.Rows.{MaskRows, SetRows, AllowedRows, CanonicalRows};
+ghost use Rattle.wasm_types_settings.specs.Laws.{AllowedByBits, LargerAllowsMore, OwnInUnion, OwnInIntersection, OwnInDifference, AskedApart, PackedOnce, InflatedAgain, PackedAgain};
+ghost use Rattle.wasm_types_settings.specs.Rows.{MaskRows, SetRows, AllowedRows, CanonicalRows, VectorRows};
 ghost use Rattle.wasm_types_settings.specs.Sets.{bits_of, mvp, wasm1, wasm2, wasm3, lime1, default_features, Within};
 
 use crate::features::WasmFeatures;
@@ -35,6 +35,12 @@ pub const fn allowed_features()
     ensures in_difference { OwnInDifference }
 {}
 
+/// Operators on vectors are judged by no set of the 28 features alone.
+#[tactic(auto, using(crate::proofs::SetLaws::asked_apart))]
+pub const fn vectors_are_asked_for()
+    ensures { AskedApart }
+{}
+
 /// The inflated form and back, both ways round.
 pub const fn inflated_forms()
     ensures packed_once { PackedOnce }
@@ -43,10 +49,11 @@ pub const fn inflated_forms()
 {}
 
 /// Sets that were worked by hand: the bits of each feature's name and of each named set, and what some sets allow.
-#[tactic(auto, using(crate::specs::RowLaws::mask_rows, crate::specs::RowLaws::set_rows, crate::specs::RowLaws::allowed_rows, crate::specs::RowLaws::canonical_rows))]
+#[tactic(auto, using(crate::specs::RowLaws::mask_rows, crate::specs::RowLaws::set_rows, crate::specs::RowLaws::allowed_rows, crate::specs::RowLaws::canonical_rows, crate::specs::RowLaws::vector_rows))]
 pub const fn worked_sets()
     ensures masks { MaskRows }
     ensures sets { SetRows }
     ensures allowed { AllowedRows }
     ensures canonical { CanonicalRows }
+    ensures vectors { VectorRows }
 {}
