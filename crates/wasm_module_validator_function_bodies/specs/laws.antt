@@ -1,5 +1,4 @@
 pub mod Locals
-pub mod Operators
 pub mod Trying
 pub mod Reading
 pub mod Functions

@@ -3,18 +3,15 @@
 ghost use Rattle.std.specs.Prelude.{◌≡◌, Some, true, false};
 ghost use Rattle.wasm_types.specs.decoding.Denials.{RefusedAt};
 ghost use Rattle.wasm_operators_enums.specs.Op.{Op, op_of};
-ghost use Rattle.wasm_operators_visit_operator.specs.Vectors.{is_simd};
-ghost use Rattle.wasm_operator_validator_arity.specs.resources.Meaning.{Meaning};
 ghost use Rattle.wasm_operator_validator_state.specs.Refusals.{kind_of, refused, refused_by};
 ghost use Rattle.wasm_operator_validator_state.specs.State.{Visits};
 ghost use Rattle.wasm_module_validator_function_bodies.specs.Trying.{Tries};
 
 use crate::FuncValidator;
 use wasm_operator_validator_driver::{AsRefusal, ValidatingVisitor, ValidatingWalk};
-use wasm_operator_validator_expression::TellOperator;
-use wasm_operator_validator_stacks::{OperatorValidator, Reason, Refusal, WasmModuleResources};
+use wasm_operator_validator_expression::TellSimdOperator;
+use wasm_operator_validator_stacks::{OperatorValidator, Refusal, WasmModuleResources};
 use wasm_operators_visit::Operator;
-use wasm_operators_visit_operator::is_simd;
 use wasm_types::Result;
 
 impl<R: WasmModuleResources> FuncValidator<R> {
@@ -79,9 +76,6 @@ fn judge<R: WasmModuleResources>(
     ensures visits { Visits (R.meaning resources.now) validator.old (op_of operator.entry)
         (refused result) validator.new }
 {
-    if is_simd(&operator) {
-        return Err(refuse_vectors(validator));
-    }
     let mut walk = ValidatingWalk {
         visitor: ValidatingVisitor {
             inner: validator,
@@ -99,13 +93,12 @@ fn tell<R: WasmModuleResources>(
     walk: &mut ValidatingWalk<'_, '_, R>,
     operator: Operator<'_>,
 ) -> std::result::Result<(), Refusal>
-    requires { is_simd (op_of operator) ≡ false }
     ensures visits { Visits (R.meaning walk.old.visitor.resources.now) walk.old.visitor.inner.now (op_of operator.entry)
         (refused result) walk.new.visitor.inner.now }
     ensures lent { walk.new.visitor.inner.ghost_name ≡ walk.old.visitor.inner.ghost_name }
     ensures resources { walk.new.visitor.resources.now ≡ walk.old.visitor.resources.now }
 {
-    walk.tell(operator)
+    walk.tell_simd(operator)
 }
 
 /// The validator that a walk was lent. A walk ends here: taken apart in the function that made it, it would not tell the proof what the
@@ -122,17 +115,4 @@ fn lent_validator<'v, 'r, R: WasmModuleResources>(
         answer: _answer,
     } = visitor;
     inner
-}
-
-/// Refuses an operator on vectors: none has a rule.
-#[cold]
-fn refuse_vectors(validator: &mut OperatorValidator) -> Refusal
-    ensures visits { (m : Meaning) (o : Op) → is_simd o ≡ true
-        → Visits m validator.old o (Some (kind_of result)) validator.new }
-{
-    if validator.has_failed() {
-        return Refusal::AfterRefusal;
-    }
-    validator.fail();
-    Refusal::Because(Reason::Unsupported)
 }

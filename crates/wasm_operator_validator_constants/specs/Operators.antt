@@ -22,6 +22,8 @@ use Rattle.wasm_operators_enums.specs.declared.gc.DescriptorOperator.TheVariants
 use Rattle.wasm_operators_enums.specs.Op as op
 use Rattle.wasm_operators_enums.specs.Op.{Op}
 use Rattle.wasm_operator_validator_rules.specs.Context.{Module, Global}
+use Rattle.wasm_operators_enums.specs.declared.vector.SimdOperator.{SimdOperator}
+use Rattle.wasm_operators_enums.specs.declared.vector.SimdOperator.TheVariants as simd
 use Rattle.wasm_operator_validator_rules.specs.constants.Constants.{IsConstantOperator}
 use Rattle.wasm_operator_validator_state.specs.Refusals.{kind_of}
 use Rattle.wasm_operator_validator_constants.specs.declared.refusal.ConstantRefusal.{ConstantRefusal}
@@ -68,6 +70,10 @@ abbrev pub is_shared_number : SharedOperator → Bool
 is_shared_number shared.RefI31Shared = true
 is_shared_number o = false
 
+abbrev pub is_vector : SimdOperator → Bool
+is_vector (simd.V128Const v) = true
+is_vector o = false
+
 abbrev pub ends_frame : ControlOperator → Bool
 ends_frame control.End = true
 ends_frame o = false
@@ -81,6 +87,7 @@ is_listed (op.Gc o) = is_object o
 is_listed (op.Descriptor o) = is_described o
 is_listed (op.Shared o) = is_shared_number o
 is_listed (op.Control o) = ends_frame o
+is_listed (op.Simd o) = is_vector o
 is_listed o = false
 
 -- it is then by these

@@ -12,7 +12,8 @@ use Rattle.wasm_operators_enums.specs.Op.{Op}
 use Rattle.wasm_operators_encoding.specs.expressions.Code.{Code, walk}
 use Rattle.wasm_operators_encoding.specs.expressions.Spelling.{SpelledExpression}
 use Rattle.wasm_operators_reader.specs.Standing.{Standing, at_start}
-use Rattle.wasm_operators_reader.specs.Walking.{VisitsAll, WalksTo, WalksUntilAt, StopsPlain}
+use Rattle.wasm_operators_reader.specs.Walking.{VisitsAll}
+use Rattle.wasm_operators_reader.specs.walks.Whole.{TellsTo, TellsUntilAt, Stops}
 use Rattle.wasm_operator_validator_state.specs.resources.Meaning.{Meaning}
 use Rattle.wasm_operator_validator_state.specs.Refusals.{OfContent}
 use Rattle.wasm_operator_validator_state.specs.State.{State, Accepts, Visits}
@@ -45,13 +46,13 @@ AcceptsTested Passes m σ s = (c : Code) × SpelledExpression s.settings c s.res
 
 -- some operators were accepted, and behind them nothing more is read
 abbrev pub StopsReading : (Op → Type 0) → (Op → ErrorKind → Type 0) → Meaning → State → Bytes → ErrorValue → Type 0
-StopsReading Passes Why m σ s e = (t : Standing) × (ρ : State) × WalksTo (VisitsTested Passes Why m) None (at_start s) σ t ρ
-    × StopsPlain t e
+StopsReading Passes Why m σ s e = (t : Standing) × (ρ : State) × TellsTo (VisitsTested Passes Why m) None (at_start s) σ t ρ
+    × Stops t e
 
 -- some operators were accepted, and the next is refused, at its offset
 abbrev pub StopsAtOperator : (Op → Type 0) → (Op → ErrorKind → Type 0) → Meaning → State → Bytes → ErrorValue → Type 0
 StopsAtOperator Passes Why m σ s e =
-    (place : ℕ) × (τ : State) × WalksUntilAt (VisitsTested Passes Why m) None (at_start s) σ (Some e.kind) τ place × OfContent e.kind (e.offset ≡ place)
+    (place : ℕ) × (τ : State) × TellsUntilAt (VisitsTested Passes Why m) None (at_start s) σ (Some e.kind) τ place × OfContent e.kind (e.offset ≡ place)
 
 -- an expression was accepted, to the end of the bytes, and a frame is still open
 abbrev pub StopsAtEnd : (Op → Type 0) → (Op → ErrorKind → Type 0) → Meaning → State → Bytes → ErrorValue → Type 0

@@ -4,7 +4,7 @@ ghost use Rattle.std.specs.Prelude.{◌≡◌, ℕ, false, IfOk, IfErr};
 ghost use Rattle.wasm_operators_enums.specs.Op.{Op, op_of};
 ghost use Rattle.wasm_operator_validator_rules.specs.constants.Constants.{IsConstantOperator};
 ghost use Rattle.wasm_operator_validator_constants.specs.Operators.{global_read, is_sum, is_object, is_described, is_reference};
-ghost use Rattle.wasm_operator_validator_constants.specs.Operators.{is_shared_number, ends_frame, is_listed, is_allowed};
+ghost use Rattle.wasm_operator_validator_constants.specs.Operators.{is_vector, is_shared_number, ends_frame, is_listed, is_allowed};
 ghost use Rattle.wasm_operator_validator_constants.specs.Operators.{allowing, IsOf, RefusesOperator};
 
 use crate::ConstantRefusal;
@@ -12,6 +12,7 @@ use crate::globals::check_global;
 use wasm_operator_validator_stacks::{BulkOperator, MemoryOperator, WasmModuleResources};
 use wasm_operators_reader::walks::{
     ControlOperator, DescriptorOperator, GcOperator, NumericOperator, Operator, SharedOperator,
+    SimdOperator,
 };
 use wasm_types::WasmFeatures;
 
@@ -87,8 +88,9 @@ fn is_listed(op: &Operator<'_>) -> bool
         Operator::Descriptor(op) => is_described(op),
         Operator::Shared(op) => is_shared_number(op),
         Operator::Control(op) => ends_frame(op),
+        Operator::Simd(op) => is_vector(op),
         Operator::Parametric(_) | Operator::Exception(_) | Operator::Memory(_) => false,
-        Operator::Simd(_) | Operator::SimdNumeric(_) => false,
+        Operator::SimdNumeric(_) => false,
         Operator::Atomic(_) | Operator::Continuation(_) => false,
     }
 }
@@ -180,6 +182,13 @@ fn is_shared_number(op: &SharedOperator) -> bool
     ensures { result ≡ is_shared_number op.now }
 {
     matches!(op, SharedOperator::RefI31Shared)
+}
+
+/// A vector.
+fn is_vector(op: &SimdOperator) -> bool
+    ensures { result ≡ is_vector op.now }
+{
+    matches!(op, SimdOperator::V128Const { .. })
 }
 
 /// `end`.

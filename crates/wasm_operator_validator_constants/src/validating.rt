@@ -10,7 +10,9 @@ ghost use Rattle.wasm_operator_validator_constants.specs.Checked.{Surroundings, 
 use crate::ConstantRefusal;
 use crate::refusal::constant_error_at;
 use std::alloc::Global;
-use wasm_operators_reader::walks::{TellOperator, TellPlain, tell_expression_with_offset};
+use wasm_operators_reader::walks::{
+    TellOperator, TellPlain, TellSimdOperator, tell_whole_with_offset,
+};
 use wasm_types::{BinaryReader, Error, Result};
 
 /// A visitor that tests each operator, and validates those that are constant.
@@ -18,7 +20,8 @@ pub trait ValidatingConstants<'a>: TellOperator<
     'a,
     Output = std::result::Result<(), ConstantRefusal>,
 >
-    + TellPlain<'a, ConstantRefusal> {
+    + TellPlain<'a, ConstantRefusal>
+    + TellSimdOperator<'a> {
     ghost use Rattle.wasm_operator_validator_constants.specs.declared.refusal.ConstantRefusal.{ConstantRefusal as Why};
 
     /// What it judges by.
@@ -52,7 +55,7 @@ pub(crate) fn validate_constant_operators<'a, V: ValidatingConstants<'a>>(
 {
     let whole = reader.remaining_range();
     let start = reader.clone();
-    let end = match tell_expression_with_offset(alloc, reader, visitor) {
+    let end = match tell_whole_with_offset(alloc, reader, visitor) {
         Ok(end) => end,
         Err(error) => return Err(error),
     };

@@ -9,7 +9,8 @@ use crate::ConstantRefusal;
 use crate::operators::is_constant_operator;
 use crate::validating::ValidatingConstants;
 use wasm_operator_validator_driver::ValidatingWalk;
-use wasm_operator_validator_stacks::WasmModuleResources;
+use wasm_operator_validator_expression::{TellSimdOperator, is_simd};
+use wasm_operator_validator_stacks::{Reason, Refusal, WasmModuleResources};
 use wasm_operators_reader::walks::{Operator, TellOperator, TellPlain, Visitor};
 use wasm_types::WasmFeatures;
 
@@ -73,6 +74,33 @@ impl<'a, 'v, 'r, R: WasmModuleResources> TellOperator<'a> for ConstantWalk<'v, '
         features: WasmFeatures,
     ) -> Option<(Result<(), ConstantRefusal>, usize)> {
         None
+    }
+}
+
+impl<'a, 'v, 'r, R: WasmModuleResources> TellSimdOperator<'a> for ConstantWalk<'v, 'r, R> {
+    // Without the switch an operator on vectors is refused for that, whether it is constant or not.
+    fn tell_simd(&mut self, op: Operator<'a>) -> Result<(), ConstantRefusal> {
+        if !is_simd(&op) {
+            return self.tell(op);
+        }
+        if !self.walk.visitor.inner.features().vector_operators() {
+            self.walk.visitor.inner.fail();
+            return Err(ConstantRefusal::Invalid(Refusal::Because(Reason::Vectors)));
+        }
+        let tested = is_constant_operator(
+            &op,
+            self.features,
+            self.walk.visitor.resources,
+            self.imported_globals,
+        );
+        if let Err(refusal) = tested {
+            self.walk.visitor.inner.fail();
+            return Err(refusal);
+        }
+        if let Err(refused) = self.walk.tell_simd(op) {
+            return Err(ConstantRefusal::Invalid(refused));
+        }
+        Ok(())
     }
 }
 

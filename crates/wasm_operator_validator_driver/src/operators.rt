@@ -13,7 +13,7 @@ use wasm_operator_validator_visits::{AsRefusal, ValidatingVisitor};
 use wasm_operators_visit::{
     AtomicOperator, BulkOperator, ConstOperator, ContinuationOperator, ControlOperator,
     DescriptorOperator, ExceptionOperator, GcOperator, MemoryOperator, NumericOperator,
-    ParametricOperator, SharedOperator,
+    ParametricOperator, SharedOperator, SimdNumericOperator, SimdOperator,
 };
 use wasm_operators_visit_operator::{
     visit_atomic, visit_bulk, visit_const, visit_continuation, visit_control, visit_descriptor,
@@ -186,4 +186,32 @@ pub(crate) fn tell_shared<R: WasmModuleResources>(
     ensures resources { visitor.new.resources.now ≡ visitor.old.resources.now }
 {
     visit_shared(visitor, op)
+}
+
+/// Of vectors, with what they carry.
+#[inline]
+pub(crate) fn tell_simd<R: WasmModuleResources>(
+    visitor: &mut ValidatingVisitor<'_, '_, R, AsRefusal>,
+    op: SimdOperator,
+) -> Result<(), Refusal>
+    ensures visits { Visits (R.meaning visitor.old.resources.now) visitor.old.inner.now (Op.Simd op)
+        (refused result) visitor.new.inner.now }
+    ensures lent { visitor.new.inner.ghost_name ≡ visitor.old.inner.ghost_name }
+    ensures resources { visitor.new.resources.now ≡ visitor.old.resources.now }
+{
+    visitor.simd(op)
+}
+
+/// Of vectors, without.
+#[inline]
+pub(crate) fn tell_simd_numeric<R: WasmModuleResources>(
+    visitor: &mut ValidatingVisitor<'_, '_, R, AsRefusal>,
+    op: SimdNumericOperator,
+) -> Result<(), Refusal>
+    ensures visits { Visits (R.meaning visitor.old.resources.now) visitor.old.inner.now (Op.SimdNumeric op)
+        (refused result) visitor.new.inner.now }
+    ensures lent { visitor.new.inner.ghost_name ≡ visitor.old.inner.ghost_name }
+    ensures resources { visitor.new.resources.now ≡ visitor.old.resources.now }
+{
+    visitor.simd_numeric(op)
 }

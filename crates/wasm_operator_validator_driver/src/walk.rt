@@ -9,7 +9,8 @@ ghost use Rattle.wasm_operator_validator_expression.specs.Validating.{Validates}
 use crate::objects::{tell_object, tell_reference};
 use crate::operators::{
     tell_atomic, tell_bulk, tell_const, tell_continuation, tell_control, tell_descriptor,
-    tell_exception, tell_gc, tell_memory, tell_numeric, tell_parametric, tell_shared,
+    tell_exception, tell_gc, tell_memory, tell_numeric, tell_parametric, tell_shared, tell_simd,
+    tell_simd_numeric,
 };
 use crate::short::{
     tell_alone, tell_block, tell_f32_const, tell_f64_const, tell_global, tell_i32_const,
@@ -18,8 +19,8 @@ use crate::short::{
 };
 use std::alloc::Global;
 use wasm_operator_validator_expression::{
-    OperatorsReaderAllocations, Refused, TellOperator, TellPlain, Validating, accepts_operators,
-    validate_operators,
+    OperatorsReaderAllocations, Refused, TellOperator, TellPlain, TellSimdOperator, Validating,
+    accepts_operators, validate_operators,
 };
 use wasm_operator_validator_stacks::{OperatorValidator, Refusal, WasmModuleResources};
 use wasm_operator_validator_straight_line::run_plain;
@@ -153,6 +154,27 @@ impl<'a, 'v, 'r, R: WasmModuleResources> TellOperator<'a> for ValidatingWalk<'v,
     }
 }
 
+impl<'a, 'v, 'r, R: WasmModuleResources> TellSimdOperator<'a> for ValidatingWalk<'v, 'r, R> {
+    fn tell_simd(&mut self, op: Operator<'a>) -> Result<(), Refusal> {
+        match op {
+            Operator::Control(op) => tell_control(&mut self.visitor, op),
+            Operator::Parametric(op) => tell_parametric(&mut self.visitor, op),
+            Operator::Exception(op) => tell_exception(&mut self.visitor, op),
+            Operator::Memory(op) => tell_memory(&mut self.visitor, op),
+            Operator::Const(op) => tell_const(&mut self.visitor, op),
+            Operator::Numeric(op) => tell_numeric(&mut self.visitor, op),
+            Operator::Bulk(op) => tell_bulk(&mut self.visitor, op),
+            Operator::Gc(op) => tell_gc(&mut self.visitor, op),
+            Operator::Descriptor(op) => tell_descriptor(&mut self.visitor, op),
+            Operator::Simd(op) => tell_simd(&mut self.visitor, op),
+            Operator::SimdNumeric(op) => tell_simd_numeric(&mut self.visitor, op),
+            Operator::Atomic(op) => tell_atomic(&mut self.visitor, op),
+            Operator::Shared(op) => tell_shared(&mut self.visitor, op),
+            Operator::Continuation(op) => tell_continuation(&mut self.visitor, op),
+        }
+    }
+}
+
 /// The same, which keeps why the last operator that is refused is: so the loop over operators has an answer of one bit, and none of its
 /// places is made ready for a refusal.
 pub struct NotingWalk<'v, 'r, R: WasmModuleResources> {
@@ -217,6 +239,18 @@ impl<'a, 'v, 'r, R: WasmModuleResources> TellOperator<'a> for NotingWalk<'v, 'r,
             return Some((Err(Refused), end));
         }
         Some((Ok(()), end))
+    }
+}
+
+impl<'a, 'v, 'r, R: WasmModuleResources> TellSimdOperator<'a> for NotingWalk<'v, 'r, R> {
+    fn tell_simd(&mut self, op: Operator<'a>) -> Result<(), Refused> {
+        match self.walk.tell_simd(op) {
+            Ok(()) => Ok(()),
+            Err(refusal) => {
+                self.refusal = refusal;
+                Err(Refused)
+            }
+        }
     }
 }
 

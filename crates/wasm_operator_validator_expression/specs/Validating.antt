@@ -9,7 +9,8 @@ use Rattle.wasm_operators_immediates.specs.declared.block.BlockType.{BlockType}
 use Rattle.wasm_operators_encoding.specs.expressions.Code.{Code, walk}
 use Rattle.wasm_operators_encoding.specs.expressions.Spelling.{SpelledExpression}
 use Rattle.wasm_operators_reader.specs.Standing.{Standing, at_start}
-use Rattle.wasm_operators_reader.specs.Walking.{VisitsAll, WalksTo, WalksUntilAt, StopsPlain}
+use Rattle.wasm_operators_reader.specs.Walking.{VisitsAll}
+use Rattle.wasm_operators_reader.specs.walks.Whole.{TellsTo, TellsUntilAt, Stops}
 use Rattle.wasm_operator_validator_rules.specs.Typed.{IsBody}
 use Rattle.wasm_operator_validator_state.specs.resources.Meaning.{Meaning}
 use Rattle.wasm_operator_validator_state.specs.declared.refusal.Refusal.{Refusal}
@@ -48,11 +49,11 @@ StopsAtOnce σ s e = (σ.failed ≡ true) × (e.kind ≡ kinds.Failed) × (e.off
 
 -- some operators were accepted, and behind them nothing more is read
 abbrev pub StopsReading : Meaning → State → Bytes → ErrorValue → Type 0
-StopsReading m σ s e = (t : Standing) × (ρ : State) × WalksTo (Visits m) None (at_start s) σ t ρ × StopsPlain t e
+StopsReading m σ s e = (t : Standing) × (ρ : State) × TellsTo (Visits m) None (at_start s) σ t ρ × Stops t e
 
 -- some operators were accepted, and the next is refused, at its offset
 abbrev pub StopsAtOperator : Meaning → State → Bytes → ErrorValue → State → Type 0
-StopsAtOperator m σ s e τ = (place : ℕ) × WalksUntilAt (Visits m) None (at_start s) σ (Some e.kind) τ place
+StopsAtOperator m σ s e τ = (place : ℕ) × TellsUntilAt (Visits m) None (at_start s) σ (Some e.kind) τ place
     × OfContent e.kind (e.offset ≡ place)
 
 -- an expression was accepted, to the end of the bytes, and a frame is still open

@@ -11,7 +11,8 @@ use crate::naming::error_at;
 use std::alloc::Global;
 use wasm_operator_validator_state::Refusal;
 use wasm_operators_reader::walks::{
-    OperatorsReaderAllocations, TellOperator, TellPlain, tell_expression_with_offset, tells_whole,
+    OperatorsReaderAllocations, TellOperator, TellPlain, TellSimdOperator, tell_whole_with_offset,
+    tells_whole_with_vectors,
 };
 use wasm_types::{BinaryReader, Error, Result};
 
@@ -19,9 +20,10 @@ use wasm_types::{BinaryReader, Error, Result};
 #[derive(Clone, Copy, Debug, PartialEq, Eq)]
 pub struct Refused;
 
-/// A visitor that validates all operators but those on vectors, and keeps a refusal of few bytes.
+/// A visitor that validates all operators, and keeps a refusal of few bytes.
 pub trait Validating<'a>: TellOperator<'a, Output = std::result::Result<(), Refused>>
-    + TellPlain<'a, Refused> {
+    + TellPlain<'a, Refused>
+    + TellSimdOperator<'a> {
     ghost use Rattle.wasm_operator_validator_state.specs.declared.refusal.Refusal.{Refusal as Why};
     ghost use Rattle.wasm_operator_validator_expression.specs.declared.validating.Refused.{Refused as Sign};
     ghost use Rattle.wasm_operator_validator_expression.specs.Validating.{refused_for};
@@ -88,7 +90,7 @@ pub fn validate_operators<'a, V: Validating<'a>>(
         return Err(Error::failed("an operator was refused before", whole.start));
     }
     let start = reader.clone();
-    let end = match tell_expression_with_offset(alloc, reader, visitor) {
+    let end = match tell_whole_with_offset(alloc, reader, visitor) {
         Ok(end) => end,
         Err(error) => {
             visitor.fail();
@@ -122,7 +124,7 @@ pub fn accepts_operators<'a, V: Validating<'a>>(
     if visitor.has_failed() {
         return false;
     }
-    if !tells_whole(alloc, frames, reader, visitor) {
+    if !tells_whole_with_vectors(alloc, frames, reader, visitor) {
         return false;
     }
     visitor.is_done()

@@ -6,3 +6,4 @@ pub mod WorkedObjects
 pub mod WorkedCodes
 pub mod WorkedClauses
 mod WorkedCounts
+pub mod WorkedVectors

@@ -2,7 +2,7 @@
 -- constants, globals, memories, tables, atomic accesses and calls of references. An operator whose type is free in something has a row of its own
 -- (`Row.antt`), and none here.
 use Rattle.std.specs.Prelude.{ℕ, Bool, true, false, not, List, [], ◌∷◌, ◌++◌, ◌&&◌, replicate, is_some, Option, Some, None, slice_get, nat_lt, if◌then◌else◌}
-use Rattle.wasm_types.specs.settings.Features.{CustomDescriptors, has}
+use Rattle.wasm_types.specs.settings.Features.{CustomDescriptors, has, judges_vectors}
 use Rattle.wasm_types.specs.trees.Types.{i32, i31, number, ref, HeapOf, abstract, concrete, exact}
 use Rattle.wasm_types.specs.trees.Trees.{TypeTree, opened}
 use Rattle.wasm_types.specs.trees.Below.{expanded}
@@ -18,6 +18,8 @@ use Rattle.wasm_operators_enums.specs.declared.atomic.AtomicOperator.{AtomicOper
 use Rattle.wasm_operators_enums.specs.declared.atomic.AtomicOperator.TheVariants as atomic
 use Rattle.wasm_operators_enums.specs.declared.gc.GcOperator.{GcOperator}
 use Rattle.wasm_operators_enums.specs.declared.gc.GcOperator.TheVariants as gc
+use Rattle.wasm_operators_enums.specs.declared.vector.SimdOperator.{SimdOperator}
+use Rattle.wasm_operators_enums.specs.declared.vector_numeric.SimdNumericOperator.{SimdNumericOperator}
 use Rattle.wasm_operators_enums.specs.Op as op
 use Rattle.wasm_operators_enums.specs.Op.{Op}
 use Rattle.wasm_operator_validator_rules.specs.Operands.{ValueType}
@@ -27,6 +29,7 @@ use Rattle.wasm_operator_validator_rules.specs.Aggregates.{Struct, Array, struct
 use Rattle.wasm_operator_validator_rules.specs.Places.{unpacked, is_packed, is_of_bytes, has_default, have_defaults, operands_for, Place, field_place, element_place}
 use Rattle.wasm_operator_validator_rules.specs.Numbers.{numbers, class_of, taken_by, given_by, constant_type}
 use Rattle.wasm_operator_validator_rules.specs.Accesses.{AccessOf, access_of, atomic_access_of, operands_of, results_of, may_access}
+use Rattle.wasm_operator_validator_rules.specs.Vectors.{VectorClass, vectors_taken, vectors_given, VectorWork, on_lanes, reaches, work_of, vector_class}
 
 -- what is taken off the operands and what is put on, the last on top (validation, conventions, instruction types)
 pub record InstructionType : Type 0 where
@@ -181,6 +184,23 @@ gc_type_of g (gc.RefCastNullable h) = cast_at g h (λ k. ref true k)
 gc_type_of g gc.RefI31 = Some (i32_type ∷ [] ⟶ ref false (abstract false i31) ∷ [])
 gc_type_of g o = None
 
+-- of vectors, if they are judged
+abbrev pub where_vectors : Context → Option InstructionType → Option InstructionType
+where_vectors g t = if judges_vectors g.bits then t else None
+
+abbrev pub lanes_type : VectorClass → InstructionType
+lanes_type c = numbers (vectors_taken c) ⟶ numbers (vectors_given c)
+
+abbrev pub work_type : Context → VectorWork → Option InstructionType
+work_type g (on_lanes c) = Some (lanes_type c)
+work_type g (reaches a) = accesses g false (Some a)
+
+abbrev pub simd_type_of : Context → SimdOperator → Option InstructionType
+simd_type_of g o = where_vectors g (work_type g (work_of o))
+
+abbrev pub simd_numeric_type_of : Context → SimdNumericOperator → Option InstructionType
+simd_numeric_type_of g o = where_vectors g (Some (lanes_type (vector_class o)))
+
 -- what an operator takes and gives, where the module determines it
 abbrev pub instruction_type : Context → Op → Option InstructionType
 instruction_type g (op.Control o) = control_type_of g o
@@ -190,4 +210,6 @@ instruction_type g (op.Numeric o) = Some (numbers (taken_by (class_of o)) ⟶ nu
 instruction_type g (op.Bulk o) = bulk_type_of g o
 instruction_type g (op.Atomic o) = atomic_type_of g o
 instruction_type g (op.Gc o) = gc_type_of g o
+instruction_type g (op.Simd o) = simd_type_of g o
+instruction_type g (op.SimdNumeric o) = simd_numeric_type_of g o
 instruction_type g o = None

@@ -4,6 +4,7 @@ pub mod Context
 pub mod Named
 pub mod Numbers
 pub mod Accesses
+pub mod Vectors
 pub mod Aggregates
 pub mod Places
 pub mod InstructionTypes

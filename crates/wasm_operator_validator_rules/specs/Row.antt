@@ -22,6 +22,7 @@ use Rattle.wasm_operator_validator_rules.specs.Operands.{ValueType, Operand, bot
 use Rattle.wasm_operator_validator_rules.specs.Context.{Context, Table, Initialised, Signature, IsFunctionType, IsType, MayUse, address_type}
 use Rattle.wasm_operator_validator_rules.specs.Numbers.{class_of, has_float, constant_type, is_float}
 use Rattle.wasm_operator_validator_rules.specs.Accesses.{AccessOf, access_of, moves_float}
+use Rattle.wasm_operator_validator_rules.specs.Vectors.{has_float_lanes, has_float_work, work_of, vector_class}
 use Rattle.wasm_operator_validator_rules.specs.Named.{used_type}
 use Rattle.wasm_operator_validator_rules.specs.InstructionTypes.{i32_type, shorter, reference_to}
 pub use Rattle.wasm_operator_validator_rules.specs.Taken.{Takes, TableRow, IsLabel}
@@ -150,6 +151,8 @@ abbrev pub names_float : Op → Bool
 names_float (op.Numeric o) = has_float (class_of o)
 names_float (op.Const o) = is_float (constant_type o)
 names_float (op.Memory o) = float_access (access_of o)
+names_float (op.Simd o) = has_float_work (work_of o)
+names_float (op.SimdNumeric o) = has_float_lanes (vector_class o)
 names_float o = false
 
 -- the features of the operator's proposal, and floats where it has one in its name

@@ -8,3 +8,4 @@ pub mod ObjectRows
 pub mod Codes
 pub mod Exceptions
 pub mod Clauses
+pub mod Vectors

@@ -17,5 +17,5 @@ pub use wasm_operators_encoding::expressions::{
 };
 pub use worked::{
     clauses_are_worked, code_is_worked, exceptions_are_worked, instruction_types_are_worked,
-    objects_are_worked, references_are_worked, rows_are_worked,
+    objects_are_worked, references_are_worked, rows_are_worked, vectors_are_worked,
 };

@@ -9,6 +9,8 @@ ghost use Rattle.wasm_operator_validator_rules.specs.worked.ObjectRows.{GcRowsWo
 ghost use Rattle.wasm_operator_validator_rules.specs.worked.Codes.{CodesWorked, PartsWorked};
 ghost use Rattle.wasm_operator_validator_rules.specs.worked.Exceptions.{ExceptionsWorked, CatchesWorked};
 ghost use Rattle.wasm_operator_validator_rules.specs.worked.Clauses.{ClausesWorked};
+ghost use Rattle.wasm_operators_immediates.specs.declared.vector.V128.{V128};
+ghost use Rattle.wasm_operator_validator_rules.specs.worked.Vectors.{VectorTypesWorked, VectorAccessesWorked, VectorsRefused, VectorRowsWorked};
 
 /// Instruction types by the table, and operators for which it has none.
 #[tactic(auto, using(crate::proofs::WorkedTypes::numbers_worked, crate::proofs::WorkedTypes::accesses_worked, crate::proofs::WorkedTypes::spaces_worked))]
@@ -63,4 +65,13 @@ pub fn objects_are_worked()
     ensures rows { GcRowsWorked }
     ensures operands { ObjectOperandsWorked }
     ensures branches { CastBranchesWorked }
+{}
+
+/// Operators on vectors: instruction types by the table, that there are none while the switch is off, rows that hold and rows that do not.
+#[tactic(auto, using(crate::proofs::WorkedVectors::vector_types_worked, crate::proofs::WorkedVectors::vector_accesses_worked, crate::proofs::WorkedVectors::vectors_refused, crate::proofs::WorkedVectors::vector_rows_worked))]
+pub fn vectors_are_worked()
+    ensures types { (value : V128) → VectorTypesWorked value }
+    ensures accesses { VectorAccessesWorked }
+    ensures refused { (value : V128) → VectorsRefused value }
+    ensures rows { (value : V128) → VectorRowsWorked value }
 {}

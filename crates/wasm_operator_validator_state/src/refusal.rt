@@ -152,6 +152,8 @@ pub enum Reason {
     DelegateOutsideTry,
     /// A `rethrow` of what no clause has caught.
     RethrowOutsideCatch,
+    /// The operator is one on vectors, and the features do not ask that those be judged.
+    Vectors,
     /// The operator has no rule here yet.
     Unsupported,
 }

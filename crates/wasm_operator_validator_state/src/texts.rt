@@ -310,6 +310,7 @@ pub fn reason_text(reason: Reason) -> &'static str {
         Reason::CatchAllOutsideTry => "catch_all found outside of a `try` block",
         Reason::DelegateOutsideTry => "delegate found outside of an `try` block",
         Reason::RethrowOutsideCatch => "invalid rethrow label: target was not a `catch` block",
+        Reason::Vectors => "unexpected SIMD opcode: 0xfd",
         Reason::Unsupported => "the operator is not supported yet",
     }
 }

@@ -26,17 +26,17 @@
 
 mod expressions;
 mod read_operators;
-mod telling;
 mod visits;
 
 pub use expressions::{visit_expression, visit_expression_with_offset};
 pub use read_operators::{ReadToSimdVisitor, ReadToVisitor};
-pub use telling::{TellSimdOperator, tell_operator_in_frame_simd, tell_operator_simd};
 pub use visits::{VisitNext, VisitNextSimd};
 pub use wasm_operators_bodies::{ConstExpr, FunctionBody, LocalsIterator, LocalsReader};
 pub use wasm_operators_frequent::reading::LentVisitor;
 pub use wasm_operators_reader::walks::{
-    ReadOperators, laws, tell_expression_with_offset, tells_whole,
+    ReadOperators, TellSimdOperator, laws, tell_expression_with_offset,
+    tell_operator_in_frame_simd, tell_operator_simd, tell_whole_with_offset, tells_whole,
+    tells_whole_with_vectors,
 };
 pub use wasm_operators_reader::{
     AtomicOperator, BlockType, BrTable, BrTableTargets, BulkOperator, Catch, ConstOperator,
@@ -45,7 +45,7 @@ pub use wasm_operators_reader::{
     MemoryOperator, NumericOperator, Operator, OperatorInfo, OperatorsIterator,
     OperatorsIteratorWithOffsets, OperatorsReader, OperatorsReaderAllocations, Ordering,
     ParametricOperator, Proposal, ResumeTable, SharedOperator, SimdNumericOperator, SimdOperator,
-    TellOperator, TellPlain, TryTable, V128, Visitor, is_simd, read_expression,
+    TellOperator, TellPlain, TryTable, V128, Visitor, is_simd, read_expression, read_operator,
 };
 pub use wasm_operators_visit_simd_operator::{
     VisitAtomic, VisitControl, VisitFloats, VisitGc, VisitIntegers, VisitMemory, VisitOperator,

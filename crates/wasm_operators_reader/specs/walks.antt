@@ -1,4 +1,6 @@
 -- Definitions, in reading order.
 pub mod InFrame
+pub mod Whole
 -- Laws.
 pub mod InFrameLaws
+pub mod WholeLaws

@@ -8,11 +8,15 @@
 
 pub mod laws;
 mod read_operators;
+mod telling;
 mod walking;
+mod whole;
 
 pub use crate::{
     ControlOperator, DescriptorOperator, GcOperator, NumericOperator, Operator,
     OperatorsReaderAllocations, SharedOperator, TellOperator, TellPlain, Visitor, read_operator,
 };
 pub use read_operators::{ReadOperators, read_in_frame, read_plain_in_frame};
+pub use telling::{TellSimdOperator, tell_operator_in_frame_simd, tell_operator_simd};
 pub use walking::{tell_expression_with_offset, tells_whole};
+pub use whole::{tell_whole_with_offset, tells_whole_with_vectors};

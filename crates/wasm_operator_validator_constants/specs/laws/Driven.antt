@@ -9,7 +9,8 @@ use Rattle.wasm_operators_enums.specs.Op.{Op}
 use Rattle.wasm_operators_encoding.specs.expressions.Code.{Code, walk}
 use Rattle.wasm_operators_encoding.specs.expressions.Spelling.{SpelledExpression}
 use Rattle.wasm_operators_reader.specs.Standing.{Standing, at_start}
-use Rattle.wasm_operators_reader.specs.Walking.{HasNoVectors, VisitsAll, WalksTo, WalksUntilAt, StopsPlain}
+use Rattle.wasm_operators_reader.specs.Walking.{VisitsAll}
+use Rattle.wasm_operators_reader.specs.walks.Whole.{TellsTo, TellsUntilAt, Stops}
 use Rattle.wasm_operator_validator_rules.specs.constants.Constants.{IsConstantOperator}
 use Rattle.wasm_operator_validator_state.specs.resources.Meaning.{Meaning}
 use Rattle.wasm_operator_validator_state.specs.Refusals.{OfContent}
@@ -62,31 +63,31 @@ module _ {V : Type 0} (visits : V → Op → Answer → V → Type 0) (around : 
   abbrev Passes : Op → Type 0
   Passes = IsConstantOperator (around v).bits (around v).meaning.«module» (around v).imported
 
-  pub ends_reading : (w : V) (e : ErrorValue) → (IsNotMemory e.kind → (c : Code) → SpelledExpression s.settings c s.rest → HasNoVectors (walk c) → ⊥)
-      → ((t : Standing) × WalksTo visits (Ok tt) (at_start s) v t w × StopsPlain t e) → ValidatesConstant (around v) (state v) s (Err e)
+  pub ends_reading : (w : V) (e : ErrorValue) → (IsNotMemory e.kind → (c : Code) → SpelledExpression s.settings c s.rest → ⊥)
+      → ((t : Standing) × TellsTo visits (Ok tt) (at_start s) v t w × Stops t e) → ValidatesConstant (around v) (state v) s (Err e)
   ends_reading w e unspelled (t, walked, stops) =
       let of = walk_by_state visits (VisitsConstant (around v)) state refused_constant keeps holds (Ok tt) None refl (at_start s) t v w refl walked in
       stopped_reading Passes (RefusedWith (around v)) (around v).meaning (state v) s going (state w) e unspelled t of.0 stops
 
-  pub ends_at_operator : (w : V) (r : ConstantRefusal) (e : ErrorValue) (place : ℕ) → WalksUntilAt visits (Ok tt) (at_start s) v (Err r) w place → e.kind ≡ kind_of_constant r
+  pub ends_at_operator : (w : V) (r : ConstantRefusal) (e : ErrorValue) (place : ℕ) → TellsUntilAt visits (Ok tt) (at_start s) v (Err r) w place → e.kind ≡ kind_of_constant r
       → OfContent e.kind (e.offset ≡ place) → ValidatesConstant (around v) (state v) s (Err e)
   ends_at_operator w r e place until k at =
       let of = until_by_state visits (VisitsConstant (around v)) state refused_constant keeps holds (Ok tt) None refl (at_start s) v w (Err r) place refl until in
-      let told : WalksUntilAt (VisitsConstant (around v)) None (at_start s) (state v) (Some e.kind) (state w) place =
-      subst (λ (y : ErrorKind). WalksUntilAt (VisitsConstant (around v)) None (at_start s) (state v) (Some y) (state w) place) (sym k) of in
+      let told : TellsUntilAt (VisitsConstant (around v)) None (at_start s) (state v) (Some e.kind) (state w) place =
+      subst (λ (y : ErrorKind). TellsUntilAt (VisitsConstant (around v)) None (at_start s) (state v) (Some y) (state w) place) (sym k) of in
       stopped_at_operator Passes (RefusedWith (around v)) (around v).meaning (state v) s going (state w) e place told at
 
   -- a visitor was told of an expression, to the end of the bytes
   abbrev pub Whole : V → Type 0
-  Whole w = (c : Code) × SpelledExpression s.settings c s.rest × HasNoVectors (walk c) × VisitsAll visits (Ok tt) v (walk c) w
+  Whole w = (c : Code) × SpelledExpression s.settings c s.rest × VisitsAll visits (Ok tt) v (walk c) w
 
   pub ends_at_end : (w : V) (e : ErrorValue) → Whole w → ((state w).opens ≡ [] → ⊥) → e.kind ≡ kinds.Other → e.offset ≡ s.place + length s.rest
       → ValidatesConstant (around v) (state v) s (Err e)
-  ends_at_end w e (c, h, none, all) still kind at =
+  ends_at_end w e (c, h, all) still kind at =
       let of = all_by_state visits (VisitsConstant (around v)) state refused_constant keeps holds (Ok tt) None refl (walk c) v w refl all in
       stopped_at_end Passes (RefusedWith (around v)) (around v).meaning (state v) s going c h (state w) of.0 e still kind at
 
   pub ends_well : (w : V) → Whole w → (state w).opens ≡ [] → ValidatesConstant (around v) (state v) s (Ok tt)
-  ends_well w (c, h, none, all) closed =
+  ends_well w (c, h, all) closed =
       let of = all_by_state visits (VisitsConstant (around v)) state refused_constant keeps holds (Ok tt) None refl (walk c) v w refl all in
       accepted_to_end Passes (RefusedWith (around v)) (around v).meaning (state v) s going c h (state w) of.0 closed

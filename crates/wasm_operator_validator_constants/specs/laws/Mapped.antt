@@ -2,7 +2,8 @@
 use Rattle.std.proofs.Common.{◌≡◌, ℕ, List, [], ◌∷◌, refl, sym, subst}
 use Rattle.wasm_operators_enums.specs.Op.{Op}
 use Rattle.wasm_operators_reader.specs.Standing.{Standing}
-use Rattle.wasm_operators_reader.specs.Walking.{VisitsAll, WalksTo, WalksUntilAt}
+use Rattle.wasm_operators_reader.specs.Walking.{VisitsAll}
+use Rattle.wasm_operators_reader.specs.walks.Whole.{TellsTo, TellsUntilAt}
 
 -- A visitor's relation says of the state what another relation does, and keeps this of the visitor.
 module _ {V S A B : Type 0} (visits : V → Op → A → V → Type 0) (does : S → Op → B → S → Type 0) (state : V → S) (told : A → B) (keeps : V → Type 0)
@@ -15,13 +16,13 @@ module _ {V S A B : Type 0} (visits : V → Op → A → V → Type 0) (does : S
       let rest = all_by_state os x w one.1 more in
       ((state x, subst (λ (b : B). does (state v) o b (state x)) same one.0, rest.0), rest.1)
 
-  pub walk_by_state : (s t : Standing) (v w : V) → keeps v → WalksTo visits answer s v t w → WalksTo does accepted s (state v) t (state w) × keeps w
-  walk_by_state s t v w k (os, run, none, all) =
+  pub walk_by_state : (s t : Standing) (v w : V) → keeps v → TellsTo visits answer s v t w → TellsTo does accepted s (state v) t (state w) × keeps w
+  walk_by_state s t v w k (os, run, all) =
       let of = all_by_state os v w k all in
-      ((os, run, none, of.0), of.1)
+      ((os, run, of.0), of.1)
 
-  pub until_by_state : (s : Standing) (v w : V) (last : A) (place : ℕ) → keeps v → WalksUntilAt visits answer s v last w place
-      → WalksUntilAt does accepted s (state v) (told last) (state w) place
-  until_by_state s v w last place k (t, n, walked, o, u, read, plain, h, at) =
+  pub until_by_state : (s : Standing) (v w : V) (last : A) (place : ℕ) → keeps v → TellsUntilAt visits answer s v last w place
+      → TellsUntilAt does accepted s (state v) (told last) (state w) place
+  until_by_state s v w last place k (t, n, walked, o, u, read, h, at) =
       let of = walk_by_state s t v n k walked in
-      (t, state n, of.0, o, u, read, plain, (holds n o last w of.1 h).0, at)
+      (t, state n, of.0, o, u, read, (holds n o last w of.1 h).0, at)

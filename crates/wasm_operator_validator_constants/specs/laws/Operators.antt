@@ -19,15 +19,17 @@ use Rattle.wasm_operators_enums.specs.declared.gc.GcOperator.{GcOperator}
 use Rattle.wasm_operators_enums.specs.declared.gc.GcOperator.TheVariants as gc
 use Rattle.wasm_operators_enums.specs.declared.gc.DescriptorOperator.{DescriptorOperator}
 use Rattle.wasm_operators_enums.specs.declared.gc.DescriptorOperator.TheVariants as descriptor
+use Rattle.wasm_operators_enums.specs.declared.vector.SimdOperator.{SimdOperator}
+use Rattle.wasm_operators_enums.specs.declared.vector.SimdOperator.TheVariants as simd
 use Rattle.wasm_operators_enums.specs.Op as op
 use Rattle.wasm_operators_enums.specs.Op.{Op}
 use Rattle.wasm_operator_validator_rules.specs.Context.{Module, Global}
 use Rattle.wasm_operator_validator_rules.specs.constants.Constants.{IsConstantOperator, IsConstantNumber, IsConstantObject, IsConstantDescribed, IsConstantReference}
-use Rattle.wasm_operator_validator_rules.specs.constants.Constants.{IsConstantShared, IsConstantMemory, IsConstantGlobal, IsEnd}
+use Rattle.wasm_operator_validator_rules.specs.constants.Constants.{IsConstantShared, IsConstantMemory, IsConstantGlobal, IsConstantVector, IsEnd}
 use Rattle.wasm_operator_validator_constants.specs.declared.refusal.ConstantRefusal.{ConstantRefusal}
 use Rattle.wasm_operator_validator_constants.specs.declared.refusal.ConstantRefusal.TheVariants as refusals
 use Rattle.wasm_operator_validator_constants.specs.Refusals.{kind_of_constant}
-use Rattle.wasm_operator_validator_constants.specs.Operators.{global_read, is_sum, is_object, is_described, is_reference, is_shared_number, ends_frame, is_listed, is_allowed}
+use Rattle.wasm_operator_validator_constants.specs.Operators.{global_read, is_sum, is_object, is_described, is_reference, is_shared_number, is_vector, ends_frame, is_listed, is_allowed}
 use Rattle.wasm_operator_validator_constants.specs.Operators.{RefusesGlobal, RefusesListed, RefusesBy, RefusesOperator}
 
 -- listed by this test, and allowed by that
@@ -72,6 +74,10 @@ ends : (o : ControlOperator) → IsEnd o ↔ Both (ends_frame o) true
 ends control.End = (λ u. (refl, refl), λ u. tt)
 ends o = (λ h. absurd h, λ (h : Both false true). let e : false ≡ true = h.0 in cc)
 
+vectors : (o : SimdOperator) → IsConstantVector o ↔ Both (is_vector o) true
+vectors (simd.V128Const v) = (λ u. (refl, refl), λ u. tt)
+vectors o = (λ h. absurd h, λ (h : Both false true). let e : false ≡ true = h.0 in cc)
+
 -- no variable but a global is read, and no memory
 no_variable : (bits : ℕ) (g : Module) (count : ℕ) (o : MemoryOperator) → global_read (op.Memory o) ≡ None → IsConstantMemory bits g count o → ⊥
 no_variable bits g count (memory.GlobalGet x) e h = let f : Some x ≡ None = e in cc
@@ -91,6 +97,7 @@ constant_listed bits g count (op.Gc o) e = objects bits o
 constant_listed bits g count (op.Descriptor o) e = described bits o
 constant_listed bits g count (op.Shared o) e = shared_numbers bits o
 constant_listed bits g count (op.Control o) e = ends o
+constant_listed bits g count (op.Simd o) e = vectors o
 constant_listed bits g count o e = (λ h. absurd h, λ h. absurd (never false true refl h))
 
 -- an operator that reads a global is constant exactly where the global may be read

@@ -14,12 +14,12 @@ use Rattle.wasm_operators_encoding.specs.expressions.SpellingLaws.{one_expressio
 use Rattle.wasm_operators_reader.specs.Standing.{Standing, at_start}
 use Rattle.wasm_operators_reader.specs.RunLaws.{expression_run}
 use Rattle.wasm_operators_reader.specs.MeetLaws.{meets_end}
-use Rattle.wasm_operators_reader.specs.Walking.{HasNoVectors, VisitsAll, WalksTo, WalksUntilAt, StopsPlain}
+use Rattle.wasm_operators_reader.specs.Walking.{VisitsAll}
+use Rattle.wasm_operators_reader.specs.walks.Whole.{TellsTo, TellsUntilAt, Stops}
 use Rattle.wasm_operator_validator_state.specs.resources.Meaning.{Meaning}
 use Rattle.wasm_operator_validator_state.specs.Refusals.{OfContent}
 use Rattle.wasm_operator_validator_state.specs.State.{State, Accepts, Visits}
 use Rattle.wasm_operator_validator_state.specs.laws.Accepting.{accepts_nothing}
-use Rattle.wasm_operator_validator_expression.specs.laws.Vectors.{accepted_no_vectors}
 use Rattle.wasm_operator_validator_expression.specs.laws.Walked.{all_stay, accepted_on}
 use Rattle.wasm_operator_validator_constants.specs.Tested.{IsRefused, VisitsTested, EachPasses, AcceptsTested, ValidatesTested}
 
@@ -49,17 +49,17 @@ module _ (Passes : Op → Type 0) (Why : Op → ErrorKind → Type 0) (m : Meani
 
 module _ (Passes : Op → Type 0) (Why : Op → ErrorKind → Type 0) (m : Meaning) (σ : State) (s : Bytes) (going : σ.failed ≡ false) where
   -- the bytes spell no expression
-  pub stopped_reading : (ρ : State) (e : ErrorValue) → (IsNotMemory e.kind → (c : Code) → SpelledExpression s.settings c s.rest → HasNoVectors (walk c) → ⊥)
-      → (t : Standing) → WalksTo (VisitsTested Passes Why m) None (at_start s) σ t ρ → StopsPlain t e → ValidatesTested Passes Why m σ s (Err e)
+  pub stopped_reading : (ρ : State) (e : ErrorValue) → (IsNotMemory e.kind → (c : Code) → SpelledExpression s.settings c s.rest → ⊥)
+      → (t : Standing) → TellsTo (VisitsTested Passes Why m) None (at_start s) σ t ρ → Stops t e → ValidatesTested Passes Why m σ s (Err e)
   stopped_reading ρ e unspelled t walked stops = record {
-    exact = denies_but e.kind (AcceptsTested Passes m σ s) (λ n (c, h, a, p). unspelled n c h (accepted_no_vectors m σ (walk c) a));
+    exact = denies_but e.kind (AcceptsTested Passes m σ s) (λ n (c, h, a, p). unspelled n c h);
     stops = inl (t, ρ, walked, stops);
   }
 
   -- an operator was refused
-  pub stopped_at_operator : (τ : State) (e : ErrorValue) (place : ℕ) → WalksUntilAt (VisitsTested Passes Why m) None (at_start s) σ (Some e.kind) τ place
+  pub stopped_at_operator : (τ : State) (e : ErrorValue) (place : ℕ) → TellsUntilAt (VisitsTested Passes Why m) None (at_start s) σ (Some e.kind) τ place
       → OfContent e.kind (e.offset ≡ place) → ValidatesTested Passes Why m σ s (Err e)
-  stopped_at_operator τ e place (t, n, (os, run, none, all), o, u, read, plain, v, at) offset =
+  stopped_at_operator τ e place (t, n, (os, run, all), o, u, read, v, at) offset =
       let met : AcceptsTested Passes m σ s → Passes o × ((ps : List Op) × Accepts m n (o ∷ ps)) =
       λ (c, h, a, p). (let whole = expression_run s c h in let meets = meets_end os (walk c) (at_start s) t whole.0 u o run read whole.1 whole.2.frames in (
         passes_at Passes Why m os o meets.0 (subst (EachPasses Passes) meets.1 p),
@@ -67,7 +67,7 @@ module _ (Passes : Op → Type 0) (Why : Op → ErrorKind → Type 0) (m : Meani
       )) in
       record {
         exact = denies_from e.kind (Passes o × ((ps : List Op) × Accepts m n (o ∷ ps))) (AcceptsTested Passes m σ s) met (refused_denies Passes Why m n τ o e.kind v);
-        stops = inr (inl (place, τ, (t, n, (os, run, none, all), o, u, read, plain, v, at), offset));
+        stops = inr (inl (place, τ, (t, n, (os, run, all), o, u, read, v, at), offset));
       }
 
   module _ (c : Code) (h : SpelledExpression s.settings c s.rest) (ρ : State) (all : VisitsAll (VisitsTested Passes Why m) None σ (walk c) ρ) where

@@ -9,7 +9,8 @@ use Rattle.wasm_operators_enums.specs.Op.{Op}
 use Rattle.wasm_operators_encoding.specs.expressions.Code.{Code, walk}
 use Rattle.wasm_operators_encoding.specs.expressions.Spelling.{SpelledExpression}
 use Rattle.wasm_operators_reader.specs.Standing.{Standing, at_start}
-use Rattle.wasm_operators_reader.specs.Walking.{HasNoVectors, VisitsAll, WalksTo, WalksUntilAt, StopsPlain}
+use Rattle.wasm_operators_reader.specs.Walking.{VisitsAll}
+use Rattle.wasm_operators_reader.specs.walks.Whole.{TellsTo, TellsUntilAt, Stops}
 use Rattle.wasm_operator_validator_state.specs.resources.Meaning.{Meaning}
 use Rattle.wasm_operator_validator_state.specs.Refusals.{OfContent, kind_of}
 use Rattle.wasm_operator_validator_state.specs.declared.refusal.Refusal.{Refusal}
@@ -40,31 +41,31 @@ module _ {V : Type 0} (visits : V → Op → Answer → V → Type 0) (meaning :
   ends_at_once e f k at = (stopped_at_once (meaning v) (state v) s e f k at, stays v)
 
   module _ (going : (state v).failed ≡ false) where
-    pub ends_reading : (w x : V) (e : ErrorValue) → (IsNotMemory e.kind → (c : Code) → SpelledExpression s.settings c s.rest → HasNoVectors (walk c) → ⊥)
-        → ((t : Standing) × WalksTo visits (Ok tt) (at_start s) v t w × StopsPlain t e) → state x ≡ record (state w) { failed = true } → keeps w x → Ends (Err e) x
+    pub ends_reading : (w x : V) (e : ErrorValue) → (IsNotMemory e.kind → (c : Code) → SpelledExpression s.settings c s.rest → ⊥)
+        → ((t : Standing) × TellsTo visits (Ok tt) (at_start s) v t w × Stops t e) → state x ≡ record (state w) { failed = true } → keeps w x → Ends (Err e) x
     ends_reading w x e unspelled (t, walked, stops) i k =
         let of = walk_of_state visits (meaning v) state (λ a w. refused_for (why w) a) (keeps v) holds (Ok tt) (λ w. refl) (at_start s) t v w (stays v) walked in
         (stopped_reading (meaning v) (state v) s going (state w) (state x) e unspelled t of.0 stops i, through v w x of.1 k)
 
-    pub ends_at_operator : (w : V) (r : Refused) (e : ErrorValue) (place : ℕ) → WalksUntilAt visits (Ok tt) (at_start s) v (Err r) w place → e.kind ≡ kind_of (why w)
+    pub ends_at_operator : (w : V) (r : Refused) (e : ErrorValue) (place : ℕ) → TellsUntilAt visits (Ok tt) (at_start s) v (Err r) w place → e.kind ≡ kind_of (why w)
         → OfContent e.kind (e.offset ≡ place) → Ends (Err e) w
     ends_at_operator w r e place until k at =
         let of = until_of_state visits (meaning v) state (λ a w. refused_for (why w) a) (keeps v) holds (Ok tt) (λ w. refl) (at_start s) v w (Err r) place (stays v) until in
-        let told : WalksUntilAt (Visits (meaning v)) None (at_start s) (state v) (Some e.kind) (state w) place =
-        subst (λ (y : ErrorKind). WalksUntilAt (Visits (meaning v)) None (at_start s) (state v) (Some y) (state w) place) (sym k) of.0 in
+        let told : TellsUntilAt (Visits (meaning v)) None (at_start s) (state v) (Some e.kind) (state w) place =
+        subst (λ (y : ErrorKind). TellsUntilAt (Visits (meaning v)) None (at_start s) (state v) (Some y) (state w) place) (sym k) of.0 in
         (stopped_at_operator (meaning v) (state v) s going (state w) e place told at, of.1)
 
     -- a visitor was told of an expression, to the end of the bytes
     abbrev pub Whole : V → Type 0
-    Whole w = (c : Code) × SpelledExpression s.settings c s.rest × HasNoVectors (walk c) × VisitsAll visits (Ok tt) v (walk c) w
+    Whole w = (c : Code) × SpelledExpression s.settings c s.rest × VisitsAll visits (Ok tt) v (walk c) w
 
     pub ends_at_end : (w x : V) (e : ErrorValue) → Whole w → ((state w).opens ≡ [] → ⊥) → e.kind ≡ kinds.Other → e.offset ≡ s.place + length s.rest
         → state x ≡ record (state w) { failed = true } → keeps w x → Ends (Err e) x
-    ends_at_end w x e (c, h, none, all) still kind at i k =
+    ends_at_end w x e (c, h, all) still kind at i k =
         let of = all_of_state visits (meaning v) state (λ a w. refused_for (why w) a) (keeps v) holds (Ok tt) (λ w. refl) (walk c) v w (stays v) all in
         (stopped_at_end (meaning v) (state v) s going c h (state w) of.0 (state x) e still kind at i, through v w x of.1 k)
 
     pub ends_well : (w : V) → Whole w → (state w).opens ≡ [] → Ends (Ok tt) w
-    ends_well w (c, h, none, all) closed =
+    ends_well w (c, h, all) closed =
         let of = all_of_state visits (meaning v) state (λ a w. refused_for (why w) a) (keeps v) holds (Ok tt) (λ w. refl) (walk c) v w (stays v) all in
         (accepted_to_end (meaning v) (state v) s going c h (state w) of.0 closed, of.1)

@@ -3,7 +3,8 @@ use Rattle.std.proofs.Common.{◌≡◌, ◌↔◌, ◌∙◌, ℕ, List, [], �
 use Rattle.wasm_types.specs.decoding.declared.error.ErrorKind.{ErrorKind}
 use Rattle.wasm_operators_enums.specs.Op.{Op}
 use Rattle.wasm_operators_reader.specs.Standing.{Standing}
-use Rattle.wasm_operators_reader.specs.Walking.{VisitsAll, WalksTo, WalksUntilAt}
+use Rattle.wasm_operators_reader.specs.Walking.{VisitsAll}
+use Rattle.wasm_operators_reader.specs.walks.Whole.{TellsTo, TellsUntilAt}
 use Rattle.wasm_operator_validator_state.specs.resources.Meaning.{Meaning}
 use Rattle.wasm_operator_validator_state.specs.State.{State, Accepts, Visits}
 
@@ -20,17 +21,17 @@ module _ {V A : Type 0} (visits : V → Op → A → V → Type 0) (m : Meaning)
       let rest = all_of_state os x w one.1 more in
       ((state x, subst (λ (a : Option ErrorKind). Visits m (state v) o a (state x)) (accepted x) one.0, rest.0), rest.1)
 
-  pub walk_of_state : (s t : Standing) (v w : V) → keeps v → WalksTo visits answer s v t w → WalksTo (Visits m) None s (state v) t (state w) × keeps w
-  walk_of_state s t v w k (os, run, none, all) =
+  pub walk_of_state : (s t : Standing) (v w : V) → keeps v → TellsTo visits answer s v t w → TellsTo (Visits m) None s (state v) t (state w) × keeps w
+  walk_of_state s t v w k (os, run, all) =
       let of = all_of_state os v w k all in
-      ((os, run, none, of.0), of.1)
+      ((os, run, of.0), of.1)
 
-  pub until_of_state : (s : Standing) (v w : V) (last : A) (place : ℕ) → keeps v → WalksUntilAt visits answer s v last w place
-      → WalksUntilAt (Visits m) None s (state v) (told last w) (state w) place × keeps w
-  until_of_state s v w last place k (t, n, walked, o, u, read, plain, h, at) =
+  pub until_of_state : (s : Standing) (v w : V) (last : A) (place : ℕ) → keeps v → TellsUntilAt visits answer s v last w place
+      → TellsUntilAt (Visits m) None s (state v) (told last w) (state w) place × keeps w
+  until_of_state s v w last place k (t, n, walked, o, u, read, h, at) =
       let of = walk_of_state s t v n k walked in
       let one = holds n o last w of.1 h in
-      ((t, state n, of.0, o, u, read, plain, one.0, at), one.1)
+      ((t, state n, of.0, o, u, read, one.0, at), one.1)
 
 -- ---- of the validator
 

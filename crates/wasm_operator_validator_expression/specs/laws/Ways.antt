@@ -14,7 +14,8 @@ use Rattle.wasm_operators_encoding.specs.expressions.SpellingLaws.{one_expressio
 use Rattle.wasm_operators_reader.specs.Standing.{Standing, at_start}
 use Rattle.wasm_operators_reader.specs.RunLaws.{expression_run}
 use Rattle.wasm_operators_reader.specs.MeetLaws.{meets_end}
-use Rattle.wasm_operators_reader.specs.Walking.{HasNoVectors, VisitsAll, WalksTo, WalksUntilAt, StopsPlain}
+use Rattle.wasm_operators_reader.specs.Walking.{VisitsAll}
+use Rattle.wasm_operators_reader.specs.walks.Whole.{TellsTo, TellsUntilAt, Stops}
 use Rattle.wasm_operator_validator_state.specs.resources.Meaning.{Meaning}
 use Rattle.wasm_operator_validator_state.specs.Refusals.{OfContent}
 use Rattle.wasm_operator_validator_state.specs.State.{State, Accepts, Visits}
@@ -22,7 +23,6 @@ use Rattle.wasm_operator_validator_state.specs.Bodies.{fresh}
 use Rattle.wasm_operator_validator_state.specs.laws.Bodies.{bodies_are_accepted}
 use Rattle.wasm_operator_validator_state.specs.laws.Accepting.{accepts_nothing, accepts_not_failed}
 use Rattle.wasm_operator_validator_expression.specs.Validating.{AcceptsExpression, SpellsTypedBody, BodiesAreExpressions, Validates}
-use Rattle.wasm_operator_validator_expression.specs.laws.Vectors.{accepted_no_vectors}
 use Rattle.wasm_operator_validator_expression.specs.laws.Walked.{all_stay, accepted_on}
 
 -- ---- where a body begins
@@ -64,12 +64,12 @@ stopped_at_once m σ s e f k at = record {
 
 module _ (m : Meaning) (σ : State) (s : Bytes) (going : σ.failed ≡ false) where
   -- the bytes spell no expression
-  pub stopped_reading : (ρ τ : State) (e : ErrorValue) → (IsNotMemory e.kind → (c : Code) → SpelledExpression s.settings c s.rest → HasNoVectors (walk c) → ⊥)
-      → (t : Standing) → WalksTo (Visits m) None (at_start s) σ t ρ → StopsPlain t e → τ ≡ record ρ { failed = true } → Validates m σ s (Err e) τ
+  pub stopped_reading : (ρ τ : State) (e : ErrorValue) → (IsNotMemory e.kind → (c : Code) → SpelledExpression s.settings c s.rest → ⊥)
+      → (t : Standing) → TellsTo (Visits m) None (at_start s) σ t ρ → Stops t e → τ ≡ record ρ { failed = true } → Validates m σ s (Err e) τ
   stopped_reading ρ τ e unspelled t walked stops i =
-      let stay = all_stay m walked.0 σ ρ walked.3 in
+      let stay = all_stay m walked.0 σ ρ walked.2 in
       record {
-        exact = denies_but e.kind (AcceptsExpression m σ s) (λ n (c, h, a). unspelled n c h (accepted_no_vectors m σ (walk c) a));
+        exact = denies_but e.kind (AcceptsExpression m σ s) (λ n (c, h, a). unspelled n c h);
         stopped = λ f. absurd (not_both σ.failed going f);
         stops = inr (inl (t, ρ, walked, stops));
         ended = tt;
@@ -84,9 +84,9 @@ module _ (m : Meaning) (σ : State) (s : Bytes) (going : σ.failed ≡ false) wh
   no_operator t u n os o all c a more e = (more, (accepted_on m os (o ∷ more) σ n all).0 (subst (Accepts m σ) e a))
 
   -- an operator was refused
-  pub stopped_at_operator : (τ : State) (e : ErrorValue) (place : ℕ) → WalksUntilAt (Visits m) None (at_start s) σ (Some e.kind) τ place → OfContent e.kind (e.offset ≡ place)
+  pub stopped_at_operator : (τ : State) (e : ErrorValue) (place : ℕ) → TellsUntilAt (Visits m) None (at_start s) σ (Some e.kind) τ place → OfContent e.kind (e.offset ≡ place)
       → Validates m σ s (Err e) τ
-  stopped_at_operator τ e place (t, n, (os, run, none, all), o, u, read, plain, v, at) offset =
+  stopped_at_operator τ e place (t, n, (os, run, all), o, u, read, v, at) offset =
       let stay = all_stay m os σ n all in
       let met : AcceptsExpression m σ s → (ps : List Op) × Accepts m n (o ∷ ps) =
       λ (c, h, a). (let whole = expression_run s c h in let meets = meets_end os (walk c) (at_start s) t whole.0 u o run read whole.1 whole.2.frames in
@@ -94,7 +94,7 @@ module _ (m : Meaning) (σ : State) (s : Bytes) (going : σ.failed ≡ false) wh
       record {
         exact = denies_from e.kind ((ps : List Op) × Accepts m n (o ∷ ps)) (AcceptsExpression m σ s) met v.decides;
         stopped = λ f. absurd (not_both σ.failed going f);
-        stops = inr (inr (inl (place, (t, n, (os, run, none, all), o, u, read, plain, v, at), offset)));
+        stops = inr (inr (inl (place, (t, n, (os, run, all), o, u, read, v, at), offset)));
         ended = tt;
         given = v.given ∙ stay.given;
         failed = v.failed;

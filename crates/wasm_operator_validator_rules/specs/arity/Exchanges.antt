@@ -5,6 +5,7 @@ use Rattle.wasm_types.specs.trees.Trees.{TypeTree}
 use Rattle.wasm_operators_immediates.specs.declared.block.BlockType.{BlockType}
 use Rattle.wasm_operators_immediates.specs.declared.block.BlockType.TheVariants as block
 use Rattle.wasm_operators_immediates.specs.declared.frames.FrameKind.{FrameKind}
+use Rattle.wasm_operators_enums.specs.Op as op
 use Rattle.wasm_operators_enums.specs.Op.{Op}
 use Rattle.wasm_operator_validator_rules.specs.Operands.{ValueType, Operand}
 use Rattle.wasm_operator_validator_rules.specs.Context.{Module, Context, Initialised, Signature, IsFunctionType, label_of}
@@ -67,7 +68,13 @@ pub data Exchanges (g : Context) (set : Initialised) : List Standing → Op → 
   closed : {fs : List Standing} {o : Op} (f : Standing) → EndsAt g o
       → Exchanges g set (f ∷ fs) o (length f.block.results) (length f.block.results)
 
+-- operators on vectors are not counted, whether they are judged or not
+abbrev pub IsCounted : Op → Type 0
+IsCounted (op.Simd o) = ⊥
+IsCounted (op.SimdNumeric o) = ⊥
+IsCounted o = Unit {0}
+
 -- where the rules let an operator take and give so many, the table has these numbers
 abbrev pub CountsAreExact : Type 0
-CountsAreExact = (k : Known) (g : Context) (fs : List Standing) (set : Initialised) (o : Op) (n c : ℕ) → IsAround k g fs
+CountsAreExact = (k : Known) (g : Context) (fs : List Standing) (set : Initialised) (o : Op) (n c : ℕ) → IsCounted o → IsAround k g fs
     → Exchanges g set fs o n c → counts_of k o ≡ Some (n, c)

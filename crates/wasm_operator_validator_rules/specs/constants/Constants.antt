@@ -20,6 +20,8 @@ use Rattle.wasm_operators_enums.specs.declared.gc.GcOperator.{GcOperator}
 use Rattle.wasm_operators_enums.specs.declared.gc.GcOperator.TheVariants as gc
 use Rattle.wasm_operators_enums.specs.declared.gc.DescriptorOperator.{DescriptorOperator}
 use Rattle.wasm_operators_enums.specs.declared.gc.DescriptorOperator.TheVariants as descriptor
+use Rattle.wasm_operators_enums.specs.declared.vector.SimdOperator.{SimdOperator}
+use Rattle.wasm_operators_enums.specs.declared.vector.SimdOperator.TheVariants as simd
 use Rattle.wasm_operators_enums.specs.Op as op
 use Rattle.wasm_operators_enums.specs.Op.{Op}
 use Rattle.wasm_operators_encoding.specs.expressions.Code.{Code, walk}
@@ -79,6 +81,11 @@ abbrev pub IsConstantShared : ℕ → SharedOperator → Type 0
 IsConstantShared bits shared.RefI31Shared = Has bits SharedEverythingThreads
 IsConstantShared bits o = ⊥
 
+-- a vector; whether vectors are judged, its row asks
+abbrev pub IsConstantVector : SimdOperator → Type 0
+IsConstantVector (simd.V128Const v) = Unit {0}
+IsConstantVector o = ⊥
+
 -- a constant operator, by these features, in this module, of whose globals the first so many are imported
 abbrev pub IsConstantOperator : ℕ → Module → ℕ → Op → Type 0
 IsConstantOperator bits g imported (op.Const o) = Unit {0}
@@ -89,6 +96,7 @@ IsConstantOperator bits g imported (op.Gc o) = IsConstantObject bits o
 IsConstantOperator bits g imported (op.Descriptor o) = IsConstantDescribed bits o
 IsConstantOperator bits g imported (op.Shared o) = IsConstantShared bits o
 IsConstantOperator bits g imported (op.Control o) = IsEnd o
+IsConstantOperator bits g imported (op.Simd o) = IsConstantVector o
 IsConstantOperator bits g imported o = ⊥
 
 abbrev pub AreConstantOperators : ℕ → Module → ℕ → List Op → Type 0

@@ -13,7 +13,7 @@ pub returns-in-Err : goal.returns-in-Err
 returns-in-Err g c =
     let met = g.met.V.ValidatingConstants c.lifetimes (assumption c) in
     ends_reading g.V.Visitor.visits g.V.ValidatingConstants.around g.V.ValidatingConstants.state met.visited
-    c.args.reader c.args.visitor.now c.requires.going c.tell_expression_with_offset.new.visitor
+    c.args.reader c.args.visitor.now c.requires.going c.tell_whole_with_offset.new.visitor
     c.in-Err.error c.in-Err.ensures.refused c.in-Err.ensures.stops
 
 pub returns-in-Err-end : goal.returns-in-Err-end
@@ -21,7 +21,7 @@ returns-in-Err-end g c =
     let met = g.met.V.ValidatingConstants c.lifetimes (assumption c) in
     let until = rw c.in-Err-end.is at c.in-Ok.ensures.ended in
     ends_at_operator g.V.Visitor.visits g.V.ValidatingConstants.around g.V.ValidatingConstants.state met.visited
-    c.args.reader c.args.visitor.now c.requires.going c.tell_expression_with_offset.new.visitor
+    c.args.reader c.args.visitor.now c.requires.going c.tell_whole_with_offset.new.visitor
     c.in-Err-end.last.0 c.constant_error_at-refusal.result c.in-Err-end.last.1 until c.constant_error_at-refusal.ensures.kind c.constant_error_at-refusal.ensures.at
 
 pub returns-then-not-is_done : goal.returns-then-not-is_done
@@ -30,7 +30,7 @@ returns-then-not-is_done g c =
     let whole = rw c.in_default.is at c.in-Ok.ensures.whole in
     let at : c.frames_remain-unfinished.result.offset ≡ c.args.reader.place + length c.args.reader.rest = rw (c.frames_remain-unfinished.ensures.at, c.remaining_range-whole.ensures) refl in
     ends_at_end g.V.Visitor.visits g.V.ValidatingConstants.around g.V.ValidatingConstants.state met.visited
-    c.args.reader c.args.visitor.now c.requires.going c.tell_expression_with_offset.new.visitor
+    c.args.reader c.args.visitor.now c.requires.going c.tell_whole_with_offset.new.visitor
     c.frames_remain-unfinished.result whole (not_so c.is_done.result _ c.if-not-is_done.true c.is_done.ensures) c.frames_remain-unfinished.ensures.kind at
 
 pub returns : goal.returns
@@ -38,5 +38,5 @@ returns g c =
     let met = g.met.V.ValidatingConstants c.lifetimes (assumption c) in
     let whole = rw c.in_default.is at c.in-Ok.ensures.whole in
     ends_well g.V.Visitor.visits g.V.ValidatingConstants.around g.V.ValidatingConstants.state met.visited
-    c.args.reader c.args.visitor.now c.requires.going c.tell_expression_with_offset.new.visitor whole
+    c.args.reader c.args.visitor.now c.requires.going c.tell_whole_with_offset.new.visitor whole
     (so c.is_done.result _ c.if-not-is_done.false c.is_done.ensures)

@@ -9,15 +9,15 @@ so b P e i = i.0 (rw e refl)
 pub returns-clause-validates : goal.returns-clause-validates
 returns-clause-validates g c =
     let met = g.met.V.Validating c.lifetimes (assumption c) in
-    let whole = c.tells_whole.ensures c.if-not-tells_whole.false in
+    let whole = c.tells_whole_with_vectors.ensures c.if-not-tells_whole_with_vectors.false in
     λ done. (ends_well g.V.Visitor.visits g.V.Validating.meaning g.V.Validating.state g.V.Validating.why g.V.Validating.keeps met.visited met.kept
-    met.stays met.through c.args.reader c.args.visitor.now (sym c.if-has_failed.ensures) c.tells_whole.new.visitor whole
+    met.stays met.through c.args.reader c.args.visitor.now (sym c.if-has_failed.ensures) c.tells_whole_with_vectors.new.visitor whole
     (so c.is_done.result _ done c.is_done.ensures)).0
 
 pub returns-clause-keeps : goal.returns-clause-keeps
 returns-clause-keeps g c =
     let met = g.met.V.Validating c.lifetimes (assumption c) in
-    let whole = c.tells_whole.ensures c.if-not-tells_whole.false in
+    let whole = c.tells_whole_with_vectors.ensures c.if-not-tells_whole_with_vectors.false in
     λ done. (ends_well g.V.Visitor.visits g.V.Validating.meaning g.V.Validating.state g.V.Validating.why g.V.Validating.keeps met.visited met.kept
-    met.stays met.through c.args.reader c.args.visitor.now (sym c.if-has_failed.ensures) c.tells_whole.new.visitor whole
+    met.stays met.through c.args.reader c.args.visitor.now (sym c.if-has_failed.ensures) c.tells_whole_with_vectors.new.visitor whole
     (so c.is_done.result _ done c.is_done.ensures)).1

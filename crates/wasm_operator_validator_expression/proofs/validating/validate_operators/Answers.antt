@@ -13,14 +13,14 @@ pub returns-in-Err-clause-validates : goal.returns-in-Err-clause-validates
 returns-in-Err-clause-validates g c =
     let met = g.met.V.Validating c.lifetimes (assumption c) in
     (ends_reading g.V.Visitor.visits g.V.Validating.meaning g.V.Validating.state g.V.Validating.why g.V.Validating.keeps met.visited met.kept
-    met.stays met.through c.args.reader c.args.visitor.now (sym c.if-has_failed.ensures) c.tell_expression_with_offset.new.visitor
+    met.stays met.through c.args.reader c.args.visitor.now (sym c.if-has_failed.ensures) c.tell_whole_with_offset.new.visitor
     c.fail.new.self c.in-Err.error c.in-Err.ensures.refused c.in-Err.ensures.stops c.fail.ensures.failed c.fail.ensures.keeps).0
 
 pub returns-in-Err-clause-keeps : goal.returns-in-Err-clause-keeps
 returns-in-Err-clause-keeps g c =
     let met = g.met.V.Validating c.lifetimes (assumption c) in
     (ends_reading g.V.Visitor.visits g.V.Validating.meaning g.V.Validating.state g.V.Validating.why g.V.Validating.keeps met.visited met.kept
-    met.stays met.through c.args.reader c.args.visitor.now (sym c.if-has_failed.ensures) c.tell_expression_with_offset.new.visitor
+    met.stays met.through c.args.reader c.args.visitor.now (sym c.if-has_failed.ensures) c.tell_whole_with_offset.new.visitor
     c.fail.new.self c.in-Err.error c.in-Err.ensures.refused c.in-Err.ensures.stops c.fail.ensures.failed c.fail.ensures.keeps).1
 
 pub returns-in-Err-end-clause-validates : goal.returns-in-Err-end-clause-validates
@@ -29,7 +29,7 @@ returns-in-Err-end-clause-validates g c =
     let until = rw c.in-Err-end.is at c.in-Ok.ensures.ended in
     let kind = rw c.refusal.ensures at c.error_at-refusal.ensures.kind in
     (ends_at_operator g.V.Visitor.visits g.V.Validating.meaning g.V.Validating.state g.V.Validating.why g.V.Validating.keeps met.visited met.kept
-    met.stays met.through c.args.reader c.args.visitor.now (sym c.if-has_failed.ensures) c.tell_expression_with_offset.new.visitor
+    met.stays met.through c.args.reader c.args.visitor.now (sym c.if-has_failed.ensures) c.tell_whole_with_offset.new.visitor
     c.in-Err-end.last.0 c.error_at-refusal.result c.in-Err-end.last.1 until kind c.error_at-refusal.ensures.at).0
 
 pub returns-in-Err-end-clause-keeps : goal.returns-in-Err-end-clause-keeps
@@ -38,7 +38,7 @@ returns-in-Err-end-clause-keeps g c =
     let until = rw c.in-Err-end.is at c.in-Ok.ensures.ended in
     let kind = rw c.refusal.ensures at c.error_at-refusal.ensures.kind in
     (ends_at_operator g.V.Visitor.visits g.V.Validating.meaning g.V.Validating.state g.V.Validating.why g.V.Validating.keeps met.visited met.kept
-    met.stays met.through c.args.reader c.args.visitor.now (sym c.if-has_failed.ensures) c.tell_expression_with_offset.new.visitor
+    met.stays met.through c.args.reader c.args.visitor.now (sym c.if-has_failed.ensures) c.tell_whole_with_offset.new.visitor
     c.in-Err-end.last.0 c.error_at-refusal.result c.in-Err-end.last.1 until kind c.error_at-refusal.ensures.at).1
 
 pub returns-then-not-is_done-clause-validates : goal.returns-then-not-is_done-clause-validates
@@ -47,7 +47,7 @@ returns-then-not-is_done-clause-validates g c =
     let whole = rw c.in_default.is at c.in-Ok.ensures.whole in
     let at : c.frames_remain-unfinished.result.offset ≡ c.args.reader.place + length c.args.reader.rest = rw (c.frames_remain-unfinished.ensures.at, c.remaining_range-whole.ensures) refl in
     (ends_at_end g.V.Visitor.visits g.V.Validating.meaning g.V.Validating.state g.V.Validating.why g.V.Validating.keeps met.visited met.kept
-    met.stays met.through c.args.reader c.args.visitor.now (sym c.if-has_failed.ensures) c.tell_expression_with_offset.new.visitor
+    met.stays met.through c.args.reader c.args.visitor.now (sym c.if-has_failed.ensures) c.tell_whole_with_offset.new.visitor
     c.fail-then-not-is_done.new.self c.frames_remain-unfinished.result whole (not_so c.is_done.result _ c.if-not-is_done.true c.is_done.ensures) c.frames_remain-unfinished.ensures.kind at
     c.fail-then-not-is_done.ensures.failed c.fail-then-not-is_done.ensures.keeps).0
 
@@ -57,7 +57,7 @@ returns-then-not-is_done-clause-keeps g c =
     let whole = rw c.in_default.is at c.in-Ok.ensures.whole in
     let at : c.frames_remain-unfinished.result.offset ≡ c.args.reader.place + length c.args.reader.rest = rw (c.frames_remain-unfinished.ensures.at, c.remaining_range-whole.ensures) refl in
     (ends_at_end g.V.Visitor.visits g.V.Validating.meaning g.V.Validating.state g.V.Validating.why g.V.Validating.keeps met.visited met.kept
-    met.stays met.through c.args.reader c.args.visitor.now (sym c.if-has_failed.ensures) c.tell_expression_with_offset.new.visitor
+    met.stays met.through c.args.reader c.args.visitor.now (sym c.if-has_failed.ensures) c.tell_whole_with_offset.new.visitor
     c.fail-then-not-is_done.new.self c.frames_remain-unfinished.result whole (not_so c.is_done.result _ c.if-not-is_done.true c.is_done.ensures) c.frames_remain-unfinished.ensures.kind at
     c.fail-then-not-is_done.ensures.failed c.fail-then-not-is_done.ensures.keeps).1
 
@@ -66,7 +66,7 @@ returns-clause-validates g c =
     let met = g.met.V.Validating c.lifetimes (assumption c) in
     let whole = rw c.in_default.is at c.in-Ok.ensures.whole in
     (ends_well g.V.Visitor.visits g.V.Validating.meaning g.V.Validating.state g.V.Validating.why g.V.Validating.keeps met.visited met.kept
-    met.stays met.through c.args.reader c.args.visitor.now (sym c.if-has_failed.ensures) c.tell_expression_with_offset.new.visitor whole
+    met.stays met.through c.args.reader c.args.visitor.now (sym c.if-has_failed.ensures) c.tell_whole_with_offset.new.visitor whole
     (so c.is_done.result _ c.if-not-is_done.false c.is_done.ensures)).0
 
 pub returns-clause-keeps : goal.returns-clause-keeps
@@ -74,5 +74,5 @@ returns-clause-keeps g c =
     let met = g.met.V.Validating c.lifetimes (assumption c) in
     let whole = rw c.in_default.is at c.in-Ok.ensures.whole in
     (ends_well g.V.Visitor.visits g.V.Validating.meaning g.V.Validating.state g.V.Validating.why g.V.Validating.keeps met.visited met.kept
-    met.stays met.through c.args.reader c.args.visitor.now (sym c.if-has_failed.ensures) c.tell_expression_with_offset.new.visitor whole
+    met.stays met.through c.args.reader c.args.visitor.now (sym c.if-has_failed.ensures) c.tell_whole_with_offset.new.visitor whole
     (so c.is_done.result _ c.if-not-is_done.false c.is_done.ensures)).1

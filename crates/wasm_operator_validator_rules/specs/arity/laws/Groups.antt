@@ -28,7 +28,7 @@ use Rattle.wasm_operator_validator_rules.specs.Named.{used_type, as_function}
 use Rattle.wasm_operator_validator_rules.specs.Typed.{OpensFrame, Turns, EndsAt, entry_of}
 use Rattle.wasm_operator_validator_rules.specs.Row.{GroupRow, TableRow, ControlRow, ParametricRow, MemoryRow, BulkRow, not_null}
 use Rattle.wasm_operator_validator_rules.specs.arity.Arity.{Known, Counts, block_counts, frame_counts, access_counts, counts_of, opening}
-use Rattle.wasm_operator_validator_rules.specs.arity.Exchanges.{Standing, CountsAreExact, IsAround, IsShortest, by_row, opened, turned, closed}
+use Rattle.wasm_operator_validator_rules.specs.arity.Exchanges.{Standing, IsCounted, CountsAreExact, IsAround, IsShortest, by_row, opened, turned, closed}
 use Rattle.wasm_operator_validator_rules.specs.arity.laws.Exceptions.{tag_counted, exception_counted}
 use Rattle.wasm_operator_validator_rules.specs.arity.laws.Lookups.{named_is, used_is, function_is, one_more}
 use Rattle.wasm_operator_validator_rules.specs.arity.laws.Objects.{gc_counted}
@@ -206,26 +206,26 @@ bulk_counted k g (bulk.MemoryCopy x y) p q r = table_counted g (op.Bulk (bulk.Me
 
 -- ---- all of them
 
-group_counted : (k : Known) (g : Context) (fs : List Standing) → IsAround k g fs → (set : Initialised) (o : Op) (p q : List Operand) → GroupRow g set o p q
+group_counted : (k : Known) (g : Context) (fs : List Standing) → IsAround k g fs → (set : Initialised) (o : Op) → IsCounted o → (p q : List Operand) → GroupRow g set o p q
     → Counted (counts_of k o) (GroupRow g set o) p q
-group_counted k g fs a set (op.Control o) p q r = control_counted k g fs a o p q r
-group_counted k g fs a set (op.Parametric o) p q r = inl (parametric_counted k g o p q r)
-group_counted k g fs a set (op.Exception o) p q r = exception_counted k g fs a o p q r
-group_counted k g fs a set (op.Memory o) p q r = inl (memory_counted k g set o p q r)
-group_counted k g fs a set (op.Const o) p q r = inl (table_counted g (op.Const o) _ 0 1 p q (some_measures ([] ⟶ number (constant_type o) ∷ [])) refl r)
-group_counted k g fs a set (op.Numeric o) p q r =
+group_counted k g fs a set (op.Control o) i p q r = control_counted k g fs a o p q r
+group_counted k g fs a set (op.Parametric o) i p q r = inl (parametric_counted k g o p q r)
+group_counted k g fs a set (op.Exception o) i p q r = exception_counted k g fs a o p q r
+group_counted k g fs a set (op.Memory o) i p q r = inl (memory_counted k g set o p q r)
+group_counted k g fs a set (op.Const o) i p q r = inl (table_counted g (op.Const o) _ 0 1 p q (some_measures ([] ⟶ number (constant_type o) ∷ [])) refl r)
+group_counted k g fs a set (op.Numeric o) i p q r =
     let ts = taken_by (class_of o) in
     let us = given_by (class_of o) in
     let e : just (length ts) (length us) ≡ just (length (numbers ts)) (length (numbers us)) = rw (numbers_length ts, numbers_length us) refl in
     inl (table_counted g (op.Numeric o) (just (length ts) (length us)) (length (numbers ts)) (length (numbers us)) p q (some_measures (numbers ts ⟶ numbers us)) e r)
-group_counted k g fs a set (op.Bulk o) p q r = inl (bulk_counted k g o p q r)
-group_counted k g fs a set (op.Gc o) p q r = inl (gc_counted k g fs a o p q r)
-group_counted k g fs a set (op.Descriptor o) p q r = absurd (no_type g (op.Descriptor o) p q refl r)
-group_counted k g fs a set (op.Simd o) p q r = absurd (no_type g (op.Simd o) p q refl r)
-group_counted k g fs a set (op.SimdNumeric o) p q r = absurd (no_type g (op.SimdNumeric o) p q refl r)
-group_counted k g fs a set (op.Atomic o) p q r = inl (atomic_counted k g o p q r)
-group_counted k g fs a set (op.Shared o) p q r = absurd (no_type g (op.Shared o) p q refl r)
-group_counted k g fs a set (op.Continuation o) p q r = absurd (no_type g (op.Continuation o) p q refl r)
+group_counted k g fs a set (op.Bulk o) i p q r = inl (bulk_counted k g o p q r)
+group_counted k g fs a set (op.Gc o) i p q r = inl (gc_counted k g fs a o p q r)
+group_counted k g fs a set (op.Descriptor o) i p q r = absurd (no_type g (op.Descriptor o) p q refl r)
+group_counted k g fs a set (op.Simd o) i p q r = absurd i
+group_counted k g fs a set (op.SimdNumeric o) i p q r = absurd i
+group_counted k g fs a set (op.Atomic o) i p q r = inl (atomic_counted k g o p q r)
+group_counted k g fs a set (op.Shared o) i p q r = absurd (no_type g (op.Shared o) p q refl r)
+group_counted k g fs a set (op.Continuation o) i p q r = absurd (no_type g (op.Continuation o) p q refl r)
 
 -- ---- the shortest row
 
@@ -241,9 +241,9 @@ from_counted a R p q n c e f least h = ⊎_elim
     leaves.3 ∙ rw (is, none) refl)
     h
 
-row_counted : (k : Known) (g : Context) (fs : List Standing) (set : Initialised) (o : Op) (n c : ℕ) → IsAround k g fs → IsShortest g set o n c → counts_of k o ≡ Some (n, c)
-row_counted k g fs set o n c a i =
-    from_counted (counts_of k o) (GroupRow g set o) i.popped i.pushed n c i.takes i.gives (λ s t r. i.least s t (i.row.0, r)) (group_counted k g fs a set o i.popped i.pushed i.row.1)
+row_counted : (k : Known) (g : Context) (fs : List Standing) (set : Initialised) (o : Op) (n c : ℕ) → IsCounted o → IsAround k g fs → IsShortest g set o n c → counts_of k o ≡ Some (n, c)
+row_counted k g fs set o n c counts a i =
+    from_counted (counts_of k o) (GroupRow g set o) i.popped i.pushed n c i.takes i.gives (λ s t r. i.least s t (i.row.0, r)) (group_counted k g fs a set o counts i.popped i.pushed i.row.1)
 
 -- ---- frames
 
@@ -289,7 +289,7 @@ closer_counted k g (op.Exception (op.Delegate l)) n c f e = rw f refl
 closer_counted k g o n c f e = absurd e
 
 pub counts_are_exact : CountsAreExact
-counts_are_exact k g fs set o n c a (by_row i) = row_counted k g fs set o n c a i
-counts_are_exact k g fs set o n c a (opened kind b h) = opener_counted k g fs o kind b a h
-counts_are_exact k g (f ∷ fs) set o n c a (turned h ts e) = turner_counted k g o f.block ts a.«module» (innermost_is k g f fs a) e
-counts_are_exact k g (f ∷ fs) set o n c a (closed h e) = closer_counted k g o _ _ (innermost_is k g f fs a) e
+counts_are_exact k g fs set o n c counts a (by_row i) = row_counted k g fs set o n c counts a i
+counts_are_exact k g fs set o n c counts a (opened kind b h) = opener_counted k g fs o kind b a h
+counts_are_exact k g (f ∷ fs) set o n c counts a (turned h ts e) = turner_counted k g o f.block ts a.«module» (innermost_is k g f fs a) e
+counts_are_exact k g (f ∷ fs) set o n c counts a (closed h e) = closer_counted k g o _ _ (innermost_is k g f fs a) e

@@ -8,26 +8,16 @@ ghost use Rattle.wasm_operators_reader.specs.Standing.{Refuses, WantsMemory};
 ghost use Rattle.wasm_operators_reader.specs.Visiting.{Visits};
 ghost use Rattle.wasm_operators_reader.specs.walks.InFrame.{ReadsIn, RefusesIn};
 
+use crate::walks::read_operators::read_in_frame;
+use crate::{FrameStack, Operator, OperatorsReader, Visitor};
 use std::alloc::Global;
-use wasm_operators_frequent::reading::LentVisitor;
-use wasm_operators_reader::walks::read_in_frame;
-use wasm_operators_reader::{FrameStack, Operator, OperatorsReader, Visitor};
-use wasm_operators_visit_simd_operator::VisitSimdOperator;
 use wasm_types::{BinaryReader, Result};
 
-/// Can be told of any operator, those on vectors too. A [`LentVisitor`] is told by the visit that belongs to the operator. A type that
-/// has all visits may tell itself group by group, as for `TellOperator`: `visit_simd` and `visit_simd_numeric` are those of vectors.
+/// Can be told of any operator, those on vectors too. A type that has all visits may tell itself group by group, as for `TellOperator`: `visit_simd` and `visit_simd_numeric` are those of vectors.
 pub trait TellSimdOperator<'a>: Visitor<'a> {
     /// Tells it of this operator, and hands the operator over.
     fn tell_simd(&mut self, op: Operator<'a>) -> Self::Output
         ensures { Self.visits self.old (op_of op.entry) result self.new };
-}
-
-impl<'a, 'v, V: VisitSimdOperator<'a>> TellSimdOperator<'a> for LentVisitor<'v, V> {
-    #[inline]
-    fn tell_simd(&mut self, op: Operator<'a>) -> V::Output {
-        self.visitor.visit_simd_owned(op)
-    }
 }
 
 /// Reads the next operator, as `OperatorsReader::read` does, and tells the visitor of it, also where it is one on vectors.

@@ -1,0 +1,2 @@
+-- Definitions: which types a check names for an operator on vectors.
+pub mod Vectors
