@@ -1,3 +1,4 @@
 mod Turns
 pub mod Validity
 pub mod WorkedModule
+pub mod WorkedLinked

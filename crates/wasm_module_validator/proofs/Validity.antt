@@ -31,18 +31,24 @@ use Rattle.wasm_operator_validator_rules.specs.Operands.{ValueType, known}
 use Rattle.wasm_operator_validator_rules.specs.constants.Constants.{IsConstant}
 use Rattle.wasm_operator_validator_rules.specs.Context.{Global, Signature, IsTypeIndex, written_type, IsFunctionType, address_type}
 use Rattle.wasm_module_validator_rules.specs.Syntax.{Function as CodeItem, ModuleTree}
+use Rattle.wasm_module_validator_rules.specs.Binary.{SpelledModule}
+use Rattle.wasm_module_validator_rules.specs.ModuleLaws.{one_module}
 use Rattle.wasm_module_validator_rules.specs.Spaces.{with_types, value_in, FunctionEntry, function_with, function_of, imported, imported_globals, element_type, function_space, tag_of, tag_space, module_of}
-use Rattle.wasm_module_validator_rules.specs.Valid.{Each, IsFunctionIndex, IsValidElementType, IsValidTableType, IsValidTagType, IsValidImport, IsValidValueType, IsInitialised, IsValidTable, AreValidGlobals, IsValidMode, AreValidItems, IsValidElement, IsValidData, locals_in, HasValidBody, IsValid}
+use Rattle.wasm_module_validator_rules.specs.Valid.{Each, IfThere, IsValidStart, IsFunctionIndex, IsValidElementType, IsValidTableType, IsValidTagType, IsValidImport, IsValidValueType, IsInitialised, IsValidTable, AreValidGlobals, IsValidMode, AreValidItems, IsValidElement, IsValidData, locals_in, HasValidBody, IsValid}
 use Rattle.wasm_operator_validator_soundness.specs.runs.Values.{Function, Program, IsStandard, IsStandardType, Value, number_value, ref_null, ref_function, ref_object, ref_i31, ref_host, ref_extern, ref_exn, Fits as FitsType, null_of, default_of}
 use Rattle.wasm_operator_validator_soundness.specs.runs.Soundness as sound
-use Rattle.wasm_operator_validator_soundness.specs.runs.Soundness.{IsValidProgram}
-use Rattle.wasm_operator_validator_soundness.proofs.RunsLeaving.{standard_is_sound, null_fits}
+use Rattle.wasm_operator_validator_soundness.specs.runs.Soundness.{IsValidProgram, evaluated}
+use Rattle.wasm_operator_validator_soundness.proofs.RunsLeaving.{standard_is_sound, standard_links, null_fits}
+use Rattle.wasm_operator_validator_soundness.specs.runs.Machine.{address}
+use Rattle.wasm_operator_validator_soundness.proofs.Options.{address_is}
 use Rattle.wasm_operator_validator_soundness.proofs.RunsFitting.{fits_below}
 use Rattle.wasm_operator_validator_soundness.proofs.Objects.{function_abstract}
-use Rattle.wasm_operator_validator_soundness.proofs.RunsSteps.{programs_sound, constants_sound}
+use Rattle.wasm_operator_validator_soundness.proofs.RunsSteps.{programs_sound, constants_sound, constants_valid as constant_states, runs_stay_valid, starts_valid}
+use Rattle.wasm_operator_validator_soundness.proofs.Values.{calls_through}
+use Rattle.wasm_types.specs.trees.Matches.{ResultsMatch}
 use Rattle.wasm_module_validator.specs.soundness.Modules.{types_in, host_function, own_function, own_functions, program_of, MayBeImported, AreHosts}
 use Rattle.wasm_module_validator.specs.soundness.Constants.{without_body, seen_with, Gives, all_seen, GlobalsFit, ContentFits, TableFits, FunctionFits, ItemsFit, PlaceFits, ElementFits, DataFits, EachConstantFits}
-use Rattle.wasm_module_validator.specs.soundness.Soundness.{ModulesAreSound, AcceptedIsSound}
+use Rattle.wasm_module_validator.specs.soundness.Soundness.{MayStart, ModulesAreSound, AcceptedIsSound}
 
 -- ---- lists
 
@@ -304,7 +310,9 @@ module _ (z : Settings) (m : ModuleTree) (hosts : List TypeTree) (standard : IsS
   count = imported_globals m
 
   constant_gives : (globals : List Global) (v : ValueType) (c : Expression) → IsConstant z.features (record (module_of m) { globals = globals }) count v c → Gives (seen_with whole globals) v c
-  constant_gives globals v c i = constants_sound (seen_with whole globals) v c (constants_valid whole globals (program_valid z m hosts standard valid hosted)) i.typed
+  constant_gives globals v c i =
+      let k = constants_valid whole globals (program_valid z m hosts standard valid hosted) in
+      (constants_sound (seen_with whole globals) v c k i.typed, λ answers t runs. runs_stay_valid (seen_with whole globals) (v ∷ []) (evaluated v c) answers t k (constant_states (seen_with whole globals) v c k i.typed) runs)
 
   globals_fit : (seen : ℕ) (xs : List (GlobalTree Expression)) → AreValidGlobals z (module_of m) count seen xs → GlobalsFit z m hosts seen xs
   globals_fit seen [] h = tt
@@ -340,15 +348,18 @@ module _ (z : Settings) (m : ModuleTree) (hosts : List TypeTree) (standard : IsS
       let t : ValueType = value_in (types_in m) (value.Ref r) in
       each_weaker (IsConstant z.features (module_of m) count t) (Gives (all_seen z m hosts) t) cs (λ c i. constant_gives (module_of m).globals t c i) h.1
 
+  offset_gives : (wide : Bool) (c : Expression) → IsConstant z.features (module_of m) count (address_type wide) c → Gives (all_seen z m hosts) (address wide) c
+  offset_gives wide c i = subst (λ (v : ValueType). Gives (all_seen z m hosts) v c) (sym (address_is wide)) (constant_gives (module_of m).globals (address_type wide) c i)
+
   place_fits : (t : ValueType) (mode : ElementMode Expression) → IsValidMode z (module_of m) count t mode → PlaceFits z m hosts t mode
   place_fits t passive h = tt
   place_fits t declared h = tt
   place_fits t (active x c) h =
-      (h.0, h.1, (λ q v f. fits_below q v (known t) (known (h.0).element) f h.2), constant_gives (module_of m).globals (address_type (h.0).table64) c h.3)
+      (h.0, h.1, (λ q v f. fits_below q v (known t) (known (h.0).element) f h.2), offset_gives (h.0).table64 c h.3)
 
   data_fits : (mode : DataMode Expression) → IsValidData z (module_of m) count mode → DataFits z m hosts mode
   data_fits data_mode.passive h = tt
-  data_fits (data_mode.active x c) h = (h.0, h.1, constant_gives (module_of m).globals (address_type (h.0).memory64) c h.2)
+  data_fits (data_mode.active x c) h = (h.0, h.1, offset_gives (h.0).memory64 c h.2)
 
   pub each_constant_fits : EachConstantFits z m hosts
   each_constant_fits = record {
@@ -363,11 +374,36 @@ module _ (z : Settings) (m : ModuleTree) (hosts : List TypeTree) (standard : IsS
 
 -- ---- modules
 
+no_more : (us : List ValueType) → ResultsMatch [] us → us ≡ []
+no_more [] k = refl
+no_more (t ∷ us) k = absurd k
+
+no_less : (us : List ValueType) → ResultsMatch us [] → us ≡ []
+no_less [] k = refl
+no_less (t ∷ us) k = absurd k
+
+nothing_less : (t : TypeTree) (c : Signature) → IsFunctionType t c → ResultsMatch [] c.params → ResultsMatch c.results [] → IsFunctionType t (record { params = []; results = [] })
+nothing_less t c e k l = e ∙ ap (λ (ps : List ValueType). function ps c.results) (no_more c.params k) ∙ ap (λ (rs : List ValueType). function [] rs) (no_less c.results l)
+
+may_start : (p : Program) → IsValidProgram p → (o : Option ℕ) → IfThere (IsValidStart p.«module») o → IfThere (MayStart p) o
+may_start p v None s = tt
+may_start p v (Some x) s =
+    let r = v.functions x s.0 s.1 in
+    let k = calls_through (r.0).type s.0 (record { params = []; results = [] }) (standard_links (r.0).type (r.2).standard) (r.2).below s.2 in
+    (r.0, r.1, nothing_less (r.0).type k.own k.is k.params k.results)
+
 pub modules_sound : ModulesAreSound
 modules_sound z m standard valid hosts hosted = record {
   functions = λ s results started. programs_sound (program_of z m hosts) s results (program_valid z m hosts standard valid hosted) started;
+  states = λ s results started answers t runs.
+      let v = program_valid z m hosts standard valid hosted in
+      runs_stay_valid (program_of z m hosts) results s answers t v (starts_valid (program_of z m hosts) s results v started) runs;
+  start = may_start (program_of z m hosts) (program_valid z m hosts standard valid hosted) m.start valid.start;
   constants = each_constant_fits z m hosts standard valid hosted;
 }
 
 pub accepted_sound : AcceptedIsSound
-accepted_sound z bytes accepted = record { tree = accepted.0; judged = accepted.1; runs = λ standard. modules_sound z accepted.0 standard (accepted.1).valid }
+accepted_sound z bytes accepted =
+    let valid : (m : ModuleTree) → SpelledModule z m bytes → IsValid z m =
+    λ m spelled. subst (λ (n : ModuleTree). IsValid z n) (one_module z accepted.0 m bytes (accepted.1).spelled spelled) (accepted.1).valid in
+    record { accepted = accepted; valid = valid; runs = λ m spelled standard. modules_sound z m standard (valid m spelled) }

@@ -2,5 +2,6 @@
 pub mod Modules
 pub mod Constants
 pub mod Soundness
--- A worked run of a module.
+-- Worked runs of modules.
 pub mod ModuleWorked
+pub mod LinkedWorked

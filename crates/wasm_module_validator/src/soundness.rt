@@ -3,8 +3,10 @@
 //! There is no code here but the laws, each on the contract of a function that does nothing. `specs/` is read in the order of its
 //! `Lib.antt`. How a program runs stands in `wasm_operator_validator_soundness::runs`.
 
+ghost use Rattle.std.specs.Prelude.{ℤ};
 ghost use Rattle.wasm_types.specs.settings.Sets.{bits_of, default_features};
 ghost use Rattle.wasm_operator_validator_soundness.specs.runs.Values.{IsStandard};
+ghost use Rattle.wasm_module_validator.specs.soundness.LinkedWorked.{LinkedWorked};
 ghost use Rattle.wasm_module_validator.specs.soundness.ModuleWorked.{ModuleWorked};
 ghost use Rattle.wasm_module_validator.specs.soundness.Soundness.{AcceptedIsSound, ModulesAreSound};
 
@@ -27,4 +29,9 @@ pub fn default_is_standard()
 /// A function of a valid module is started, answered, and returns.
 pub fn modules_are_worked()
     ensures { ModuleWorked }
+{}
+
+/// The function that starts a valid module with imports, a table, a tag and a global calls an import, which the host answers, and throws.
+pub fn linked_is_worked()
+    ensures { (x : ℤ) → LinkedWorked x }
 {}

@@ -1,9 +1,10 @@
 -- Control: branches and calls.
 use Rattle.std.proofs.Common.{◌≡◌, ℕ, List, [], ◌∷◌, ◌++◌, reverse, Option, Some, None, Bool, true, false, refl, sym, ap, subst, ◌∙◌}
 use Rattle.std.proofs.Common.{slice_get, get_or, if◌then◌else◌}
-use Rattle.wasm_types.specs.trees.Types.{extern, any, i31, exn, HeapOf, concrete, ref}
+use Rattle.wasm_types.specs.trees.Types.{Abstract, func, nofunc, extern, any, i31, exn, HeapOf, abstract, concrete, ref, InnerOf, function, array_of, struct_of, continuation}
 use Rattle.wasm_types.specs.trees.Trees.{TypeTree}
-use Rattle.wasm_types.specs.trees.Below.{DeclaredBelow, itself, expanded}
+use Rattle.wasm_types.specs.trees.Below.{DeclaredBelow, itself, expanded, abstract_above, IsBelowAbstract}
+use Rattle.wasm_types.specs.trees.AbstractOrder.{AbstractBelow, same, nofunc_func}
 use Rattle.wasm_operators_immediates.specs.declared.frames.FrameKind.{FrameKind}
 use Rattle.wasm_operators_enums.specs.declared.control.ControlOperator.{ControlOperator}
 use Rattle.wasm_operators_enums.specs.declared.control.ControlOperator.TheVariants as control
@@ -15,22 +16,34 @@ use Rattle.wasm_operator_validator_rules.specs.Row.{IsIndirect, not_null, Contro
 use Rattle.wasm_operator_validator_rules.specs.Named.{as_function, used_type}
 use Rattle.wasm_operator_validator_rules.specs.Taken.{IsLabel}
 use Rattle.wasm_operator_validator_rules.specs.Typed.{Typed}
-use Rattle.wasm_operator_validator_soundness.specs.runs.Values.{IsAReference, Function, Program, Value, number_value, ref_null, ref_function, ref_object, ref_i31, ref_host, ref_extern, ref_exn, is_null, IsNamed, IsMade, Fits, AllFit}
+use Rattle.wasm_operator_validator_soundness.specs.runs.Values.{IsAReference, IsObject, IsStandardType, Function, Program, Value, number_value, ref_null, ref_function, ref_object, ref_i31, ref_host, ref_extern, ref_exn, is_null, IsNamed, IsMade, Fits, AllFit}
 use Rattle.wasm_operator_validator_soundness.specs.runs.States.{Activation, Answer}
 use Rattle.wasm_operator_validator_soundness.specs.runs.States.{trapped, Move}
-use Rattle.wasm_operator_validator_soundness.specs.runs.Machine.{function_type, body_of}
-use Rattle.wasm_operator_validator_soundness.specs.runs.Machine.{here, going, branch, named, invoke, call, call_reference, call_indirect, operate_control}
+use Rattle.wasm_operator_validator_soundness.specs.runs.Machine.{address, function_type, body_of, IsCallable}
+use Rattle.wasm_operator_validator_soundness.specs.runs.Machine.{going, branch, named, invoke, call, call_reference, call_indirect, operate_control}
 use Rattle.wasm_operator_validator_soundness.specs.runs.Soundness.{HasValidBody, IsValidProgram}
-use Rattle.wasm_operator_validator_soundness.proofs.RunsFitting.{all_below, below_on_top, stack_more, reversed_more, both_reversed}
+use Rattle.wasm_operator_validator_soundness.proofs.RunsFitting.{fits_below, all_below, below_on_top, stack_more, reversed_more, both_reversed}
 use Rattle.wasm_operator_validator_soundness.specs.runs.ValidStates.{AreSet, Around, around_of}
 use Rattle.wasm_operator_validator_soundness.proofs.RunsInvariant.{none_is_some, some_same}
 use Rattle.wasm_operator_validator_soundness.specs.runs.ValidStates.{AllAwait}
-use Rattle.wasm_operator_validator_soundness.proofs.RunsInvariant.{IsOkay}
-use Rattle.wasm_operator_validator_soundness.proofs.Options.{used_is, as_function_is, named_some}
+use Rattle.wasm_operator_validator_soundness.proofs.RunsInvariant.{here, IsOkay}
+use Rattle.wasm_operator_validator_soundness.proofs.Options.{address_is, used_is, as_function_is, named_some}
 use Rattle.wasm_operator_validator_soundness.proofs.Combining.{done_okay, asks_okay, allows_okay, choose_okay, found_okay, pops_okay, takes_okay, may_trap_okay}
-use Rattle.wasm_operator_validator_soundness.proofs.RunsLeaving.{hand_back_okay, signature_is, begin_okay, standard_links}
+use Rattle.wasm_operator_validator_soundness.proofs.RunsLeaving.{hand_back_okay, signature_is, begin_okay, standard_is_sound, standard_links}
 use Rattle.wasm_operator_validator_soundness.proofs.Values.{calls_through, is_reference, label_chosen, never_null, no_bottom, no_object, non_null_fits, nullable_too, results_below, under_index}
 use Rattle.wasm_operator_validator_soundness.proofs.Standing.{branch_if_okay, branch_okay, code_at, goes_okay, here_awaits, values_at, values_over, values_under, Here}
+
+-- what functions are below
+abbrev IsFunctionAbstract : Abstract → Type 0
+IsFunctionAbstract func = Unit {0}
+IsFunctionAbstract nofunc = Unit {0}
+IsFunctionAbstract h = ⊥
+
+no_function_abstract : (x : InnerOf TypeTree) → IsObject x → IsFunctionAbstract (abstract_above x) → ⊥
+no_function_abstract (function ps rs) o i = absurd o
+no_function_abstract (array_of f) o i = i
+no_function_abstract (struct_of fs) o i = i
+no_function_abstract (continuation t) o i = absurd o
 
 module _ (p : Program) (valid : IsValidProgram p) (final : List ValueType) (a : Answer) (act : Activation) (acts : List Activation) (h : Here p final act acts) where
   abbrev w : Around
@@ -143,15 +156,39 @@ module _ (p : Program) (valid : IsValidProgram p) (final : List ValueType) (a : 
       (pops_okay p final vs (known (ref true (concrete t))) (stack b.params ++ rest) _ v (λ r ws m y.
       asks_okay p final (Fits p r (ref true (concrete t))) _ m (invoke_okay tail r t b ws more rest m i k y)))
 
+  -- nothing but nulls and functions is below `func`
+  only_functions : (h : Abstract) → AbstractBelow h func → IsFunctionAbstract h
+  only_functions h same = tt
+  only_functions h nofunc_func = tt
+
+  made_callable : (t : TypeTree) (s : Bool) → IsStandardType t → IsObject (expanded t) → IsBelowAbstract t s func → ⊥
+  made_callable t s i o b =
+      no_function_abstract (expanded t) o
+      (subst IsFunctionAbstract (sym ((standard_is_sound t i b.0 b.1).constructor)) (only_functions (abstract_above (expanded b.0)) b.3))
+
+  callable : (v : Value) (s : Bool) → Fits p v (ref true (abstract s func)) → IsCallable v
+  callable (ref_null c k) s f = tt
+  callable (ref_function j t) s f = tt
+  callable (number_value n) s f = absurd f.1
+  callable (ref_object t) s f = absurd (made_callable t s f.0.0 f.0.1 f.1.1)
+  callable ref_i31 s f = absurd (only_functions i31 f.1.1.1)
+  callable ref_host s f = absurd (only_functions any f.1.1.1)
+  callable ref_extern s f = absurd (only_functions extern f.1.1.1)
+  callable (ref_exn t) s f = absurd (only_functions exn f.1.1.1)
+
   pub call_indirect_okay : (tail : Bool) (y x : ℕ) (t : Table) (b : Signature) (more : Code) (rest : List Operand) → IsIndirect g y x t b
       → CallGoesOn tail b more rest → AllFit p vs (known (address_type t.table64) ∷ (stack b.params ++ rest)) → Okay (call_indirect p a act acts tail y x more)
   call_indirect_okay tail y x t b more rest i k v =
       found_okay p final (slice_get p.«module».tables x) t _ i.table
       (found_okay p final (slice_get p.«module».types y) i.callee _ i.type
-      (takes_okay p final a (address_type t.table64 ∷ []) vs (stack b.params ++ rest) _ v (λ c ws j z.
+      (takes_okay p final a (address t.table64 ∷ []) vs (stack b.params ++ rest) _ (subst (λ (u : ValueType). AllFit p vs (known u ∷ (stack b.params ++ rest))) (sym (address_is t.table64)) v) (λ c ws j z.
       may_trap_okay p final a _
-      (allows_okay p final (Fits p a.held t.element × Fits p a.held (ref false (concrete i.callee))) _ (λ fits.
-      invoke_okay tail a.held i.callee b ws more rest (nullable_too p a.held true (concrete i.callee) fits.1) i.function k z)))))
+      (allows_okay p final (Fits p a.held t.element) _ (λ held.
+      asks_okay p final (IsCallable a.held) _ (callable a.held (i.functions).0 (fits_below p a.held (known t.element) (known (ref true (abstract (i.functions).0 func))) held (i.functions).1))
+      (choose_okay p final a.condition _ _
+      (λ e. allows_okay p final (Fits p a.held (ref false (concrete i.callee))) _ (λ fits.
+      invoke_okay tail a.held i.callee b ws more rest (nullable_too p a.held true (concrete i.callee) fits) i.function k z))
+      (λ e. done_okay p final trapped tt)))))))
 
   pub references_over : (ts : List ValueType) (t : Operand) (popped rest : List Operand) → AllBelow s (reverse popped ++ rest) → popped ≡ all_known ts ++ t ∷ [] → AllFit p vs (t ∷ (stack ts ++ rest))
   references_over ts t popped rest b e =

@@ -16,12 +16,12 @@ use Rattle.wasm_operator_validator_soundness.specs.runs.Values.{Program, Value, 
 use Rattle.wasm_operator_validator_soundness.specs.runs.States.{Continuation, behind, again, Handlers, no_handlers, table, clauses, Activation, taken_by, Answer}
 use Rattle.wasm_operator_validator_soundness.specs.runs.States.{next, Move, done}
 use Rattle.wasm_operator_validator_soundness.specs.runs.Machine.{block_signature, second_part, either_part, takes}
-use Rattle.wasm_operator_validator_soundness.specs.runs.Machine.{here, within, opens, enter}
+use Rattle.wasm_operator_validator_soundness.specs.runs.Machine.{within, opens, enter}
 use Rattle.wasm_operator_validator_soundness.specs.runs.Soundness.{IsValidProgram}
 use Rattle.wasm_operator_validator_soundness.proofs.RunsFitting.{all_below}
 use Rattle.wasm_operator_validator_soundness.specs.runs.ValidStates.{AreSet, Around, around_of, at, frame_of}
 use Rattle.wasm_operator_validator_soundness.specs.runs.ValidStates.{LoopsBack, HandlersFit}
-use Rattle.wasm_operator_validator_soundness.proofs.RunsInvariant.{IsOkay}
+use Rattle.wasm_operator_validator_soundness.proofs.RunsInvariant.{here, IsOkay}
 use Rattle.wasm_operator_validator_soundness.proofs.Combining.{done_okay, asks_okay, found_okay, pops_okay, takes_okay}
 use Rattle.wasm_operator_validator_soundness.proofs.Values.{block_type_is, opened_same, second_typed}
 use Rattle.wasm_operator_validator_soundness.proofs.Standing.{values_over, Here}

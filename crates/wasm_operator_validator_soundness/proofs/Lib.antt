@@ -14,6 +14,7 @@ pub mod WorkedAnswered
 pub mod RunsFitting
 pub mod RunsInvariant
 pub mod Options
+pub mod Names
 pub mod Combining
 pub mod RunsLeaving
 pub mod Objects
@@ -29,3 +30,5 @@ pub mod RunsWorkedRuns
 pub mod RunsWorkedStuck
 pub mod WorkedSums
 pub mod WorkedCaught
+pub mod WorkedObjects
+pub mod WorkedOlder

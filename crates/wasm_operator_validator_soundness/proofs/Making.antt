@@ -1,8 +1,7 @@
 -- Structs, arrays, casts and conversions.
 use Rattle.std.proofs.Common.{◌≡◌, ℕ, List, [], ◌∷◌, ◌++◌, reverse, Option, Some, Bool, true, false, IsTrue, refl, sym, ap, subst, ◌∙◌, append-nil}
 use Rattle.std.proofs.Common.{slice_get, replicate, flat_map, if◌then◌else◌, not, ◌&&◌, true≢false}
-use Rattle.std.specs.Prelude.{All}
-use Rattle.wasm_types.specs.trees.Types.{i32, StorageOf, Abstract, extern, any, eq, array, i31, exn, HeapOf, abstract, concrete, exact, ref, InnerOf, array_of}
+use Rattle.wasm_types.specs.trees.Types.{i32, StorageOf, Abstract, extern, any, eq, array, i31, exn, HeapOf, abstract, concrete, exact, ref, FieldOf, InnerOf, array_of}
 use Rattle.wasm_types.specs.trees.Trees.{TypeTree}
 use Rattle.wasm_types.specs.trees.Below.{itself, Below, expanded}
 use Rattle.wasm_types.specs.trees.Matches.{InnerMatches}
@@ -21,31 +20,31 @@ use Rattle.wasm_operators_enums.specs.Op.{Op, ParametricTree, ExceptionTree, Con
 use Rattle.wasm_operators_encoding.specs.expressions.Code.{Code, IsIn}
 use Rattle.wasm_operator_validator_rules.specs.Operands.{ValueType, Operand, known, OperandBelow, AllBelow, all_known, stack}
 use Rattle.wasm_operator_validator_rules.specs.Context.{Context, Initialised, Frame, may_use}
-use Rattle.wasm_operator_validator_rules.specs.InstructionTypes.{InstructionType, ◌⟶◌, names_data, read as place_read, read_packed, written as written_type_of, allocated, element_of, is_described, named as named_type, reference_to, instruction_type, i32_type}
+use Rattle.wasm_operator_validator_rules.specs.InstructionTypes.{InstructionType, ◌⟶◌, names_data, read as place_read, read_packed, written as written_type_of, allocated, element_of, is_described, named as named_type, reference_to, i32_type}
 use Rattle.wasm_operator_validator_rules.specs.Named.{used_type}
 use Rattle.wasm_operator_validator_rules.specs.Aggregates.{Array, struct_named, array_named, heap_meant, heap_named, top_heap, is_castable}
 use Rattle.wasm_operator_validator_rules.specs.Places.{Place, is_of_bytes, has_default, have_defaults, unpacked, field_place, element_place, operands_for}
 use Rattle.wasm_operator_validator_rules.specs.Objects.{GcRow, IsCast, null_left, difference}
 use Rattle.wasm_types.specs.values.Reference.{Reference}
-use Rattle.wasm_operator_validator_rules.specs.Taken.{Takes, TableRow, IsLabel}
+use Rattle.wasm_operator_validator_rules.specs.Taken.{Takes, IsLabel}
 use Rattle.wasm_operator_validator_rules.specs.Typed.{Typed}
-use Rattle.wasm_operator_validator_soundness.specs.runs.Values.{IsObject, IsStandardType, Program, Value, number_value, ref_null, ref_function, ref_object, ref_i31, ref_host, ref_extern, ref_exn, is_null, bottom_under, Fits, AllFit}
+use Rattle.wasm_operator_validator_soundness.specs.runs.Values.{IsObject, IsAkin, IsStandardType, Program, Value, number_value, ref_null, ref_function, ref_object, ref_i31, ref_host, ref_extern, ref_exn, is_null, bottom_under, Fits, AllFit}
 use Rattle.wasm_operator_validator_soundness.specs.runs.States.{Activation, Answer}
 use Rattle.wasm_operator_validator_soundness.specs.runs.States.{trapped, Move, asks, allows, found, pops}
 use Rattle.wasm_operator_validator_soundness.specs.runs.Machine.{gives, copies, may_trap}
-use Rattle.wasm_operator_validator_soundness.specs.runs.Machine.{here, goes, branch}
-use Rattle.wasm_operator_validator_soundness.specs.runs.Machine.{meant_heap, fields_in, operands_of, struct_operands, array_operands, HasDefault, FromData, last_of, object, object_under, read, write, make, cast, cast_top, cast_from, IsOf, null_in, convert, operate_gc}
+use Rattle.wasm_operator_validator_soundness.specs.runs.Machine.{goes, branch}
+use Rattle.wasm_operator_validator_soundness.specs.runs.Machine.{meant_heap, fields_in, operand_of, operands_of, struct_fields, array_fields, IsWhole, IsPacked, AreStoredAlike, HaveDefaults, IsArray, IsUnboxed, IsComparable, FromData, writes, stores_from, last_of, object, object_under, read, write, make, cast, cast_top, cast_from, IsOf, null_in, convert, operate_gc}
 use Rattle.wasm_operator_validator_soundness.specs.runs.Soundness.{IsValidProgram}
 use Rattle.wasm_operator_validator_soundness.proofs.RunsFitting.{fits_below, all_below, each_below, fits_joined, stack_more}
 use Rattle.wasm_operator_validator_soundness.specs.runs.ValidStates.{AreSet, Around, around_of}
 use Rattle.wasm_operator_validator_soundness.proofs.RunsInvariant.{none_is_some, some_same}
-use Rattle.wasm_operator_validator_soundness.proofs.RunsInvariant.{IsOkay}
+use Rattle.wasm_operator_validator_soundness.proofs.RunsInvariant.{here, IsOkay}
 use Rattle.wasm_operator_validator_soundness.proofs.Options.{map_some, used_is, named_some, if_some}
-use Rattle.wasm_operator_validator_soundness.proofs.Objects.{akin_value, HoldsAlike, arrays_alike, operands_are, element_is, defaults_each, default_element, bytes_element, bytes_through, data_named, and_left, and_right, null_passes, null_falls, matches_along, own_field, unpacked_below, no_function, struct_is, array_is, IsPlaceOf, field_place_is, element_place_is, provided_is, read_is, read_packed_is, bottom_fits}
+use Rattle.wasm_operator_validator_soundness.proofs.Objects.{an_array, an_unboxed, comparable, akin_value, heap_alike, held_below, below_held, stored_alike, operand_is, StoredBelow, HoldsAlike, arrays_alike, operands_are, element_is, defaults_each, default_element, bytes_element, bytes_through, data_named, and_left, and_right, null_passes, null_falls, matches_along, own_field, unpacked_below, no_function, struct_is, array_is, IsPlaceOf, field_place_is, element_place_is, provided_is, read_is, read_packed_is, bottom_fits}
 use Rattle.wasm_operator_validator_soundness.proofs.Combining.{done_okay, asks_okay, allows_okay, choose_okay, found_okay, pops_okay, takes_okay, gives_okay, copies_okay, may_trap_okay}
 use Rattle.wasm_operator_validator_soundness.proofs.RunsLeaving.{standard_is_sound, standard_links}
 use Rattle.wasm_operator_validator_soundness.proofs.Values.{heap_named_is, as_nullable, never_null, no_bottom, nullable_too}
-use Rattle.wasm_operator_validator_soundness.proofs.Standing.{branch_okay, code_at, exchange_okay, goes_okay, values_at, values_over, Here}
+use Rattle.wasm_operator_validator_soundness.proofs.Standing.{branch_okay, code_at, exchange_okay, goes_okay, table_of, values_at, values_over, Here}
 
 module _ (p : Program) (valid : IsValidProgram p) (final : List ValueType) (a : Answer) (act : Activation) (acts : List Activation) (h : Here p final act acts) where
   abbrev w : Around
@@ -88,14 +87,14 @@ module _ (p : Program) (valid : IsValidProgram p) (final : List ValueType) (a : 
   -- ---- objects
 
   abbrev Holds : Type 0
-  Holds = InnerOf TypeTree → Option (List ValueType)
+  Holds = InnerOf TypeTree → Option (List (FieldOf TypeTree))
 
-  pub object_okay : (of : Holds) (v : Value) (t : TypeTree) (ts : List ValueType) (k : List ValueType → Move) → Fits p v (ref true (concrete t)) → IsObject (expanded t)
+  pub object_okay : (of : Holds) (v : Value) (t : TypeTree) (ts : List (FieldOf TypeTree)) (k : List (FieldOf TypeTree) → Move) → Fits p v (ref true (concrete t)) → IsObject (expanded t)
       → of (expanded t) ≡ Some ts → HoldsAlike of
-      → ((u : TypeTree) → InnerMatches (expanded u) (expanded t) → Okay (k (operands_of (fields_in (expanded u))))) → Okay (object p a act acts of v k)
+      → ((u : TypeTree) → InnerMatches (expanded u) (expanded t) → Okay (k (fields_in (expanded u)))) → Okay (object p a act acts of v k)
   object_okay of (ref_object u) t ts k y i e alike q =
       let m = (matches_along u t (standard_links u y.0.0) y.1.1).1 in
-      found_okay p final (of (expanded u)) (operands_of (fields_in (expanded u))) k (alike (expanded u) (expanded t) ts m e) (q u m)
+      found_okay p final (of (expanded u)) (fields_in (expanded u)) k (alike (expanded u) (expanded t) ts m e) (q u m)
   object_okay of (ref_null c d) t ts k y i e alike q = done_okay p final trapped tt
   object_okay of (ref_function j u) t ts k y i e alike q = absurd (no_function u t (standard_is_sound u y.0.0) y.1.1 y.0.1 i)
   object_okay of (number_value n) t ts k y i e alike q = absurd y.1
@@ -104,9 +103,9 @@ module _ (p : Program) (valid : IsValidProgram p) (final : List ValueType) (a : 
   object_okay of ref_extern t ts k y i e alike q = absurd (no_bottom extern (expanded t) (y.1.1 t itself).1)
   object_okay of (ref_exn u) t ts k y i e alike q = absurd (no_bottom exn (expanded t) (y.1.1 t itself).1)
 
-  pub object_under_okay : (of : Holds) (ns : List ValueType) (x i : ℕ) (d : Place) (n : IsPlaceOf of g x i ns d) (above : List ValueType) (ws : List Value) (k : List ValueType → List Value → Move) (rest : List Operand)
+  pub object_under_okay : (of : Holds) (ns : List ValueType) (x i : ℕ) (d : Place) (n : IsPlaceOf of g x i ns d) (above : List ValueType) (ws : List Value) (k : List (FieldOf TypeTree) → List Value → Move) (rest : List Operand)
       → AllFit p ws (stack (ref true (concrete n.type) ∷ above) ++ rest)
-      → ((u : TypeTree) (us : List Value) → InnerMatches (expanded u) (expanded n.type) → AllFit p us rest → Okay (k (operands_of (fields_in (expanded u))) us))
+      → ((u : TypeTree) (us : List Value) → InnerMatches (expanded u) (expanded n.type) → AllFit p us rest → Okay (k (fields_in (expanded u)) us))
       → Okay (object_under p a act acts of above x ws k)
   object_under_okay of ns x i d n above ws k rest y q =
       found_okay p final (slice_get p.«module».types x) n.type _ n.there
@@ -114,45 +113,41 @@ module _ (p : Program) (valid : IsValidProgram p) (final : List ValueType) (a : 
       (takes_okay p final a (ref true (concrete n.type) ∷ above) ws rest _ y (λ us zs j l.
       may_trap_okay p final a _ (object_okay of (last_of us) n.type n.held (λ ts. k ts zs) (bottom_fits p us (ref true (concrete n.type)) above j) n.object n.holds n.alike (λ u c. q u zs c l)))))
 
-  pub read_okay : (of : Holds) (x i : ℕ) (ns : List ValueType) (q : Place) (more : Code) (popped pushed rest m : List Operand) → IsPlaceOf of g x i ns q
+  pub read_okay : (stored : StorageOf TypeTree → Type 0) (of : Holds) (x i : ℕ) (ns : List ValueType) (q : Place) (more : Code) (popped pushed rest m : List Operand) → IsPlaceOf of g x i ns q → StoredBelow stored q.storage
       → popped ≡ all_known q.reached_by → pushed ≡ all_known (unpacked q.storage ∷ []) → AllBelow s (reverse popped ++ rest) → m ≡ reverse pushed ++ rest → Goes set more m
-      → Okay (read p a act acts of ns x i more)
-  read_okay of x i ns q more popped pushed rest m n ep eu b e t =
-      object_under_okay of ns x i q n ns vs (λ ts ws. found (slice_get ts i) (λ u. gives p a (u ∷ []) (λ rs. goes p a act acts (rs ++ ws) more))) rest (values_at p valid final a act acts h _ popped rest b (ep ∙ ap (λ (z : Place). all_known z.reached_by) n.is)) (λ u us c j.
+      → Okay (read p a act acts stored of ns x i more)
+  read_okay stored of x i ns q more popped pushed rest m n d ep eu b e t =
+      object_under_okay of ns x i q n ns vs (λ fs ws. found (slice_get fs i) (λ f'. asks (stored f'.storage) (gives p a (operand_of f'.storage ∷ []) (λ rs. goes p a act acts (rs ++ ws) more)))) rest (values_at p valid final a act acts h _ popped rest b (ep ∙ ap (λ (z : Place). all_known z.reached_by) n.is)) (λ u us c j.
       let k = own_field u n.type i n.field c n.has_it in
-      found_okay p final (slice_get (operands_of (fields_in (expanded u))) i) (unpacked (k.0).storage) _ k.1
-      (gives_okay p final a (unpacked (k.0).storage ∷ []) _ (λ rs given.
+      found_okay p final (slice_get (fields_in (expanded u)) i) k.0 _ k.1
+      (asks_okay p final (stored (k.0).storage) _ (subst (λ (z : Place). StoredBelow stored z.storage) n.is d (k.0).storage k.2.1)
+      (gives_okay p final a (operand_of (k.0).storage ∷ []) _ (λ rs given.
       goes_okay p valid final a act acts h (rs ++ us) more (known (unpacked (n.field).storage) ∷ rest)
       (fits_joined p rs us (known (unpacked (n.field).storage) ∷ []) rest
-      (all_below p rs (known (unpacked (k.0).storage) ∷ []) (known (unpacked (n.field).storage) ∷ []) given (unpacked_below (k.0).storage (n.field).storage k.2.1, tt)) j)
-      (code_at p valid final a act acts h (known (unpacked (n.field).storage) ∷ []) pushed rest m set more e (eu ∙ ap (λ (z : Place). known (unpacked z.storage) ∷ []) n.is) t))))
+      (all_below p rs (known (operand_of (k.0).storage) ∷ []) (known (unpacked (n.field).storage) ∷ []) given (held_below (k.0).storage (n.field).storage k.2.1, tt)) j)
+      (code_at p valid final a act acts h (known (unpacked (n.field).storage) ∷ []) pushed rest m set more e (eu ∙ ap (λ (z : Place). known (unpacked z.storage) ∷ []) n.is) t)))))
 
   pub write_okay : (of : Holds) (x i : ℕ) (ns : List ValueType) (q : Place) (v : Value) (ws : List Value) (more : Code) (rest : List Operand) → IsPlaceOf of g x i ns q → q.mutable ≡ true
       → Fits p v (unpacked q.storage) → AllFit p ws (stack q.reached_by ++ rest) → Goes set more rest → Okay (write p a act acts of ns x i v ws more)
   write_okay of x i ns q v ws more rest n mutable y z t =
-      object_under_okay of ns x i q n ns ws (λ ts us. found (slice_get ts i) (λ u. asks (Fits p v u) (goes p a act acts us more))) rest (subst (λ (d : Place). AllFit p ws (stack d.reached_by ++ rest)) n.is z) (λ u us c j.
+      object_under_okay of ns x i q n ns ws (λ fs us. found (slice_get fs i) (λ f'. writes f' (asks (Fits p v (operand_of f'.storage)) (goes p a act acts us more)))) rest (subst (λ (d : Place). AllFit p ws (stack d.reached_by ++ rest)) n.is z) (λ u us c j.
       let k = own_field u n.type i n.field c n.has_it in
-      let back_too = k.2.2 (k.2.0 ∙ ap (λ (d : Place). d.mutable) (sym n.is) ∙ mutable) in
-      found_okay p final (slice_get (operands_of (fields_in (expanded u))) i) (unpacked (k.0).storage) _ k.1
-      (asks_okay p final (Fits p v (unpacked (k.0).storage)) _
-      (fits_below p v (known (unpacked (n.field).storage)) (known (unpacked (k.0).storage)) (subst (λ (d : Place). Fits p v (unpacked d.storage)) n.is y)
-      (unpacked_below (n.field).storage (k.0).storage back_too)) (goes_okay p valid final a act acts h us more rest j t)))
-
-  -- of an operator of the table: what it takes and gives
-  pub table_of : (o : Op) (u : InstructionType) (popped pushed : List Operand) → instruction_type g o ≡ Some u → TableRow g o popped pushed → (popped ≡ all_known u.takes) × (pushed ≡ all_known u.gives)
-  table_of o u popped pushed e r =
-      let d : r.0 ≡ u = some_same r.0 u (sym r.1 ∙ e) in
-      (r.2.0 ∙ ap (λ (y : InstructionType). all_known y.takes) d, r.2.1 ∙ ap (λ (y : InstructionType). all_known y.gives) d)
+      let own_mutable = k.2.0 ∙ ap (λ (d : Place). d.mutable) (sym n.is) ∙ mutable in
+      found_okay p final (slice_get (fields_in (expanded u)) i) k.0 _ k.1
+      (asks_okay p final (IsTrue (k.0).mutable) _ own_mutable
+      (asks_okay p final (Fits p v (operand_of (k.0).storage)) _
+      (fits_below p v (known (unpacked (n.field).storage)) (known (operand_of (k.0).storage)) (subst (λ (d : Place). Fits p v (unpacked d.storage)) n.is y)
+      (below_held (n.field).storage (k.0).storage (k.2.2 own_mutable))) (goes_okay p valid final a act acts h us more rest j t))))
 
   -- a field is read by an operator that the table has for a place
-  pub place_read_okay : (of : Holds) (o : Option Place) (k : Place → Option InstructionType) (x i : ℕ) (ns : List ValueType) (more : Code) (popped pushed rest m : List Operand)
-      → ((q : Place) → o ≡ Some q → IsPlaceOf of g x i ns q) → ((q : Place) (u : InstructionType) → k q ≡ Some u → (q.reached_by ⟶ unpacked q.storage ∷ []) ≡ u)
+  pub place_read_okay : (stored : StorageOf TypeTree → Type 0) (of : Holds) (o : Option Place) (k : Place → Option InstructionType) (x i : ℕ) (ns : List ValueType) (more : Code) (popped pushed rest m : List Operand)
+      → ((q : Place) → o ≡ Some q → IsPlaceOf of g x i ns q) → ((q : Place) (u : InstructionType) → k q ≡ Some u → ((q.reached_by ⟶ unpacked q.storage ∷ []) ≡ u) × StoredBelow stored q.storage)
       → (u : InstructionType) → named_type o k ≡ Some u → Takes u.takes u.gives popped pushed
-      → AllBelow s (reverse popped ++ rest) → m ≡ reverse pushed ++ rest → Goes set more m → Okay (read p a act acts of ns x i more)
-  place_read_okay of o k x i ns more popped pushed rest m is alike u q r b e t =
+      → AllBelow s (reverse popped ++ rest) → m ≡ reverse pushed ++ rest → Goes set more m → Okay (read p a act acts stored of ns x i more)
+  place_read_okay stored of o k x i ns more popped pushed rest m is alike u q r b e t =
       let n = named_some o k u q in
       let d = alike n.0 u n.2 in
-      read_okay of x i ns n.0 more popped pushed rest m (is n.0 n.1) (r.0 ∙ ap (λ (y : InstructionType). all_known y.takes) (sym d)) (r.1 ∙ ap (λ (y : InstructionType). all_known y.gives) (sym d)) b e t
+      read_okay stored of x i ns n.0 more popped pushed rest m (is n.0 n.1) d.1 (r.0 ∙ ap (λ (y : InstructionType). all_known y.takes) (sym d.0)) (r.1 ∙ ap (λ (y : InstructionType). all_known y.gives) (sym d.0)) b e t
 
   pub place_write_okay : (of : Holds) (o : Option Place) (x i : ℕ) (ns : List ValueType) (more : Code) (popped pushed rest m : List Operand) → ((q : Place) → o ≡ Some q → IsPlaceOf of g x i ns q)
       → (u : InstructionType) → named_type o written_type_of ≡ Some u → Takes u.takes u.gives popped pushed
@@ -170,7 +165,7 @@ module _ (p : Program) (valid : IsValidProgram p) (final : List ValueType) (a : 
   made_of true t i o = ((i, o), (tt, refl))
   made_of false t i o = ((i, o), (tt, itself))
 
-  pub make_okay : (of : Holds) (x : ℕ) (t : TypeTree) (own : List ValueType) (needs : List ValueType → List ValueType) (further : List ValueType → Move → Move) (ts : List ValueType) (more : Code) (popped pushed rest m : List Operand)
+  pub make_okay : (of : Holds) (x : ℕ) (t : TypeTree) (own : List (FieldOf TypeTree)) (needs : List (FieldOf TypeTree) → List ValueType) (further : List (FieldOf TypeTree) → Move → Move) (ts : List ValueType) (more : Code) (popped pushed rest m : List Operand)
       → slice_get p.«module».types x ≡ Some t → IsObject (expanded t) → of (expanded t) ≡ Some own → needs own ≡ ts → ((n : Move) → Okay n → Okay (further own n))
       → popped ≡ all_known ts → pushed ≡ all_known (allocated g t ∷ [])
       → AllBelow s (reverse popped ++ rest) → m ≡ reverse pushed ++ rest → Goes set more m → Okay (make p a act acts of x needs further more)
@@ -242,7 +237,7 @@ module _ (p : Program) (valid : IsValidProgram p) (final : List ValueType) (a : 
       found_okay p final (meant_heap p.«module» from.heap) h' _ (heap_named_is g (heap_of from.heap) h' n.from_named)
       (found_okay p final (meant_heap p.«module» to.heap) k _ (heap_named_is g (heap_of to.heap) k n.to_named)
       (pops_okay p final vs (known (ref from.nullable h')) rest _ y (λ v ws j l.
-      asks_okay p final (Fits p v (ref from.nullable h')) _ j
+      asks_okay p final (Fits p v (ref from.nullable h') × IsAkin (ref from.nullable h') k) _ (j, let d = heap_alike k h' i (n.below).1 in (sym d.0, sym d.1))
       (cast_okay to.nullable k h' from.nullable v (λ b. q b v ws) i j (λ r u f'. null_falls p r u from.nullable k h' i (n.below).1 f') (λ b t f'. z b v ws t f' l)))))
 
   -- ---- conversions
@@ -271,15 +266,16 @@ module _ (p : Program) (valid : IsValidProgram p) (final : List ValueType) (a : 
       (fits_joined p a.values ws (known (ref n (abstract c k)) ∷ []) rest (all_nullable a.values n (abstract c k) (given c (as_nullable p v n (abstract c h') i))) j) t))))
 
   -- an operator that asks a reference below an abstract type, and gives a number
-  pub tested_okay : (h' : Abstract) (c : Bool) (more : Code) (rest : List Operand) → AllFit p vs (known (ref true (abstract c h')) ∷ rest) → Goes set more (known i32_type ∷ rest)
-      → Okay (pops vs (λ v ws. asks (IsOf p a act acts h' v) (may_trap p a (goes p a act acts (number_value i32 ∷ ws) more))))
-  tested_okay h' c more rest y t = pops_okay p final vs (known (ref true (abstract c h'))) rest _ y (λ v ws i j.
-      asks_okay p final (IsOf p a act acts h' v) _ (c, i) (may_trap_okay p final a _ (goes_okay p valid final a act acts h (number_value i32 ∷ ws) more (known i32_type ∷ rest) ((tt, refl), j) t)))
+  pub tested_okay : (h' : Abstract) (is : Value → Type 0) → ((v : Value) (c : Bool) → Fits p v (ref true (abstract c h')) → is v) → (c : Bool) (more : Code) (rest : List Operand)
+      → AllFit p vs (known (ref true (abstract c h')) ∷ rest) → Goes set more (known i32_type ∷ rest)
+      → Okay (pops vs (λ v ws. asks (IsOf p a act acts h' v × is v) (may_trap p a (goes p a act acts (number_value i32 ∷ ws) more))))
+  tested_okay h' is such c more rest y t = pops_okay p final vs (known (ref true (abstract c h'))) rest _ y (λ v ws i j.
+      asks_okay p final (IsOf p a act acts h' v × is v) _ ((c, i), such v c i) (may_trap_okay p final a _ (goes_okay p valid final a act acts h (number_value i32 ∷ ws) more (known i32_type ∷ rest) ((tt, refl), j) t)))
 
   -- ---- structs and arrays
 
   abbrev pub array_place : (x : ℕ) (s' : Array) → array_named g x ≡ Some s'
-      → IsPlaceOf array_operands g x 0 (i32_type ∷ []) (record { reached_by = ref true (concrete s'.type) ∷ i32_type ∷ []; storage = s'.element.storage; mutable = s'.element.mutable })
+      → IsPlaceOf array_fields g x 0 (i32_type ∷ []) (record { reached_by = ref true (concrete s'.type) ∷ i32_type ∷ []; storage = s'.element.storage; mutable = s'.element.mutable })
   array_place x s' e =
       let n = array_is g x s' e in
       record {
@@ -287,19 +283,19 @@ module _ (p : Program) (valid : IsValidProgram p) (final : List ValueType) (a : 
         field = s'.element;
         there = n.there;
         object = subst IsObject (sym n.inner) tt;
-        held = operands_of (s'.element ∷ []);
-        holds = ap array_operands n.inner;
+        held = s'.element ∷ [];
+        holds = ap array_fields n.inner;
         alike = arrays_alike;
         has_it = ap (λ (k : InnerOf TypeTree). slice_get (fields_in k) 0) n.inner;
         is = refl;
       }
 
   -- bytes of a data segment are read as an element, also as that of an array below
-  pub from_data : (s' : Array) (d : ℕ) → (is_of_bytes s'.element.storage && names_data p.«module».data_count d) ≡ true → FromData p a act acts d (operands_of (s'.element ∷ []))
+  pub from_data : (s' : Array) (d : ℕ) → (is_of_bytes s'.element.storage && names_data p.«module».data_count d) ≡ true → FromData p a act acts d (s'.element ∷ [])
   from_data s' d e = (bytes_element s'.element (and_left _ _ e), data_named p.«module».data_count d (and_right (is_of_bytes s'.element.storage) _ e))
 
   pub data_through : (s' : Array) (d : ℕ) (u : TypeTree) → expanded s'.type ≡ array_of s'.element → InnerMatches (expanded u) (expanded s'.type)
-      → (is_of_bytes s'.element.storage && names_data p.«module».data_count d) ≡ true → FromData p a act acts d (operands_of (fields_in (expanded u)))
+      → (is_of_bytes s'.element.storage && names_data p.«module».data_count d) ≡ true → FromData p a act acts d (fields_in (expanded u))
   data_through s' d u i m e =
       (bytes_through (expanded u) s'.element (subst (λ (q : InnerOf TypeTree). InnerMatches (expanded u) q) i m) (and_left _ _ e), data_named p.«module».data_count d (and_right (is_of_bytes s'.element.storage) _ e))
 
@@ -316,37 +312,37 @@ module _ (p : Program) (valid : IsValidProgram p) (final : List ValueType) (a : 
       let y = values_at p valid final a act acts h (known (ref true (abstract r.0 eq)) ∷ known (ref true (abstract r.0 eq)) ∷ []) popped rest b r.1.0 in
       pops_okay p final vs (known (ref true (abstract r.0 eq))) (known (ref true (abstract r.0 eq)) ∷ rest) _ y (λ v ws i j.
       pops_okay p final ws (known (ref true (abstract r.0 eq))) rest _ j (λ x us k l.
-      asks_okay p final (IsOf p a act acts eq v × IsOf p a act acts eq x) _ ((r.0, i), (r.0, k))
+      asks_okay p final ((IsOf p a act acts eq v × IsComparable v) × (IsOf p a act acts eq x × IsComparable x)) _ (((r.0, i), comparable p v r.0 i), ((r.0, k), comparable p x r.0 k))
       (goes_okay p valid final a act acts h (number_value i32 ∷ us) more (known i32_type ∷ rest) ((tt, refl), l) (code_at p valid final a act acts h (known i32_type ∷ []) pushed rest m set more e r.1.1 t))))
   gc_okay gc.ArrayLen more popped pushed rest m r b e t =
-      tested_okay array r.0 more rest (values_at p valid final a act acts h (known (ref true (abstract r.0 array)) ∷ []) popped rest b r.1.0) (code_at p valid final a act acts h (known i32_type ∷ []) pushed rest m set more e r.1.1 t)
+      tested_okay array IsArray (λ v c i. an_array p v c i) r.0 more rest (values_at p valid final a act acts h (known (ref true (abstract r.0 array)) ∷ []) popped rest b r.1.0) (code_at p valid final a act acts h (known i32_type ∷ []) pushed rest m set more e r.1.1 t)
   gc_okay gc.I31GetS more popped pushed rest m r b e t =
-      tested_okay i31 r.0 more rest (values_at p valid final a act acts h (known (ref true (abstract r.0 i31)) ∷ []) popped rest b r.1.0) (code_at p valid final a act acts h (known i32_type ∷ []) pushed rest m set more e r.1.1 t)
+      tested_okay i31 IsUnboxed (λ v c i. an_unboxed p v c i) r.0 more rest (values_at p valid final a act acts h (known (ref true (abstract r.0 i31)) ∷ []) popped rest b r.1.0) (code_at p valid final a act acts h (known i32_type ∷ []) pushed rest m set more e r.1.1 t)
   gc_okay gc.I31GetU more popped pushed rest m r b e t =
-      tested_okay i31 r.0 more rest (values_at p valid final a act acts h (known (ref true (abstract r.0 i31)) ∷ []) popped rest b r.1.0) (code_at p valid final a act acts h (known i32_type ∷ []) pushed rest m set more e r.1.1 t)
+      tested_okay i31 IsUnboxed (λ v c i. an_unboxed p v c i) r.0 more rest (values_at p valid final a act acts h (known (ref true (abstract r.0 i31)) ∷ []) popped rest b r.1.0) (code_at p valid final a act acts h (known i32_type ∷ []) pushed rest m set more e r.1.1 t)
   gc_okay gc.AnyConvertExtern more popped pushed rest m r b e t =
       convert_okay extern any r.1 r.0 more rest none_any (values_at p valid final a act acts h (known (ref r.0 (abstract r.1 extern)) ∷ []) popped rest b r.2.0) (code_at p valid final a act acts h (known (ref r.0 (abstract r.1 any)) ∷ []) pushed rest m set more e r.2.1 t)
   gc_okay gc.ExternConvertAny more popped pushed rest m r b e t =
       convert_okay any extern r.1 r.0 more rest noextern_extern (values_at p valid final a act acts h (known (ref r.0 (abstract r.1 any)) ∷ []) popped rest b r.2.0) (code_at p valid final a act acts h (known (ref r.0 (abstract r.1 extern)) ∷ []) pushed rest m set more e r.2.1 t)
   gc_okay gc.RefI31 more popped pushed rest m r b e t =
-      let c = table_of (op.Gc gc.RefI31) _ popped pushed refl r in
+      let c = table_of p valid final a act acts h (op.Gc gc.RefI31) _ popped pushed refl r in
       exchange_okay p valid final a act acts h (i32_type ∷ []) (ref false (abstract false i31) ∷ []) more rest (values_at p valid final a act acts h (known i32_type ∷ []) popped rest b c.0) (code_at p valid final a act acts h (known (ref false (abstract false i31)) ∷ []) pushed rest m set more e c.1 t)
   gc_okay (gc.StructGet x i) more popped pushed rest m r b e t =
-      place_read_okay struct_operands (field_place g x i) place_read x i [] more popped pushed rest m (λ q k. field_place_is g x i q k) (λ q u k. read_is q u k) r.0 r.1 r.2 b e t
+      place_read_okay IsWhole struct_fields (field_place g x i) place_read x i [] more popped pushed rest m (λ q k. field_place_is g x i q k) (λ q u k. read_is q u k) r.0 r.1 r.2 b e t
   gc_okay (gc.StructGetS x i) more popped pushed rest m r b e t =
-      place_read_okay struct_operands (field_place g x i) read_packed x i [] more popped pushed rest m (λ q k. field_place_is g x i q k) (λ q u k. read_packed_is q u k) r.0 r.1 r.2 b e t
+      place_read_okay IsPacked struct_fields (field_place g x i) read_packed x i [] more popped pushed rest m (λ q k. field_place_is g x i q k) (λ q u k. read_packed_is q u k) r.0 r.1 r.2 b e t
   gc_okay (gc.StructGetU x i) more popped pushed rest m r b e t =
-      place_read_okay struct_operands (field_place g x i) read_packed x i [] more popped pushed rest m (λ q k. field_place_is g x i q k) (λ q u k. read_packed_is q u k) r.0 r.1 r.2 b e t
+      place_read_okay IsPacked struct_fields (field_place g x i) read_packed x i [] more popped pushed rest m (λ q k. field_place_is g x i q k) (λ q u k. read_packed_is q u k) r.0 r.1 r.2 b e t
   gc_okay (gc.ArrayGet x) more popped pushed rest m r b e t =
-      place_read_okay array_operands (element_place g x) place_read x 0 (i32_type ∷ []) more popped pushed rest m (λ q k. element_place_is g x q k) (λ q u k. read_is q u k) r.0 r.1 r.2 b e t
+      place_read_okay IsWhole array_fields (element_place g x) place_read x 0 (i32_type ∷ []) more popped pushed rest m (λ q k. element_place_is g x q k) (λ q u k. read_is q u k) r.0 r.1 r.2 b e t
   gc_okay (gc.ArrayGetS x) more popped pushed rest m r b e t =
-      place_read_okay array_operands (element_place g x) read_packed x 0 (i32_type ∷ []) more popped pushed rest m (λ q k. element_place_is g x q k) (λ q u k. read_packed_is q u k) r.0 r.1 r.2 b e t
+      place_read_okay IsPacked array_fields (element_place g x) read_packed x 0 (i32_type ∷ []) more popped pushed rest m (λ q k. element_place_is g x q k) (λ q u k. read_packed_is q u k) r.0 r.1 r.2 b e t
   gc_okay (gc.ArrayGetU x) more popped pushed rest m r b e t =
-      place_read_okay array_operands (element_place g x) read_packed x 0 (i32_type ∷ []) more popped pushed rest m (λ q k. element_place_is g x q k) (λ q u k. read_packed_is q u k) r.0 r.1 r.2 b e t
+      place_read_okay IsPacked array_fields (element_place g x) read_packed x 0 (i32_type ∷ []) more popped pushed rest m (λ q k. element_place_is g x q k) (λ q u k. read_packed_is q u k) r.0 r.1 r.2 b e t
   gc_okay (gc.StructSet x i) more popped pushed rest m r b e t =
-      place_write_okay struct_operands (field_place g x i) x i [] more popped pushed rest m (λ q k. field_place_is g x i q k) r.0 r.1 r.2 b e t
+      place_write_okay struct_fields (field_place g x i) x i [] more popped pushed rest m (λ q k. field_place_is g x i q k) r.0 r.1 r.2 b e t
   gc_okay (gc.ArraySet x) more popped pushed rest m r b e t =
-      place_write_okay array_operands (element_place g x) x 0 (i32_type ∷ []) more popped pushed rest m (λ q k. element_place_is g x q k) r.0 r.1 r.2 b e t
+      place_write_okay array_fields (element_place g x) x 0 (i32_type ∷ []) more popped pushed rest m (λ q k. element_place_is g x q k) r.0 r.1 r.2 b e t
   gc_okay (gc.RefTestNonNull x) more popped pushed rest m r b e t =
       let n = named_some (heap_named g x) _ r.0 r.1 in
       let c = provided_is (is_castable n.0) _ r.0 n.2 in
@@ -375,52 +371,51 @@ module _ (p : Program) (valid : IsValidProgram p) (final : List ValueType) (a : 
       let n = named_some (struct_named g x) _ r.0 r.1 in
       let c = provided_is (not (is_described n.0)) (operands_for (n.0).fields ⟶ allocated g (n.0).type ∷ []) r.0 n.2 in
       let i = struct_is g x n.0 n.1 in
-      make_okay struct_operands x (n.0).type (operands_of (n.0).fields) (λ u. u) (λ u d. d) (operands_for (n.0).fields) more popped pushed rest m i.there (subst IsObject (sym i.inner) tt) (ap struct_operands i.inner) (operands_are (n.0).fields) (λ d y. y)
+      make_okay struct_fields x (n.0).type (n.0).fields (λ u. operands_of u) (λ u d. d) (operands_for (n.0).fields) more popped pushed rest m i.there (subst IsObject (sym i.inner) tt) (ap struct_fields i.inner) (operands_are (n.0).fields) (λ d y. y)
       (r.2.0 ∙ ap (λ (z : InstructionType). all_known z.takes) (sym c.1)) (r.2.1 ∙ ap (λ (z : InstructionType). all_known z.gives) (sym c.1)) b e t
   gc_okay (gc.StructNewDefault x) more popped pushed rest m r b e t =
       let n = named_some (struct_named g x) _ r.0 r.1 in
       let c = provided_is (not (is_described n.0) && have_defaults (n.0).fields) ([] ⟶ allocated g (n.0).type ∷ []) r.0 n.2 in
       let i = struct_is g x n.0 n.1 in
-      make_okay struct_operands x (n.0).type (operands_of (n.0).fields) (λ u. []) (λ u d. asks (All HasDefault u) d) [] more popped pushed rest m i.there (subst IsObject (sym i.inner) tt) (ap struct_operands i.inner) refl
-      (λ d y. asks_okay p final (All HasDefault (operands_of (n.0).fields)) d (defaults_each (n.0).fields (and_right (not (is_described n.0)) (have_defaults (n.0).fields) c.0)) y)
+      make_okay struct_fields x (n.0).type (n.0).fields (λ u. []) (λ u d. asks (HaveDefaults u) d) [] more popped pushed rest m i.there (subst IsObject (sym i.inner) tt) (ap struct_fields i.inner) refl
+      (λ d y. asks_okay p final (HaveDefaults (n.0).fields) d (defaults_each (n.0).fields (and_right (not (is_described n.0)) (have_defaults (n.0).fields) c.0)) y)
       (r.2.0 ∙ ap (λ (z : InstructionType). all_known z.takes) (sym c.1)) (r.2.1 ∙ ap (λ (z : InstructionType). all_known z.gives) (sym c.1)) b e t
   gc_okay (gc.ArrayNew x) more popped pushed rest m r b e t =
       let n = named_some (array_named g x) _ r.0 r.1 in
       let c : (element_of n.0 ∷ i32_type ∷ [] ⟶ allocated g (n.0).type ∷ []) ≡ r.0 = some_same _ r.0 n.2 in
       let i = array_is g x n.0 n.1 in
-      make_okay array_operands x (n.0).type (operands_of ((n.0).element ∷ [])) (λ u. u ++ i32_type ∷ []) (λ u d. d) (element_of n.0 ∷ i32_type ∷ []) more popped pushed rest m i.there (subst IsObject (sym i.inner) tt) (ap array_operands i.inner)
+      make_okay array_fields x (n.0).type ((n.0).element ∷ []) (λ u. operands_of u ++ i32_type ∷ []) (λ u d. d) (element_of n.0 ∷ i32_type ∷ []) more popped pushed rest m i.there (subst IsObject (sym i.inner) tt) (ap array_fields i.inner)
       (ap (λ (l : List ValueType). l ++ i32_type ∷ []) (element_is (n.0).element)) (λ d y. y)
       (r.2.0 ∙ ap (λ (z : InstructionType). all_known z.takes) (sym c)) (r.2.1 ∙ ap (λ (z : InstructionType). all_known z.gives) (sym c)) b e t
   gc_okay (gc.ArrayNewDefault x) more popped pushed rest m r b e t =
       let n = named_some (array_named g x) _ r.0 r.1 in
       let c = provided_is (has_default (n.0).element) (i32_type ∷ [] ⟶ allocated g (n.0).type ∷ []) r.0 n.2 in
       let i = array_is g x n.0 n.1 in
-      make_okay array_operands x (n.0).type (operands_of ((n.0).element ∷ [])) (λ u. i32_type ∷ []) (λ u d. asks (All HasDefault u) d) (i32_type ∷ []) more popped pushed rest m i.there (subst IsObject (sym i.inner) tt) (ap array_operands i.inner) refl
-      (λ d y. asks_okay p final (All HasDefault (operands_of ((n.0).element ∷ []))) d (default_element (n.0).element c.0) y)
+      make_okay array_fields x (n.0).type ((n.0).element ∷ []) (λ u. i32_type ∷ []) (λ u d. asks (HaveDefaults u) d) (i32_type ∷ []) more popped pushed rest m i.there (subst IsObject (sym i.inner) tt) (ap array_fields i.inner) refl
+      (λ d y. asks_okay p final (HaveDefaults ((n.0).element ∷ [])) d (default_element (n.0).element c.0) y)
       (r.2.0 ∙ ap (λ (z : InstructionType). all_known z.takes) (sym c.1)) (r.2.1 ∙ ap (λ (z : InstructionType). all_known z.gives) (sym c.1)) b e t
   gc_okay (gc.ArrayNewFixed x k) more popped pushed rest m r b e t =
       let n = named_some (array_named g x) _ r.0 r.1 in
       let c : (replicate k (element_of n.0) ⟶ allocated g (n.0).type ∷ []) ≡ r.0 = some_same _ r.0 n.2 in
       let i = array_is g x n.0 n.1 in
-      make_okay array_operands x (n.0).type (operands_of ((n.0).element ∷ [])) (λ u. flat_map (λ (v : ValueType). replicate k v) u) (λ u d. d) (replicate k (element_of n.0)) more popped pushed rest m i.there (subst IsObject (sym i.inner) tt) (ap array_operands i.inner)
+      make_okay array_fields x (n.0).type ((n.0).element ∷ []) (λ u. flat_map (λ (v : ValueType). replicate k v) (operands_of u)) (λ u d. d) (replicate k (element_of n.0)) more popped pushed rest m i.there (subst IsObject (sym i.inner) tt) (ap array_fields i.inner)
       (ap (λ (l : List ValueType). flat_map (λ (v : ValueType). replicate k v) l) (element_is (n.0).element) ∙ append-nil (replicate k (element_of n.0))) (λ d y. y)
       (r.2.0 ∙ ap (λ (z : InstructionType). all_known z.takes) (sym c)) (r.2.1 ∙ ap (λ (z : InstructionType). all_known z.gives) (sym c)) b e t
   gc_okay (gc.ArrayNewData x d') more popped pushed rest m r b e t =
       let n = named_some (array_named g x) _ r.0 r.1 in
       let c = provided_is _ (i32_type ∷ i32_type ∷ [] ⟶ allocated g (n.0).type ∷ []) r.0 n.2 in
       let i = array_is g x n.0 n.1 in
-      make_okay array_operands x (n.0).type (operands_of ((n.0).element ∷ [])) (λ u. i32_type ∷ i32_type ∷ []) (λ u d. asks (FromData p a act acts d' u) (may_trap p a d)) (i32_type ∷ i32_type ∷ []) more popped pushed rest m i.there (subst IsObject (sym i.inner) tt) (ap array_operands i.inner) refl
+      make_okay array_fields x (n.0).type ((n.0).element ∷ []) (λ u. i32_type ∷ i32_type ∷ []) (λ u d. asks (FromData p a act acts d' u) (may_trap p a d)) (i32_type ∷ i32_type ∷ []) more popped pushed rest m i.there (subst IsObject (sym i.inner) tt) (ap array_fields i.inner) refl
       (λ d y. asks_okay p final _ _ (from_data n.0 d' c.0) (may_trap_okay p final a d y))
       (r.2.0 ∙ ap (λ (z : InstructionType). all_known z.takes) (sym c.1)) (r.2.1 ∙ ap (λ (z : InstructionType). all_known z.gives) (sym c.1)) b e t
   gc_okay (gc.ArrayNewElem x k) more popped pushed rest m r b e t =
       let i = array_is g x r.0 r.1 in
       let held = r.2 in
-      make_okay array_operands x (r.0).type (operands_of ((r.0).element ∷ [])) (λ u. i32_type ∷ i32_type ∷ []) (λ u d. may_trap p a (found (slice_get p.«module».elements k) (λ y. found (slice_get u 0) (λ z. copies p a y z d)))) (i32_type ∷ i32_type ∷ []) more popped pushed rest m i.there (subst IsObject (sym i.inner) tt) (ap array_operands i.inner) refl
+      make_okay array_fields x (r.0).type ((r.0).element ∷ []) (λ u. i32_type ∷ i32_type ∷ []) (λ u d. may_trap p a (stores_from p a act acts k u (λ f' n'. n') d)) (i32_type ∷ i32_type ∷ []) more popped pushed rest m i.there (subst IsObject (sym i.inner) tt) (ap array_fields i.inner) refl
       (λ d y. may_trap_okay p final a _
-      (found_okay p final (slice_get p.«module».elements k) held.0 (λ y'. found (slice_get (operands_of ((r.0).element ∷ [])) 0) (λ z. copies p a y' z d)) held.2
-      (found_okay p final (slice_get (operands_of ((r.0).element ∷ [])) 0) held.1 (λ z. copies p a held.0 z d)
-      (ap (λ (l : List ValueType). slice_get l 0) (element_is (r.0).element) ∙ ap (λ (z : StorageOf TypeTree). Some (unpacked z)) held.3)
-      (copies_okay p final a held.0 held.1 d (λ q. each_below p a.values held.0 held.1 q held.4) y))))
+      (found_okay p final (slice_get p.«module».elements k) held.0 _ held.2
+      (copies_okay p final a held.0 (operand_of (r.0).element.storage) d (λ q. each_below p a.values held.0 (operand_of (r.0).element.storage) q
+      (subst (λ (z : ValueType). OperandBelow (known held.0) (known z)) (sym (operand_is (r.0).element.storage ∙ ap (λ (z : StorageOf TypeTree). unpacked z) held.3)) held.4)) y)))
       r.3.0 r.3.1 b e t
   gc_okay (gc.ArrayFill x) more popped pushed rest m r b e t =
       let n = named_some (array_named g x) _ r.0 r.1 in
@@ -429,40 +424,48 @@ module _ (p : Program) (valid : IsValidProgram p) (final : List ValueType) (a : 
       pops_okay p final vs (known i32_type) (known (element_of n.0) ∷ (stack (reference_to (n.0).type ∷ i32_type ∷ []) ++ rest)) _ y (λ k ws i j.
       asks_okay p final (Fits p k i32_type) _ i
       (pops_okay p final ws (known (element_of n.0)) (stack (reference_to (n.0).type ∷ i32_type ∷ []) ++ rest) _ j (λ v us d l.
-      write_okay array_operands x 0 (i32_type ∷ []) _ v us more rest (array_place x n.0 n.1) c.0 d l (code_at p valid final a act acts h [] pushed rest m set more e (r.2.1 ∙ ap (λ (z : InstructionType). all_known z.gives) (sym c.1)) t))))
+      write_okay array_fields x 0 (i32_type ∷ []) _ v us more rest (array_place x n.0 n.1) c.0 d l (code_at p valid final a act acts h [] pushed rest m set more e (r.2.1 ∙ ap (λ (z : InstructionType). all_known z.gives) (sym c.1)) t))))
   gc_okay (gc.ArrayCopy x y') more popped pushed rest m r b e t =
       let d = array_place x r.0 r.2 in
       let c = array_place y' r.1 r.3 in
       let y = values_at p valid final a act acts h (all_known (reference_to (r.0).type ∷ i32_type ∷ reference_to (r.1).type ∷ i32_type ∷ i32_type ∷ [])) popped rest b r.6.0 in
-      object_under_okay array_operands (i32_type ∷ []) y' 0 _ c (i32_type ∷ i32_type ∷ []) vs (λ ss ws. object_under p a act acts array_operands (i32_type ∷ []) x ws (λ ts us. found (slice_get ss 0) (λ u. found (slice_get ts 0) (λ z. copies p a u z (goes p a act acts us more))))) (stack (reference_to d.type ∷ i32_type ∷ []) ++ rest) y (λ u ws i j.
-      object_under_okay array_operands (i32_type ∷ []) x 0 _ d (i32_type ∷ []) ws (λ ts us. found (slice_get (operands_of (fields_in (expanded u))) 0) (λ y. found (slice_get ts 0) (λ z. copies p a y z (goes p a act acts us more)))) rest j (λ z us k l.
+      object_under_okay array_fields (i32_type ∷ []) y' 0 _ c (i32_type ∷ i32_type ∷ []) vs (λ ss ws. object_under p a act acts array_fields (i32_type ∷ []) x ws (λ fs us. found (slice_get ss 0) (λ s'. found (slice_get fs 0) (λ f'. writes f' (asks (AreStoredAlike s'.storage f'.storage) (copies p a (operand_of s'.storage) (operand_of f'.storage) (goes p a act acts us more))))))) (stack (reference_to d.type ∷ i32_type ∷ []) ++ rest) y (λ u ws i j.
+      object_under_okay array_fields (i32_type ∷ []) x 0 _ d (i32_type ∷ []) ws (λ fs us. found (slice_get (fields_in (expanded u)) 0) (λ s'. found (slice_get fs 0) (λ f'. writes f' (asks (AreStoredAlike s'.storage f'.storage) (copies p a (operand_of s'.storage) (operand_of f'.storage) (goes p a act acts us more)))))) rest j (λ z us k l.
       let from = own_field u c.type 0 c.field i c.has_it in
       let to = own_field z d.type 0 d.field k d.has_it in
-      found_okay p final (slice_get (operands_of (fields_in (expanded u))) 0) (unpacked (from.0).storage) _ from.1
-      (found_okay p final (slice_get (operands_of (fields_in (expanded z))) 0) (unpacked (to.0).storage) _ to.1
-      (copies_okay p final a (unpacked (from.0).storage) (unpacked (to.0).storage) _
-      (λ q. each_below p a.values (unpacked (d.field).storage) (unpacked (to.0).storage)
+      let own_mutable = to.2.0 ∙ r.4 in
+      found_okay p final (slice_get (fields_in (expanded u)) 0) from.0 _ from.1
+      (found_okay p final (slice_get (fields_in (expanded z)) 0) to.0 _ to.1
+      (asks_okay p final (IsTrue (to.0).mutable) _ own_mutable
+      (asks_okay p final (AreStoredAlike (from.0).storage (to.0).storage) _ (stored_alike (from.0).storage (r.1).element.storage from.2.1 ∙ stored_alike (r.1).element.storage (r.0).element.storage r.5 ∙ stored_alike (r.0).element.storage (to.0).storage (to.2.2 own_mutable))
+      (copies_okay p final a (operand_of (from.0).storage) (operand_of (to.0).storage) _
+      (λ q. each_below p a.values (unpacked (d.field).storage) (operand_of (to.0).storage)
       (each_below p a.values (unpacked (c.field).storage) (unpacked (d.field).storage)
-      (each_below p a.values (unpacked (from.0).storage) (unpacked (c.field).storage) q (unpacked_below (from.0).storage (c.field).storage from.2.1)) (unpacked_below (r.1).element.storage (r.0).element.storage r.5))
-      (unpacked_below (d.field).storage (to.0).storage (to.2.2 (to.2.0 ∙ r.4)))) (goes_okay p valid final a act acts h us more rest l (code_at p valid final a act acts h [] pushed rest m set more e r.6.1 t))))))
+      (each_below p a.values (operand_of (from.0).storage) (unpacked (c.field).storage) q (held_below (from.0).storage (c.field).storage from.2.1)) (unpacked_below (r.1).element.storage (r.0).element.storage r.5))
+      (below_held (d.field).storage (to.0).storage (to.2.2 own_mutable))) (goes_okay p valid final a act acts h us more rest l (code_at p valid final a act acts h [] pushed rest m set more e r.6.1 t))))))))
   gc_okay (gc.ArrayInitData x d') more popped pushed rest m r b e t =
       let n = named_some (array_named g x) _ r.0 r.1 in
       let c = provided_is _ (reference_to (n.0).type ∷ i32_type ∷ i32_type ∷ i32_type ∷ [] ⟶ []) r.0 n.2 in
       let d = array_place x n.0 n.1 in
-      object_under_okay array_operands (i32_type ∷ []) x 0 _ d (i32_type ∷ i32_type ∷ i32_type ∷ []) vs (λ ts ws. asks (FromData p a act acts d' ts) (goes p a act acts ws more)) rest (values_at p valid final a act acts h _ popped rest b (r.2.0 ∙ ap (λ (z : InstructionType). all_known z.takes) (sym c.1))) (λ u ws i j.
-      asks_okay p final (FromData p a act acts d' (operands_of (fields_in (expanded u)))) _ (data_through n.0 d' u (array_is g x n.0 n.1).inner i (and_right (n.0).element.mutable _ c.0))
-      (goes_okay p valid final a act acts h ws more rest j (code_at p valid final a act acts h [] pushed rest m set more e (r.2.1 ∙ ap (λ (z : InstructionType). all_known z.gives) (sym c.1)) t)))
+      object_under_okay array_fields (i32_type ∷ []) x 0 _ d (i32_type ∷ i32_type ∷ i32_type ∷ []) vs (λ fs ws. found (slice_get fs 0) (λ f'. writes f' (asks (FromData p a act acts d' fs) (goes p a act acts ws more)))) rest (values_at p valid final a act acts h _ popped rest b (r.2.0 ∙ ap (λ (z : InstructionType). all_known z.takes) (sym c.1))) (λ u ws i j.
+      let to = own_field u d.type 0 d.field i d.has_it in
+      found_okay p final (slice_get (fields_in (expanded u)) 0) to.0 _ to.1
+      (asks_okay p final (IsTrue (to.0).mutable) _ (to.2.0 ∙ and_left (n.0).element.mutable _ c.0)
+      (asks_okay p final (FromData p a act acts d' (fields_in (expanded u))) _ (data_through n.0 d' u (array_is g x n.0 n.1).inner i (and_right (n.0).element.mutable _ c.0))
+      (goes_okay p valid final a act acts h ws more rest j (code_at p valid final a act acts h [] pushed rest m set more e (r.2.1 ∙ ap (λ (z : InstructionType). all_known z.gives) (sym c.1)) t)))))
   gc_okay (gc.ArrayInitElem x k) more popped pushed rest m r b e t =
       let d = array_place x r.0 r.1 in
       let held = r.3 in
-      object_under_okay array_operands (i32_type ∷ []) x 0 _ d (i32_type ∷ i32_type ∷ i32_type ∷ []) vs (λ ts ws. found (slice_get p.«module».elements k) (λ y. found (slice_get ts 0) (λ z. copies p a y z (goes p a act acts ws more)))) rest (values_at p valid final a act acts h _ popped rest b r.4.0) (λ u ws i j.
+      object_under_okay array_fields (i32_type ∷ []) x 0 _ d (i32_type ∷ i32_type ∷ i32_type ∷ []) vs (λ fs ws. stores_from p a act acts k fs (λ f' n'. writes f' n') (goes p a act acts ws more)) rest (values_at p valid final a act acts h _ popped rest b r.4.0) (λ u ws i j.
       let to = own_field u d.type 0 d.field i d.has_it in
+      let own_mutable = to.2.0 ∙ r.2 in
       found_okay p final (slice_get p.«module».elements k) held.0 _ held.2
-      (found_okay p final (slice_get (operands_of (fields_in (expanded u))) 0) (unpacked (to.0).storage) _ to.1
-      (copies_okay p final a held.0 (unpacked (to.0).storage) _
-      (λ q. each_below p a.values held.1 (unpacked (to.0).storage) (each_below p a.values held.0 held.1 q held.4)
-      (subst (λ (z : StorageOf TypeTree). OperandBelow (known (unpacked z)) (known (unpacked (to.0).storage))) held.3 (unpacked_below (d.field).storage (to.0).storage (to.2.2 (to.2.0 ∙ r.2)))))
-      (goes_okay p valid final a act acts h ws more rest j (code_at p valid final a act acts h [] pushed rest m set more e r.4.1 t)))))
+      (found_okay p final (slice_get (fields_in (expanded u)) 0) to.0 _ to.1
+      (asks_okay p final (IsTrue (to.0).mutable) _ own_mutable
+      (copies_okay p final a held.0 (operand_of (to.0).storage) _
+      (λ q. each_below p a.values held.1 (operand_of (to.0).storage) (each_below p a.values held.0 held.1 q held.4)
+      (subst (λ (z : StorageOf TypeTree). OperandBelow (known (unpacked z)) (known (operand_of (to.0).storage))) held.3 (below_held (d.field).storage (to.0).storage (to.2.2 own_mutable))))
+      (goes_okay p valid final a act acts h ws more rest j (code_at p valid final a act acts h [] pushed rest m set more e r.4.1 t))))))
   gc_okay (gc.BrOnCast n from to) more popped pushed rest m r b e t =
       let c = r.3.1 in
       let y = values_over p valid final a act acts h r.3.0 (ref from.nullable r.0) rest (values_at p valid final a act acts h _ popped rest b r.3.2.0) in

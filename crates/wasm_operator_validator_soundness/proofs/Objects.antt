@@ -1,12 +1,12 @@
 -- Objects through types declared above their own, and what the rules say of types that are named.
-use Rattle.std.proofs.Common.{◌≡◌, ℕ, zero, suc, List, [], ◌∷◌, ◌++◌, map, Option, Some, None, Bool, true, false, refl, sym, ap, subst, ◌∙◌, slice_get, option_map, true≢false}
+use Rattle.std.proofs.Common.{◌≡◌, ℕ, zero, suc, List, [], ◌∷◌, ◌++◌, Option, Some, None, Bool, true, false, refl, sym, ap, subst, ◌∙◌, slice_get, option_map, true≢false, not}
 use Rattle.std.specs.Prelude.{All, ◌&&◌}
 use Rattle.std.proofs.lemmas.Bool.{ltb-true}
 use Rattle.std.proofs.lemmas.List.Elements.{All-nil, All-cons}
 use Rattle.wasm_types.specs.trees.Types.{i32, number, ref, Abstract, func, extern, any, none, noextern, nofunc, eq, struct, array, i31, exn, noexn, cont, nocont, HeapOf, abstract, concrete, exact, StorageOf, i8, i16, value, FieldOf, InnerOf, function, array_of, struct_of, continuation}
 use Rattle.wasm_types.specs.trees.Trees.{TypeTree, opened}
 use Rattle.wasm_types.specs.trees.Below.{DeclaredBelow, itself, declared, expanded, is_shared, heap_is_shared, abstract_above, bottom_of, IsBelowAbstract, IsAboveAbstract, HeapBelow}
-use Rattle.wasm_types.specs.trees.AbstractOrder.{AbstractBelow, top_of}
+use Rattle.wasm_types.specs.trees.AbstractOrder.{AbstractBelow, same, i31_eq, struct_eq, array_eq, none_eq, none_i31, none_array, top_of}
 use Rattle.wasm_types.specs.trees.Each.{EachHeap}
 use Rattle.wasm_types.specs.trees.Matches.{StorageMatches, FieldMatches, FieldsMatch, InnerMatches, Matches}
 use Rattle.wasm_types.specs.trees.Chains.{LinksMatch, IsSound}
@@ -19,7 +19,7 @@ use Rattle.wasm_operator_validator_rules.specs.Aggregates.{top_heap, as_struct, 
 use Rattle.wasm_operator_validator_rules.specs.Places.{unpacked, is_of_bytes, has_default, have_defaults, is_packed, operands_for, Place, field_place, element_place}
 use Rattle.wasm_operator_validator_rules.specs.InstructionTypes.{InstructionType, ◌⟶◌, names_data, i32_type, provided, read, read_packed}
 use Rattle.wasm_operator_validator_soundness.specs.runs.Values.{Program, IsStandardType, IsObject, Value, number_value, ref_null, ref_function, ref_object, ref_i31, ref_host, ref_extern, ref_exn, least_type, bottom_heap, IsAkin, bottom_under, Fits, AllFit}
-use Rattle.wasm_operator_validator_soundness.specs.runs.Machine.{fields_in, operand_of, operands_of, struct_operands, array_operands, HasDefault, IsOfBytes, IsData, last_of}
+use Rattle.wasm_operator_validator_soundness.specs.runs.Machine.{fields_in, operand_of, operands_of, struct_fields, array_fields, IsWhole, IsPacked, AreStoredAlike, IsArray, IsUnboxed, IsComparable, HasDefault, IsOfBytes, IsData, last_of}
 use Rattle.wasm_operator_validator_soundness.proofs.RunsFitting.{stack_joined}
 use Rattle.wasm_operator_validator_soundness.proofs.RunsInvariant.{none_is_some, some_same}
 use Rattle.wasm_operator_validator_soundness.proofs.RunsLeaving.{default_there, standard_is_sound, under_below, one_bottom, under_itself, under_constructor, under_bottom}
@@ -72,16 +72,44 @@ unpacked_below (value v) i8 m = absurd m
 unpacked_below (value v) i16 m = absurd m
 
 -- what is held as operands, by the machine and by the rules
-operand_is : (s : StorageOf TypeTree) → operand_of s ≡ unpacked s
+pub operand_is : (s : StorageOf TypeTree) → operand_of s ≡ unpacked s
 operand_is i8 = refl
 operand_is i16 = refl
 operand_is (value t) = refl
 
--- of an object below a struct or an array
-abbrev pub HoldsAlike : (InnerOf TypeTree → Option (List ValueType)) → Type 0
-HoldsAlike of = (x y : InnerOf TypeTree) (ts : List ValueType) → InnerMatches x y → of y ≡ Some ts → of x ≡ Some (operands_of (fields_in x))
+-- the same where one is what the machine holds
+pub held_below : (x y : StorageOf TypeTree) → StorageMatches x y → OperandBelow (known (operand_of x)) (known (unpacked y))
+held_below x y m = subst (λ (u : ValueType). OperandBelow (known u) (known (unpacked y))) (sym (operand_is x)) (unpacked_below x y m)
 
-pub structs_alike : HoldsAlike struct_operands
+pub below_held : (x y : StorageOf TypeTree) → StorageMatches x y → OperandBelow (known (unpacked x)) (known (operand_of y))
+below_held x y m = subst (λ (u : ValueType). OperandBelow (known (unpacked x)) (known u)) (sym (operand_is y)) (unpacked_below x y m)
+
+pub stored_alike : (x y : StorageOf TypeTree) → StorageMatches x y → AreStoredAlike x y
+stored_alike i8 i8 m = refl
+stored_alike i16 i16 m = refl
+stored_alike (value v) (value u) m = refl
+stored_alike i8 i16 m = absurd m
+stored_alike i8 (value u) m = absurd m
+stored_alike i16 i8 m = absurd m
+stored_alike i16 (value u) m = absurd m
+stored_alike (value v) i8 m = absurd m
+stored_alike (value v) i16 m = absurd m
+
+is_whole : (s : StorageOf TypeTree) → is_packed s ≡ false → IsWhole s
+is_whole (value t) e = refl
+is_whole i8 e = absurd (true≢false e)
+is_whole i16 e = absurd (true≢false e)
+
+is_in_bits : (s : StorageOf TypeTree) → is_packed s ≡ true → IsPacked s
+is_in_bits i8 e = (8, refl)
+is_in_bits i16 e = (16, refl)
+is_in_bits (value t) e = absurd (true≢false (sym e))
+
+-- of an object below a struct or an array
+abbrev pub HoldsAlike : (InnerOf TypeTree → Option (List (FieldOf TypeTree))) → Type 0
+HoldsAlike of = (x y : InnerOf TypeTree) (ts : List (FieldOf TypeTree)) → InnerMatches x y → of y ≡ Some ts → of x ≡ Some (fields_in x)
+
+pub structs_alike : HoldsAlike struct_fields
 structs_alike (struct_of fs) (struct_of gs) ts m e = refl
 structs_alike (array_of f) (struct_of gs) ts m e = absurd m
 structs_alike (function ps rs) (struct_of gs) ts m e = absurd m
@@ -90,7 +118,7 @@ structs_alike x (array_of g) ts m e = absurd (none_is_some ts e)
 structs_alike x (function ps rs) ts m e = absurd (none_is_some ts e)
 structs_alike x (continuation t) ts m e = absurd (none_is_some ts e)
 
-pub arrays_alike : HoldsAlike array_operands
+pub arrays_alike : HoldsAlike array_fields
 arrays_alike (array_of f) (array_of g) ts m e = refl
 arrays_alike (struct_of fs) (array_of g) ts m e = absurd m
 arrays_alike (function ps rs) (array_of g) ts m e = absurd m
@@ -99,17 +127,10 @@ arrays_alike x (struct_of fs) ts m e = absurd (none_is_some ts e)
 arrays_alike x (function ps rs) ts m e = absurd (none_is_some ts e)
 arrays_alike x (continuation t) ts m e = absurd (none_is_some ts e)
 
-slice_get_map : {A B : Type 0} (f : A → B) (xs : List A) (i : ℕ) (x : A) → slice_get xs i ≡ Some x → slice_get (map f xs) i ≡ Some (f x)
-slice_get_map f [] i x e = absurd (none_is_some x e)
-slice_get_map f (y ∷ xs) zero x e = ap Some (ap f (some_same y x e))
-slice_get_map f (y ∷ xs) (suc i) x e = slice_get_map f xs i x e
-
--- the type of the object's own field, through a type above its own that has this field
+-- the object's own field, through a type above its own that has this field
 pub own_field : (u t : TypeTree) (i : ℕ) (f : FieldOf TypeTree) → InnerMatches (expanded u) (expanded t) → slice_get (fields_in (expanded t)) i ≡ Some f
-    → (k : FieldOf TypeTree) × (slice_get (operands_of (fields_in (expanded u))) i ≡ Some (unpacked k.storage)) × FieldMatches k f
-own_field u t i f m e =
-    let r = field_through (expanded u) (expanded t) i f m e in
-    (r.0, slice_get_map (λ (x : FieldOf TypeTree). operand_of x.storage) (fields_in (expanded u)) i r.0 r.1 ∙ ap Some (operand_is (r.0).storage), r.2)
+    → (k : FieldOf TypeTree) × (slice_get (fields_in (expanded u)) i ≡ Some k) × FieldMatches k f
+own_field u t i f m e = field_through (expanded u) (expanded t) i f m e
 
 -- ---- constructors
 
@@ -133,6 +154,97 @@ function_abstract (continuation t) i = absurd i
 pub no_function : (u t : TypeTree) → IsSound u → DeclaredBelow u t → IsFunction (expanded u) → IsObject (expanded t) → ⊥
 no_function u t s d i j =
     subst IsObjectAbstract (sym ((s t d).constructor) ∙ function_abstract (expanded u) i) (object_abstract (expanded t) j)
+
+-- ---- what is below abstract types
+
+-- what an abstract type is the constructor of, or the bottom of all
+abbrev IsArrayAbstract : Abstract → Type 0
+IsArrayAbstract array = Unit {0}
+IsArrayAbstract none = Unit {0}
+IsArrayAbstract h = ⊥
+
+abbrev IsUnboxedAbstract : Abstract → Type 0
+IsUnboxedAbstract i31 = Unit {0}
+IsUnboxedAbstract none = Unit {0}
+IsUnboxedAbstract h = ⊥
+
+abbrev IsComparableAbstract : Abstract → Type 0
+IsComparableAbstract eq = Unit {0}
+IsComparableAbstract i31 = Unit {0}
+IsComparableAbstract struct = Unit {0}
+IsComparableAbstract array = Unit {0}
+IsComparableAbstract none = Unit {0}
+IsComparableAbstract h = ⊥
+
+below_array : (h : Abstract) → AbstractBelow h array → IsArrayAbstract h
+below_array h same = tt
+below_array h none_array = tt
+
+below_i31 : (h : Abstract) → AbstractBelow h i31 → IsUnboxedAbstract h
+below_i31 h same = tt
+below_i31 h none_i31 = tt
+
+below_eq : (h : Abstract) → AbstractBelow h eq → IsComparableAbstract h
+below_eq h same = tt
+below_eq h i31_eq = tt
+below_eq h struct_eq = tt
+below_eq h array_eq = tt
+below_eq h none_eq = tt
+
+-- of a type below an abstract one, by its constructor
+own_abstract : (P : Abstract → Type 0) (t : TypeTree) (s : Bool) (k : Abstract) → IsSound t → ((h : Abstract) → AbstractBelow h k → P h) → IsBelowAbstract t s k → P (abstract_above (expanded t))
+own_abstract P t s k sound below b = subst P (sym ((sound b.0 b.1).constructor)) (below (abstract_above (expanded b.0)) b.3)
+
+array_by : (x : InnerOf TypeTree) → IsArrayAbstract (abstract_above x) → (f : FieldOf TypeTree) × (x ≡ array_of f)
+array_by (array_of f) i = (f, refl)
+array_by (function ps rs) i = absurd i
+array_by (struct_of fs) i = absurd i
+array_by (continuation t) i = absurd i
+
+function_no_array : (x : InnerOf TypeTree) → IsFunction x → IsArrayAbstract (abstract_above x) → ⊥
+function_no_array x i a = subst IsArrayAbstract (function_abstract x i) a
+
+function_no_unboxed : (x : InnerOf TypeTree) → IsFunction x → IsUnboxedAbstract (abstract_above x) → ⊥
+function_no_unboxed x i a = subst IsUnboxedAbstract (function_abstract x i) a
+
+function_no_comparable : (x : InnerOf TypeTree) → IsFunction x → IsComparableAbstract (abstract_above x) → ⊥
+function_no_comparable x i a = subst IsComparableAbstract (function_abstract x i) a
+
+object_no_unboxed : (x : InnerOf TypeTree) → IsObject x → IsUnboxedAbstract (abstract_above x) → ⊥
+object_no_unboxed (array_of f) i a = a
+object_no_unboxed (struct_of fs) i a = a
+object_no_unboxed (function ps rs) i a = absurd i
+object_no_unboxed (continuation t) i a = absurd i
+
+pub an_array : (p : Program) (v : Value) (s : Bool) → Fits p v (ref true (abstract s array)) → IsArray v
+an_array p (ref_null c k) s f = tt
+an_array p (ref_object t) s f = array_by (expanded t) (own_abstract IsArrayAbstract t s array (standard_is_sound t f.0.0) below_array f.1.1)
+an_array p (ref_function j t) s f = absurd (function_no_array (expanded t) f.0.1 (own_abstract IsArrayAbstract t s array (standard_is_sound t f.0.0) below_array f.1.1))
+an_array p (number_value n) s f = absurd f.1
+an_array p ref_i31 s f = absurd (below_array i31 f.1.1.1)
+an_array p ref_host s f = absurd (below_array any f.1.1.1)
+an_array p ref_extern s f = absurd (below_array extern f.1.1.1)
+an_array p (ref_exn t) s f = absurd (below_array exn f.1.1.1)
+
+pub an_unboxed : (p : Program) (v : Value) (s : Bool) → Fits p v (ref true (abstract s i31)) → IsUnboxed v
+an_unboxed p (ref_null c k) s f = tt
+an_unboxed p ref_i31 s f = tt
+an_unboxed p (ref_object t) s f = absurd (object_no_unboxed (expanded t) f.0.1 (own_abstract IsUnboxedAbstract t s i31 (standard_is_sound t f.0.0) below_i31 f.1.1))
+an_unboxed p (ref_function j t) s f = absurd (function_no_unboxed (expanded t) f.0.1 (own_abstract IsUnboxedAbstract t s i31 (standard_is_sound t f.0.0) below_i31 f.1.1))
+an_unboxed p (number_value n) s f = absurd f.1
+an_unboxed p ref_host s f = absurd (below_i31 any f.1.1.1)
+an_unboxed p ref_extern s f = absurd (below_i31 extern f.1.1.1)
+an_unboxed p (ref_exn t) s f = absurd (below_i31 exn f.1.1.1)
+
+pub comparable : (p : Program) (v : Value) (s : Bool) → Fits p v (ref true (abstract s eq)) → IsComparable v
+comparable p (ref_null c k) s f = tt
+comparable p ref_i31 s f = tt
+comparable p (ref_object t) s f = tt
+comparable p (ref_function j t) s f = absurd (function_no_comparable (expanded t) f.0.1 (own_abstract IsComparableAbstract t s eq (standard_is_sound t f.0.0) below_eq f.1.1))
+comparable p (number_value n) s f = absurd f.1
+comparable p ref_host s f = absurd (below_eq any f.1.1.1)
+comparable p ref_extern s f = absurd (below_eq extern f.1.1.1)
+comparable p (ref_exn t) s f = absurd (below_eq exn f.1.1.1)
 
 -- ---- types that are named
 
@@ -165,18 +277,18 @@ array_is g x s e =
     subst (λ (y : Array). IsNamedAs g x y.type (array_of y.element)) m.2 (record { there = used_is g x r.0 r.1; inner = as_array_is (expanded r.0) m.0 m.1 })
 
 -- a place of an object: its type, and the field with this number
-pub record IsPlaceOf (of : InnerOf TypeTree → Option (List ValueType)) (g : Context) (x i : ℕ) (above : List ValueType) (q : Place) : Type 0 where
+pub record IsPlaceOf (of : InnerOf TypeTree → Option (List (FieldOf TypeTree))) (g : Context) (x i : ℕ) (above : List ValueType) (q : Place) : Type 0 where
   pub type : TypeTree
   pub field : FieldOf TypeTree
   pub there : slice_get g.«module».types x ≡ Some type
   pub object : IsObject (expanded type)
-  pub held : List ValueType
+  pub held : List (FieldOf TypeTree)
   pub holds : of (expanded type) ≡ Some held
   pub alike : HoldsAlike of
   pub has_it : slice_get (fields_in (expanded type)) i ≡ Some field
   pub is : q ≡ record { reached_by = ref true (concrete type) ∷ above; storage = field.storage; mutable = field.mutable }
 
-pub field_place_is : (g : Context) (x i : ℕ) (q : Place) → field_place g x i ≡ Some q → IsPlaceOf struct_operands g x i [] q
+pub field_place_is : (g : Context) (x i : ℕ) (q : Place) → field_place g x i ≡ Some q → IsPlaceOf struct_fields g x i [] q
 field_place_is g x i q e =
     let r = and_then_some (λ (s : Struct). option_map (λ (y : FieldOf TypeTree). record { reached_by = ref true (concrete s.type) ∷ []; storage = y.storage; mutable = y.mutable }) (slice_get s.fields i)) (struct_named g x) q e in
     let m = map_some (λ (y : FieldOf TypeTree). record { reached_by = ref true (concrete (r.0).type) ∷ []; storage = y.storage; mutable = y.mutable }) (slice_get (r.0).fields i) q r.2 in
@@ -186,14 +298,14 @@ field_place_is g x i q e =
       field = m.0;
       there = n.there;
       object = subst IsObject (sym n.inner) tt;
-      held = operands_of (r.0).fields;
-      holds = ap struct_operands n.inner;
+      held = (r.0).fields;
+      holds = ap struct_fields n.inner;
       alike = structs_alike;
       has_it = ap (λ (k : InnerOf TypeTree). slice_get (fields_in k) i) n.inner ∙ m.1;
       is = sym m.2;
     }
 
-pub element_place_is : (g : Context) (x : ℕ) (q : Place) → element_place g x ≡ Some q → IsPlaceOf array_operands g x 0 (i32_type ∷ []) q
+pub element_place_is : (g : Context) (x : ℕ) (q : Place) → element_place g x ≡ Some q → IsPlaceOf array_fields g x 0 (i32_type ∷ []) q
 element_place_is g x q e =
     let m = map_some (λ (s : Array). record { reached_by = ref true (concrete s.type) ∷ number i32 ∷ []; storage = s.element.storage; mutable = s.element.mutable }) (array_named g x) q e in
     let n = array_is g x m.0 m.1 in
@@ -202,8 +314,8 @@ element_place_is g x q e =
       field = (m.0).element;
       there = n.there;
       object = subst IsObject (sym n.inner) tt;
-      held = operands_of ((m.0).element ∷ []);
-      holds = ap array_operands n.inner;
+      held = (m.0).element ∷ [];
+      holds = ap array_fields n.inner;
       alike = arrays_alike;
       has_it = ap (λ (k : InnerOf TypeTree). slice_get (fields_in k) 0) n.inner;
       is = sym m.2;
@@ -220,13 +332,23 @@ packed_is i8 e = refl
 packed_is i16 e = refl
 packed_is (value t) e = absurd (true≢false (sym e))
 
-pub read_is : (q : Place) (t : InstructionType) → read q ≡ Some t → (q.reached_by ⟶ unpacked q.storage ∷ []) ≡ t
-read_is q t e = (provided_is _ _ t e).1
+-- what is stored may be read so, also in an object below
+abbrev pub StoredBelow : (StorageOf TypeTree → Type 0) → StorageOf TypeTree → Type 0
+StoredBelow stored s = (x : StorageOf TypeTree) → StorageMatches x s → stored x
 
-pub read_packed_is : (q : Place) (t : InstructionType) → read_packed q ≡ Some t → (q.reached_by ⟶ unpacked q.storage ∷ []) ≡ t
+not_true : (b : Bool) → not b ≡ true → b ≡ false
+not_true false e = refl
+not_true true e = absurd (true≢false (sym e))
+
+pub read_is : (q : Place) (t : InstructionType) → read q ≡ Some t → ((q.reached_by ⟶ unpacked q.storage ∷ []) ≡ t) × StoredBelow IsWhole q.storage
+read_is q t e =
+    let r = provided_is (not (is_packed q.storage)) (q.reached_by ⟶ unpacked q.storage ∷ []) t e in
+    (r.1, λ x m. stored_alike x q.storage m ∙ is_whole q.storage (not_true (is_packed q.storage) r.0))
+
+pub read_packed_is : (q : Place) (t : InstructionType) → read_packed q ≡ Some t → ((q.reached_by ⟶ unpacked q.storage ∷ []) ≡ t) × StoredBelow IsPacked q.storage
 read_packed_is q t e =
     let r = provided_is (is_packed q.storage) (q.reached_by ⟶ i32_type ∷ []) t e in
-    ap (λ (u : ValueType). q.reached_by ⟶ u ∷ []) (sym (packed_is q.storage r.0)) ∙ r.1
+    (ap (λ (u : ValueType). q.reached_by ⟶ u ∷ []) (sym (packed_is q.storage r.0)) ∙ r.1, λ x m. let n = is_in_bits q.storage r.0 in (n.0, stored_alike x q.storage m ∙ n.1))
 
 -- ---- the value at the bottom of a few
 

@@ -1,6 +1,6 @@
 -- Parametric instructions, locals, references and tables.
 use Rattle.std.proofs.Common.{◌≡◌, ℕ, List, [], ◌∷◌, ◌++◌, reverse, Some, Bool, true, false, IsTrue, refl, sym, subst, ◌∙◌}
-use Rattle.std.proofs.Common.{slice_get, slice_set, Option, ap, if◌then◌else◌, ◌==◌, eqb-true, ◌<◌, length, true≢false}
+use Rattle.std.proofs.Common.{slice_get, slice_set, Option, None, ap, if◌then◌else◌, ◌==◌, ◌&&◌, eqb-true, ◌<◌, length, true≢false}
 use Rattle.std.proofs.lemmas.Option.{slice_get-get_or}
 use Rattle.wasm_types.specs.trees.Types.{heap_map, i32, HeapOf, abstract, concrete, exact, ref}
 use Rattle.wasm_types.specs.trees.Trees.{TypeTree}
@@ -18,32 +18,51 @@ use Rattle.wasm_types.specs.values.declared.value.ValType.TheVariants as value
 use Rattle.wasm_types.specs.values.Trees.{heap_of}
 use Rattle.wasm_types.specs.values.Values.{value_of}
 use Rattle.wasm_types.specs.trees.Each.{EachHeap}
+use Rattle.wasm_operators_enums.specs.declared.atomic.AtomicOperator.{AtomicOperator}
+use Rattle.wasm_operators_enums.specs.declared.atomic.AtomicOperator.TheVariants as atomic
+use Rattle.wasm_types.specs.externs.declared.memory.MemoryType.{MemoryType}
+use Rattle.wasm_operators_enums.specs.Table.{info_of}
+use Rattle.wasm_operators_enums.specs.Immediates.{immediates_of}
 use Rattle.wasm_operators_enums.specs.Op as op
 use Rattle.wasm_operators_enums.specs.Op.{Op, ParametricTree, ExceptionTree, ContinuationTree}
 use Rattle.wasm_operators_encoding.specs.expressions.Code.{Code, IsIn}
 use Rattle.wasm_operator_validator_rules.specs.Operands.{ValueType, Operand, known, AllBelow, all_known, stack}
 use Rattle.wasm_operator_validator_rules.specs.Context.{IsTypeIndex, written_type, Context, Table, Global, Initialised, Frame, IsType, address_type}
-use Rattle.wasm_operator_validator_rules.specs.InstructionTypes.{InstructionType, ◌⟶◌, global_at, table_at, i32_type, shorter}
-use Rattle.wasm_operator_validator_rules.specs.Taken.{Takes}
+use Rattle.wasm_operator_validator_rules.specs.Numbers.{numbers}
+use Rattle.wasm_operator_validator_rules.specs.Accesses.{AccessOf, access_of, atomic_access_of, operands_of, results_of, may_access}
+use Rattle.wasm_operator_validator_rules.specs.InstructionTypes.{InstructionType, ◌⟶◌, accesses, memory_at, global_at, table_at, names_data, i32_type, shorter}
+use Rattle.wasm_operator_validator_rules.specs.Taken.{Takes, TableRow}
 use Rattle.wasm_operator_validator_rules.specs.Row.{IsNumber, ParametricRow, MemoryRow, IsReferenceTo, of_type, of_exactly, BulkRow, sets}
 use Rattle.wasm_operator_validator_rules.specs.Typed.{Typed}
 use Rattle.wasm_operator_validator_soundness.specs.runs.Values.{IsAReference, IsStandardType, Function, Program, Value, number_value, ref_function, least_type, IsNumberValue, Fits, FitsOperand, AllFit, null_of}
 use Rattle.wasm_operator_validator_soundness.specs.runs.States.{Activation, Answer}
 use Rattle.wasm_operator_validator_soundness.specs.runs.States.{next, Move, asks, found}
-use Rattle.wasm_operator_validator_soundness.specs.runs.Machine.{meant, meant_heap, takes, copies, may_trap}
-use Rattle.wasm_operator_validator_soundness.specs.runs.Machine.{here, going, goes, exchange}
-use Rattle.wasm_operator_validator_soundness.specs.runs.Machine.{select, operate_parametric, set_local, operate_memory, operate_bulk}
+use Rattle.wasm_operator_validator_soundness.specs.runs.Machine.{address, meant, meant_heap, takes, copies, may_trap}
+use Rattle.wasm_operator_validator_soundness.specs.runs.Names.{accessed, argument_of}
+use Rattle.wasm_operator_validator_soundness.specs.runs.Machine.{going, goes, exchange, access}
+use Rattle.wasm_operator_validator_soundness.specs.runs.Machine.{select, operate_parametric, set_local, operate_memory, operate_bulk, operate_atomic, IsData}
 use Rattle.wasm_operator_validator_soundness.specs.runs.Soundness.{IsValidFunction, IsValidProgram}
 use Rattle.wasm_operator_validator_soundness.proofs.RunsFitting.{each_below}
 use Rattle.wasm_operator_validator_soundness.specs.runs.ValidStates.{AreSet, Around, around_of}
-use Rattle.wasm_operator_validator_soundness.proofs.RunsInvariant.{some_same, local_fits, local_written, are_still_set, now_set}
-use Rattle.wasm_operator_validator_soundness.proofs.RunsInvariant.{IsOkay, loops_still, handlers_still, still_await}
+use Rattle.wasm_operator_validator_soundness.proofs.RunsInvariant.{none_is_some, some_same, local_fits, local_written, are_still_set, now_set}
+use Rattle.wasm_operator_validator_soundness.proofs.RunsInvariant.{here, IsOkay, loops_still, handlers_still, still_await}
 use Rattle.wasm_operator_validator_soundness.proofs.Combining.{done_okay, asks_okay, found_okay, pops_okay, takes_okay, copies_okay, may_trap_okay}
 use Rattle.wasm_operator_validator_soundness.proofs.RunsLeaving.{null_fits}
-use Rattle.wasm_operator_validator_soundness.proofs.Options.{named_some, if_there}
-use Rattle.wasm_operator_validator_soundness.proofs.Objects.{provided_is}
+use Rattle.wasm_operator_validator_soundness.proofs.Options.{address_is, named_some, if_there}
+use Rattle.wasm_operator_validator_soundness.proofs.Objects.{provided_is, data_named}
+use Rattle.wasm_operator_validator_soundness.proofs.Names.{AccessSays, access_says, atomic_says}
 use Rattle.wasm_operator_validator_soundness.proofs.Values.{heap_there, value_there, as_other, either, is_a_number, is_reference}
-use Rattle.wasm_operator_validator_soundness.proofs.Standing.{code_at, exchange_okay, goes_okay, table_okay, values_at, Here}
+use Rattle.wasm_operator_validator_soundness.proofs.Standing.{code_at, exchange_okay, goes_okay, table_of, values_at, Here}
+
+-- what a copy takes, from one of these to the other
+abbrev for_copy : Bool → Bool → List ValueType
+for_copy m n = address m ∷ address n ∷ address (m && n) ∷ []
+
+copy_is : (m n : Bool) → for_copy m n ≡ address_type m ∷ address_type n ∷ shorter m n ∷ []
+copy_is true true = refl
+copy_is true false = refl
+copy_is false true = refl
+copy_is false false = refl
 
 module _ (p : Program) (valid : IsValidProgram p) (final : List ValueType) (a : Answer) (act : Activation) (acts : List Activation) (h : Here p final act acts) where
   abbrev w : Around
@@ -162,6 +181,9 @@ module _ (p : Program) (valid : IsValidProgram p) (final : List ValueType) (a : 
         h.below,
       )))
 
+  abbrev pub as_type : (c u : InstructionType) (popped pushed : List Operand) → c ≡ u → Takes u.takes u.gives popped pushed → Takes c.takes c.gives popped pushed
+  as_type c u popped pushed i r = (r.0 ∙ ap (λ (y : InstructionType). all_known y.takes) (sym i), r.1 ∙ ap (λ (y : InstructionType). all_known y.gives) (sym i))
+
   -- an operator of which the table of instruction types says no other than the machine
   pub exchanged_okay : (c u : InstructionType) (more : Code) (popped pushed rest m : List Operand) → c ≡ u → Takes u.takes u.gives popped pushed
       → AllBelow s (reverse popped ++ rest) → m ≡ reverse pushed ++ rest → Goes set more m → Okay (exchange p a act acts c.takes c.gives more)
@@ -178,12 +200,40 @@ module _ (p : Program) (valid : IsValidProgram p) (final : List ValueType) (a : 
       let d = says n.0 u (if_there _ (k n.0) u n.2) in
       found_okay p final (slice_get p.«module».globals x) n.0 _ n.1 (d.1 (exchanged_okay (c n.0) u more popped pushed rest m d.0 r b e t))
 
-  pub table_entry_okay : (x : ℕ) (c : Table → InstructionType) (more : Code) (popped pushed rest m : List Operand)
-      → (u : InstructionType) → table_at g x (λ t. Some (c t)) ≡ Some u → Takes u.takes u.gives popped pushed
+  pub table_entry_okay : (x : ℕ) (c d : Table → InstructionType) → ((t : Table) → c t ≡ d t) → (more : Code) (popped pushed rest m : List Operand)
+      → (u : InstructionType) → table_at g x (λ t. Some (d t)) ≡ Some u → Takes u.takes u.gives popped pushed
       → AllBelow s (reverse popped ++ rest) → m ≡ reverse pushed ++ rest → Goes set more m → Okay (found (slice_get p.«module».tables x) (λ t. exchange p a act acts (c t).takes (c t).gives more))
-  table_entry_okay x c more popped pushed rest m u i r b e t =
+  table_entry_okay x c d alike more popped pushed rest m u i r b e t =
       let n = named_some (slice_get p.«module».tables x) _ u i in
-      found_okay p final (slice_get p.«module».tables x) n.0 _ n.1 (exchanged_okay (c n.0) u more popped pushed rest m (some_same (c n.0) u (if_there _ (Some (c n.0)) u n.2)) r b e t)
+      found_okay p final (slice_get p.«module».tables x) n.0 _ n.1 (exchanged_okay (c n.0) u more popped pushed rest m (alike n.0 ∙ some_same (d n.0) u (if_there _ (Some (d n.0)) u n.2)) r b e t)
+
+  pub memory_entry_okay : (x : ℕ) (c d : MemoryType → InstructionType) → ((t : MemoryType) → c t ≡ d t) → (more : Code) (popped pushed rest m : List Operand)
+      → (u : InstructionType) → memory_at g x (λ t. Some (d t)) ≡ Some u → Takes u.takes u.gives popped pushed
+      → AllBelow s (reverse popped ++ rest) → m ≡ reverse pushed ++ rest → Goes set more m → Okay (found (slice_get p.«module».memories x) (λ t. exchange p a act acts (c t).takes (c t).gives more))
+  memory_entry_okay x c d alike more popped pushed rest m u i r b e t =
+      let n = named_some (slice_get p.«module».memories x) _ u i in
+      found_okay p final (slice_get p.«module».memories x) n.0 _ n.1 (exchanged_okay (c n.0) u more popped pushed rest m (alike n.0 ∙ some_same (d n.0) u n.2) r b e t)
+
+  -- an access by the table, whose name says the same
+  pub access_okay : (o : Op) (is_atomic : Bool) (d : Option AccessOf) → ((y : AccessOf) → d ≡ Some y → AccessSays o y) → (u : InstructionType) (more : Code) (popped pushed rest m : List Operand)
+      → accesses g is_atomic d ≡ Some u → Takes u.takes u.gives popped pushed
+      → AllBelow s (reverse popped ++ rest) → m ≡ reverse pushed ++ rest → Goes set more m → Okay (access p a act acts o more)
+  access_okay o is_atomic None says u more popped pushed rest m i r b e t = absurd (none_is_some u i)
+  access_okay o is_atomic (Some y) says u more popped pushed rest m i r b e t =
+      let k = says y refl in
+      let n = named_some (slice_get p.«module».memories y.argument.memory) _ u i in
+      let takes_gives : MemoryType → InstructionType = λ t. (address_type t.memory64 ∷ numbers (operands_of y.access)) ⟶ numbers (results_of y.access) in
+      let c = provided_is (may_access is_atomic n.0 y.argument) (takes_gives n.0) u n.2 in
+      found_okay p final (argument_of (immediates_of o)) y.argument _ k.0
+      (found_okay p final (slice_get p.«module».memories y.argument.memory) n.0 _ n.1
+      (found_okay p final (accessed (info_of o).name) (record { takes = operands_of y.access; gives = results_of y.access }) _ k.1
+      (exchanged_okay ((address (n.0).memory64 ∷ numbers (operands_of y.access)) ⟶ numbers (results_of y.access)) u more popped pushed rest m
+      (ap (λ (v : ValueType). (v ∷ numbers (operands_of y.access)) ⟶ numbers (results_of y.access)) (address_is (n.0).memory64) ∙ c.1) r b e t)))
+
+  -- nothing is taken or given
+  pub nothing_okay : (more : Code) (popped pushed rest m : List Operand) → Takes [] [] popped pushed
+      → AllBelow s (reverse popped ++ rest) → m ≡ reverse pushed ++ rest → Goes set more m → Okay (goes p a act acts vs more)
+  nothing_okay more popped pushed rest m r b e t = goes_okay p valid final a act acts h vs more rest (values_at p valid final a act acts h [] popped rest b r.0) (code_at p valid final a act acts h [] pushed rest m set more e r.1 t)
 
   pub memory_okay : (o : MemoryOperator) (more : Code) (popped pushed rest m : List Operand) → MemoryRow g set o popped pushed
       → AllBelow s (reverse popped ++ rest) → m ≡ reverse pushed ++ rest → Goes (sets o set) more m → Okay (operate_memory p a act acts o more)
@@ -200,7 +250,15 @@ module _ (p : Program) (valid : IsValidProgram p) (final : List ValueType) (a : 
   memory_okay (memory.GlobalSet x) more popped pushed rest m r b e t =
       global_okay x _ (λ v. v.content ∷ [] ⟶ []) (λ n v. asks (IsTrue v.mutable) (exchange p a act acts (v.content ∷ []) [] n)) more popped pushed rest m
       (λ v u i. let d = provided_is v.mutable (v.content ∷ [] ⟶ []) u i in (d.1, λ o. asks_okay p final (IsTrue v.mutable) _ d.0 o)) r.0 r.1 r.2 b e t
-  memory_okay o more popped pushed rest m r b e t = table_okay p valid final a act acts h (op.Memory o) more popped pushed rest m r b e t
+  memory_okay (memory.MemorySize x) more popped pushed rest m r b e t = memory_entry_okay x (λ u. [] ⟶ address u.memory64 ∷ []) (λ u. [] ⟶ address_type u.memory64 ∷ []) (λ u. ap (λ (y : ValueType). [] ⟶ y ∷ []) (address_is u.memory64)) more popped pushed rest m r.0 r.1 r.2 b e t
+  memory_okay (memory.MemoryGrow x) more popped pushed rest m r b e t =
+      memory_entry_okay x (λ u. address u.memory64 ∷ [] ⟶ address u.memory64 ∷ []) (λ u. address_type u.memory64 ∷ [] ⟶ address_type u.memory64 ∷ []) (λ u. ap (λ (y : ValueType). y ∷ [] ⟶ y ∷ []) (address_is u.memory64)) more popped pushed rest m r.0 r.1 r.2 b e t
+  memory_okay o more popped pushed rest m r b e t = access_okay (op.Memory o) false (access_of o) (λ x q. access_says o x q) r.0 more popped pushed rest m r.1 r.2 b e t
+
+  pub atomic_okay : (o : AtomicOperator) (more : Code) (popped pushed rest m : List Operand) → TableRow g (op.Atomic o) popped pushed
+      → AllBelow s (reverse popped ++ rest) → m ≡ reverse pushed ++ rest → Goes set more m → Okay (operate_atomic p a act acts o more)
+  atomic_okay atomic.AtomicFence more popped pushed rest m r b e t = nothing_okay more popped pushed rest m (table_of p valid final a act acts h (op.Atomic atomic.AtomicFence) ([] ⟶ []) popped pushed refl r) b e t
+  atomic_okay o more popped pushed rest m r b e t = access_okay (op.Atomic o) true (atomic_access_of o) (λ x q. atomic_says o x q) r.0 more popped pushed rest m r.1 r.2 b e t
 
   -- ---- references, and copies into tables
 
@@ -251,17 +309,40 @@ module _ (p : Program) (valid : IsValidProgram p) (final : List ValueType) (a : 
   bulk_okay (bulk.TableInit i x) more popped pushed rest m r b e t =
       found_okay p final (slice_get p.«module».elements i) r.1 _ r.4
       (found_okay p final (slice_get p.«module».tables x) r.0 _ r.2
-      (copied_okay (address_type (r.0).table64 ∷ i32_type ∷ i32_type ∷ []) r.1 (r.0).element more rest (values_at p valid final a act acts h _ popped rest b r.6.0) r.5 (code_at p valid final a act acts h [] pushed rest m set more e r.6.1 t)))
+      (copied_okay (address (r.0).table64 ∷ i32_type ∷ i32_type ∷ []) r.1 (r.0).element more rest
+      (subst (λ (y : ValueType). AllFit p vs (stack (y ∷ i32_type ∷ i32_type ∷ []) ++ rest)) (sym (address_is (r.0).table64)) (values_at p valid final a act acts h _ popped rest b r.6.0)) r.5 (code_at p valid final a act acts h [] pushed rest m set more e r.6.1 t)))
   bulk_okay (bulk.TableCopy x y) more popped pushed rest m r b e t =
       found_okay p final (slice_get p.«module».tables x) r.0 _ r.2
       (found_okay p final (slice_get p.«module».tables y) r.1 _ r.3
-      (copied_okay (address_type (r.0).table64 ∷ address_type (r.1).table64 ∷ shorter (r.0).table64 (r.1).table64 ∷ []) (r.1).element (r.0).element more rest
-      (values_at p valid final a act acts h _ popped rest b r.7.0) r.6 (code_at p valid final a act acts h [] pushed rest m set more e r.7.1 t)))
-  bulk_okay (bulk.TableGet x) more popped pushed rest m r b e t = table_entry_okay x (λ u. address_type u.table64 ∷ [] ⟶ u.element ∷ []) more popped pushed rest m r.0 r.1 r.2 b e t
-  bulk_okay (bulk.TableSet x) more popped pushed rest m r b e t = table_entry_okay x (λ u. address_type u.table64 ∷ u.element ∷ [] ⟶ []) more popped pushed rest m r.0 r.1 r.2 b e t
+      (copied_okay (for_copy (r.0).table64 (r.1).table64) (r.1).element (r.0).element more rest
+      (subst (λ (l : List ValueType). AllFit p vs (stack l ++ rest)) (sym (copy_is (r.0).table64 (r.1).table64)) (values_at p valid final a act acts h _ popped rest b r.7.0)) r.6 (code_at p valid final a act acts h [] pushed rest m set more e r.7.1 t)))
+  bulk_okay (bulk.TableGet x) more popped pushed rest m r b e t = table_entry_okay x (λ u. address u.table64 ∷ [] ⟶ u.element ∷ []) (λ u. address_type u.table64 ∷ [] ⟶ u.element ∷ []) (λ u. ap (λ (y : ValueType). y ∷ [] ⟶ u.element ∷ []) (address_is u.table64)) more popped pushed rest m r.0 r.1 r.2 b e t
+  bulk_okay (bulk.TableSet x) more popped pushed rest m r b e t = table_entry_okay x (λ u. address u.table64 ∷ u.element ∷ [] ⟶ []) (λ u. address_type u.table64 ∷ u.element ∷ [] ⟶ []) (λ u. ap (λ (y : ValueType). y ∷ u.element ∷ [] ⟶ []) (address_is u.table64)) more popped pushed rest m r.0 r.1 r.2 b e t
   bulk_okay (bulk.TableGrow x) more popped pushed rest m r b e t =
-      table_entry_okay x (λ u. u.element ∷ address_type u.table64 ∷ [] ⟶ address_type u.table64 ∷ []) more popped pushed rest m r.0 r.1 r.2 b e t
-  bulk_okay (bulk.TableSize x) more popped pushed rest m r b e t = table_entry_okay x (λ u. [] ⟶ address_type u.table64 ∷ []) more popped pushed rest m r.0 r.1 r.2 b e t
+      table_entry_okay x (λ u. u.element ∷ address u.table64 ∷ [] ⟶ address u.table64 ∷ []) (λ u. u.element ∷ address_type u.table64 ∷ [] ⟶ address_type u.table64 ∷ []) (λ u. ap (λ (y : ValueType). u.element ∷ y ∷ [] ⟶ y ∷ []) (address_is u.table64)) more popped pushed rest m r.0 r.1 r.2 b e t
+  bulk_okay (bulk.TableSize x) more popped pushed rest m r b e t = table_entry_okay x (λ u. [] ⟶ address u.table64 ∷ []) (λ u. [] ⟶ address_type u.table64 ∷ []) (λ u. ap (λ (y : ValueType). [] ⟶ y ∷ []) (address_is u.table64)) more popped pushed rest m r.0 r.1 r.2 b e t
   bulk_okay (bulk.TableFill x) more popped pushed rest m r b e t =
-      table_entry_okay x (λ u. address_type u.table64 ∷ u.element ∷ address_type u.table64 ∷ [] ⟶ []) more popped pushed rest m r.0 r.1 r.2 b e t
-  bulk_okay o more popped pushed rest m r b e t = table_okay p valid final a act acts h (op.Bulk o) more popped pushed rest m r b e t
+      table_entry_okay x (λ u. address u.table64 ∷ u.element ∷ address u.table64 ∷ [] ⟶ []) (λ u. address_type u.table64 ∷ u.element ∷ address_type u.table64 ∷ [] ⟶ []) (λ u. ap (λ (y : ValueType). y ∷ u.element ∷ y ∷ [] ⟶ []) (address_is u.table64)) more popped pushed rest m r.0 r.1 r.2 b e t
+  bulk_okay (bulk.ElemDrop x) more popped pushed rest m r b e t =
+      let n = named_some (slice_get p.«module».elements x) _ r.0 r.1 in
+      found_okay p final (slice_get p.«module».elements x) n.0 _ n.1 (nothing_okay more popped pushed rest m (as_type ([] ⟶ []) r.0 popped pushed (some_same ([] ⟶ []) r.0 n.2) r.2) b e t)
+  bulk_okay (bulk.DataDrop x) more popped pushed rest m r b e t =
+      let c = provided_is _ ([] ⟶ []) r.0 r.1 in
+      asks_okay p final (IsData p.«module».data_count x) _ (data_named p.«module».data_count x c.0) (nothing_okay more popped pushed rest m (as_type ([] ⟶ []) r.0 popped pushed c.1 r.2) b e t)
+  bulk_okay (bulk.MemoryInit d x) more popped pushed rest m r b e t =
+      let n = named_some (slice_get p.«module».memories x) _ r.0 r.1 in
+      let c = provided_is (names_data p.«module».data_count d) (address_type (n.0).memory64 ∷ i32_type ∷ i32_type ∷ [] ⟶ []) r.0 n.2 in
+      found_okay p final (slice_get p.«module».memories x) n.0 _ n.1
+      (asks_okay p final (IsData p.«module».data_count d) _ (data_named p.«module».data_count d c.0)
+      (exchanged_okay (address (n.0).memory64 ∷ i32_type ∷ i32_type ∷ [] ⟶ []) r.0 more popped pushed rest m (ap (λ (y : ValueType). y ∷ i32_type ∷ i32_type ∷ [] ⟶ []) (address_is (n.0).memory64) ∙ c.1) r.2 b e t))
+  bulk_okay (bulk.MemoryCopy x y) more popped pushed rest m r b e t =
+      let n = named_some (slice_get p.«module».memories x) _ r.0 r.1 in
+      let k = named_some (slice_get p.«module».memories y) _ r.0 n.2 in
+      let c : InstructionType = address_type (n.0).memory64 ∷ address_type (k.0).memory64 ∷ shorter (n.0).memory64 (k.0).memory64 ∷ [] ⟶ [] in
+      found_okay p final (slice_get p.«module».memories x) n.0 _ n.1
+      (found_okay p final (slice_get p.«module».memories y) k.0 _ k.1 (exchanged_okay (for_copy (n.0).memory64 (k.0).memory64 ⟶ []) r.0 more popped pushed rest m
+      (ap (λ (l : List ValueType). l ⟶ []) (copy_is (n.0).memory64 (k.0).memory64) ∙ some_same c r.0 k.2) r.2 b e t))
+  bulk_okay (bulk.MemoryFill x) more popped pushed rest m r b e t =
+      memory_entry_okay x (λ u. address u.memory64 ∷ i32_type ∷ address u.memory64 ∷ [] ⟶ []) (λ u. address_type u.memory64 ∷ i32_type ∷ address_type u.memory64 ∷ [] ⟶ []) (λ u. ap (λ (y : ValueType). y ∷ i32_type ∷ y ∷ [] ⟶ []) (address_is u.memory64)) more popped pushed rest m r.0 r.1 r.2 b e t
+  bulk_okay (bulk.MemoryDiscard x) more popped pushed rest m r b e t =
+      memory_entry_okay x (λ u. address u.memory64 ∷ address u.memory64 ∷ [] ⟶ []) (λ u. address_type u.memory64 ∷ address_type u.memory64 ∷ [] ⟶ []) (λ u. ap (λ (y : ValueType). y ∷ y ∷ [] ⟶ []) (address_is u.memory64)) more popped pushed rest m r.0 r.1 r.2 b e t

@@ -3,9 +3,10 @@ use Rattle.std.proofs.Common.{◌≡◌, ℕ, Bool, true, false, Option, Some, N
 use Rattle.wasm_types.specs.trees.Types.{InnerOf, function, array_of, struct_of, continuation}
 use Rattle.wasm_types.specs.trees.Trees.{TypeTree}
 use Rattle.wasm_types.specs.trees.Below.{is_shared}
-use Rattle.wasm_operator_validator_rules.specs.Context.{Context, Signature, may_use}
+use Rattle.wasm_operator_validator_rules.specs.Context.{Context, Signature, address_type, may_use}
 use Rattle.wasm_operator_validator_rules.specs.Named.{as_function, used_type}
 use Rattle.wasm_operator_validator_rules.specs.InstructionTypes.{InstructionType, named as named_type}
+use Rattle.wasm_operator_validator_soundness.specs.runs.Machine.{address}
 use Rattle.wasm_operator_validator_soundness.proofs.RunsInvariant.{none_is_some, some_same}
 
 pub and_then_some : {A B : Type 0} (f : A → Option B) (o : Option A) (y : B) → option_and_then f o ≡ Some y → (x : A) × (o ≡ Some x) × (f x ≡ Some y)
@@ -38,3 +39,8 @@ as_function_is (continuation f) b e = absurd (none_is_some b e)
 pub named_some : {A : Type 0} (o : Option A) (f : A → Option InstructionType) (t : InstructionType) → named_type o f ≡ Some t → (x : A) × (o ≡ Some x) × (f x ≡ Some t)
 named_some None f t e = absurd (none_is_some t e)
 named_some (Some x) f t e = (x, refl, e)
+
+-- addresses by the machine and by the rules
+pub address_is : (b : Bool) → address b ≡ address_type b
+address_is true = refl
+address_is false = refl

@@ -1,10 +1,10 @@
 -- What is shown of each step, and what stays of a state where a local is written.
-use Rattle.std.proofs.Common.{◌≡◌, ℕ, zero, suc, List, [], ◌∷◌, Option, Some, None, refl, sym, ap, subst, slice_get, slice_set, unwrap_or}
+use Rattle.std.proofs.Common.{◌≡◌, ℕ, zero, suc, List, [], ◌∷◌, Option, Some, None, refl, sym, ap, subst, slice_get, slice_set, unwrap_or, map}
 use Rattle.wasm_operator_validator_rules.specs.Operands.{ValueType, Operand, stack}
-use Rattle.wasm_operator_validator_rules.specs.Context.{Initialised, Signature}
+use Rattle.wasm_operator_validator_rules.specs.Context.{Context, Initialised, Signature}
 use Rattle.wasm_operator_validator_soundness.specs.runs.Values.{Program, Value, Fits}
 use Rattle.wasm_operator_validator_soundness.specs.runs.ValidStates.{AreSet, LocalFits, LocalsFit, Around, LoopsBack, HandlersFit, LabelsAwait, IsValidOutcome}
-use Rattle.wasm_operator_validator_soundness.specs.runs.States.{Continuation, behind, again, Handlers, no_handlers, table, clauses, Label}
+use Rattle.wasm_operator_validator_soundness.specs.runs.States.{Continuation, behind, again, Handlers, no_handlers, table, clauses, Label, Activation, Answer, branch_type, is_clause}
 use Rattle.wasm_operator_validator_soundness.specs.runs.States.{Move}
 
 IsNothing : {A : Type 0} → Option A → Type 0
@@ -22,6 +22,18 @@ some_same x y e = ap (λ o. unwrap_or o x) e
 -- together of can be found from its type.
 pub record IsOkay (p : Program) (final : List ValueType) (m : Move) : Type 0 where
   pub okay : m.is_answer → m.needs × IsValidOutcome p final m.outcome
+
+-- what the rules know at the innermost instructions
+abbrev pub here : Program → Answer → Activation → List Activation → Context
+here p a act acts = record {
+  bits = p.bits;
+  «module» = p.«module»;
+  locals = act.types;
+  labels = map branch_type (act.innermost ∷ act.around);
+  catches = map is_clause (act.innermost ∷ act.around);
+  results = act.results;
+  shared = act.shared;
+}
 
 -- ---- a local that is written
 

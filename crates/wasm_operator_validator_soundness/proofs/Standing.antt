@@ -1,23 +1,27 @@
 -- The innermost activation of a state of the invariant: what its rows say of the values that stand there, the table, branches.
-use Rattle.std.proofs.Common.{◌≡◌, ℕ, List, [], ◌∷◌, ◌++◌, reverse, Some, Bool, false, ap, subst, ◌∙◌}
+use Rattle.std.proofs.Common.{◌≡◌, ℕ, List, [], ◌∷◌, ◌++◌, reverse, Some, Bool, false, sym, ap, subst, ◌∙◌}
 use Rattle.wasm_operators_immediates.specs.declared.frames.FrameKind.{FrameKind}
+use Rattle.wasm_types.specs.trees.Types.{Number}
 use Rattle.wasm_operators_enums.specs.Op.{Op}
+use Rattle.wasm_operators_enums.specs.Table.{info_of}
 use Rattle.wasm_operators_encoding.specs.expressions.Code.{Code, IsIn}
 use Rattle.wasm_operator_validator_rules.specs.Operands.{ValueType, Operand, known, AllBelow, all_known, stack}
 use Rattle.wasm_operator_validator_rules.specs.Context.{Context, Initialised, Frame}
+use Rattle.wasm_operator_validator_rules.specs.Numbers.{numbers}
 use Rattle.wasm_operator_validator_rules.specs.InstructionTypes.{InstructionType, instruction_type}
-use Rattle.wasm_operator_validator_rules.specs.Taken.{Takes, IsLabel}
+use Rattle.wasm_operator_validator_rules.specs.Taken.{Takes, TableRow, IsLabel}
 use Rattle.wasm_operator_validator_rules.specs.Typed.{Typed}
 use Rattle.wasm_operator_validator_soundness.specs.runs.Values.{Program, Value, AllFit}
 use Rattle.wasm_operator_validator_soundness.specs.runs.States.{Activation, Answer}
 use Rattle.wasm_operator_validator_soundness.specs.runs.States.{next, Move}
+use Rattle.wasm_operator_validator_soundness.specs.runs.Names.{computed}
 use Rattle.wasm_operator_validator_soundness.specs.runs.Machine.{jump}
-use Rattle.wasm_operator_validator_soundness.specs.runs.Machine.{label_at, here, going, goes, exchange, by_table, branch, branch_if}
+use Rattle.wasm_operator_validator_soundness.specs.runs.Machine.{label_at, going, goes, exchange, compute, branch, branch_if}
 use Rattle.wasm_operator_validator_soundness.specs.runs.Soundness.{IsValidProgram}
 use Rattle.wasm_operator_validator_soundness.proofs.RunsFitting.{all_below, fits_joined, stack_more, reversed_under}
 use Rattle.wasm_operator_validator_soundness.specs.runs.ValidStates.{AreSet, LocalsFit, IsCaught, Around, around_of}
 use Rattle.wasm_operator_validator_soundness.specs.runs.ValidStates.{LoopsBack, HandlersFit, LabelsAwait, ActivationAwaits, AllAwait}
-use Rattle.wasm_operator_validator_soundness.proofs.RunsInvariant.{IsOkay}
+use Rattle.wasm_operator_validator_soundness.proofs.RunsInvariant.{some_same, here, IsOkay}
 use Rattle.wasm_operator_validator_soundness.proofs.Combining.{done_okay, choose_okay, found_okay, takes_okay, gives_okay, may_trap_okay}
 use Rattle.wasm_operator_validator_soundness.proofs.RunsLeaving.{jump_okay}
 
@@ -124,10 +128,18 @@ module _ (p : Program) (valid : IsValidProgram p) (final : List ValueType) (a : 
 
   -- ---- the table
 
-  pub table_okay : (o : Op) (more : Code) (popped pushed rest m : List Operand) → (t : InstructionType) × (instruction_type g o ≡ Some t) × Takes t.takes t.gives popped pushed
-      → AllBelow s (reverse popped ++ rest) → m ≡ reverse pushed ++ rest → Goes set more m → Okay (by_table p a act acts o more)
-  table_okay o more popped pushed rest m r b e t = found_okay p final (instruction_type g o) r.0 _ r.1
-      (exchange_okay (r.0).takes (r.0).gives more rest (values_at _ popped rest b r.2.0) (code_at _ pushed rest m set more e r.2.1 t))
+  -- of an operator of the table: what it takes and gives
+  pub table_of : (o : Op) (u : InstructionType) (popped pushed : List Operand) → instruction_type g o ≡ Some u → TableRow g o popped pushed → Takes u.takes u.gives popped pushed
+  table_of o u popped pushed e r =
+      let d : r.0 ≡ u = some_same r.0 u (sym r.1 ∙ e) in
+      (r.2.0 ∙ ap (λ (y : InstructionType). all_known y.takes) d, r.2.1 ∙ ap (λ (y : InstructionType). all_known y.gives) d)
+
+  -- an operator whose name says what the table says
+  pub compute_okay : (o : Op) (ts us : List Number) (more : Code) (popped pushed rest m : List Operand) → computed (info_of o).name ≡ Some (record { takes = ts; gives = us })
+      → Takes (numbers ts) (numbers us) popped pushed → AllBelow s (reverse popped ++ rest) → m ≡ reverse pushed ++ rest → Goes set more m → Okay (compute p a act acts o more)
+  compute_okay o ts us more popped pushed rest m says r b e t =
+      found_okay p final (computed (info_of o).name) (record { takes = ts; gives = us }) _ says
+      (exchange_okay (numbers ts) (numbers us) more rest (values_at _ popped rest b r.0) (code_at _ pushed rest m set more e r.1 t))
 
   -- ---- branches
 

@@ -16,13 +16,12 @@ use Rattle.wasm_operator_validator_soundness.specs.runs.Values.{Program, Value, 
 use Rattle.wasm_operator_validator_soundness.specs.runs.States.{Label, Activation, is_clause, Answer}
 use Rattle.wasm_operator_validator_soundness.specs.runs.States.{trapped, Move}
 use Rattle.wasm_operator_validator_soundness.specs.runs.Machine.{function_type, unwind, throw_again}
-use Rattle.wasm_operator_validator_soundness.specs.runs.Machine.{here}
 use Rattle.wasm_operator_validator_soundness.specs.runs.Machine.{throw_reference, caught_at, operate_exception}
 use Rattle.wasm_operator_validator_soundness.specs.runs.Soundness.{IsValidProgram}
 use Rattle.wasm_operator_validator_soundness.specs.runs.ValidStates.{AreSet, IsCaught, Around, around_of}
 use Rattle.wasm_operator_validator_soundness.proofs.RunsInvariant.{none_is_some, some_same}
 use Rattle.wasm_operator_validator_soundness.specs.runs.ValidStates.{LabelsAwait}
-use Rattle.wasm_operator_validator_soundness.proofs.RunsInvariant.{IsOkay}
+use Rattle.wasm_operator_validator_soundness.proofs.RunsInvariant.{here, IsOkay}
 use Rattle.wasm_operator_validator_soundness.proofs.Options.{as_function_is}
 use Rattle.wasm_operator_validator_soundness.proofs.Combining.{done_okay, asks_okay, found_okay, pops_okay, takes_okay, gives_okay}
 use Rattle.wasm_operator_validator_soundness.proofs.RunsLeaving.{leave_okay, has_signature, signature_is, unwind_okay}

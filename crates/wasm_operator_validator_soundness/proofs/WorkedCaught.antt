@@ -212,13 +212,13 @@ module _ (x : ℤ) where
     };
     caught = (
       _,
-      (_, tt, refl, (_, tt, refl, (_, tt, refl, (_, (((tt, refl), tt), tt), refl, (_, ((holds, holds_type), tt), refl, (_, (((tt, refl), tt), tt), refl, (_, (refl, tt), refl, refl))))))),
+      (_, tt, refl, (_, tt, refl, (_, tt, refl, (_, (((tt, refl), tt), tt), refl, (_, (holds, (holds_type, tt)), refl, (_, (((tt, refl), tt), tt), refl, (_, (refl, tt), refl, refl))))))),
       tt,
       refl,
     );
     thrown_out = (
       _,
-      (_, (((tt, refl), tt), tt), refl, (_, ((holds, holds_type), tt), refl, (_, (((tt, refl), tt), tt), refl, refl))),
+      (_, (((tt, refl), tt), tt), refl, (_, (holds, (holds_type, tt)), refl, (_, (((tt, refl), tt), tt), refl, refl))),
       tt,
       refl,
     );

@@ -223,7 +223,7 @@ module _ (x : ℤ) where
             refl,
             (
               _,
-              ((holds 0 (record { type = binary; body = None }) refl refl, holds_type 0 (record { type = binary; body = None }) refl refl), (((tt, refl), tt), tt)),
+              (holds 0 (record { type = binary; body = None }) refl refl, (holds_type 0 (record { type = binary; body = None }) refl refl, (((tt, refl), tt), tt))),
               refl,
               refl,
             ),
@@ -249,7 +249,7 @@ module _ (x : ℤ) where
             refl,
             (
               _,
-              ((holds 1 (made (adding x)) refl refl, holds_type 1 (made (adding x)) refl refl), tt),
+              (holds 1 (made (adding x)) refl refl, (holds_type 1 (made (adding x)) refl refl, tt)),
               refl,
               (_, tt, refl, (_, tt, refl, (_, (((tt, refl), tt), tt), refl, (_, tt, refl, refl)))),
             ),

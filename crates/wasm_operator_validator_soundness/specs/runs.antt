@@ -1,6 +1,7 @@
 -- Rules: how modules run, and that they are never stuck, in the order in which they are read.
 pub mod Values
 pub mod States
+pub mod Names
 pub mod Machine
 pub mod ValidStates
 pub mod Soundness

@@ -10,13 +10,14 @@ use Rattle.wasm_sections_items.specs.segments.Spells as data_mode
 use Rattle.wasm_sections_items.specs.segments.Tables.{TableTree}
 use Rattle.wasm_sections_items.specs.elements.Spells.{ElementTree, ElementMode, ElementItems, passive, active, declared, functions, expressions}
 use Rattle.wasm_operator_validator_rules.specs.Operands.{ValueType}
-use Rattle.wasm_operator_validator_rules.specs.Context.{Table, Global, address_type}
+use Rattle.wasm_operator_validator_rules.specs.Context.{Table, Global}
 use Rattle.wasm_operators_encoding.specs.expressions.Code.{Code as Expression}
 use Rattle.wasm_module_validator_rules.specs.Syntax.{ModuleTree}
 use Rattle.wasm_module_validator_rules.specs.Spaces.{imported_globals, value_in, element_type, module_of}
 use Rattle.wasm_module_validator_rules.specs.Valid.{Each, table_index}
 use Rattle.wasm_operator_validator_soundness.specs.runs.Values.{Function, Program, Value, ref_function, Fits, default_of}
-use Rattle.wasm_operator_validator_soundness.specs.runs.Soundness.{IsNeverStuck, evaluated}
+use Rattle.wasm_operator_validator_soundness.specs.runs.Machine.{address}
+use Rattle.wasm_operator_validator_soundness.specs.runs.Soundness.{IsNeverStuck, StaysValid, evaluated}
 use Rattle.wasm_module_validator.specs.soundness.Modules.{types_in, program_of}
 
 -- the module as a constant sees it: with these globals, and with functions that may be referred to alone
@@ -30,9 +31,9 @@ seen_with p globals = record {
   functions = map without_body p.functions;
 }
 
--- It is never stuck, whatever is answered, and the value that it gives is of this type.
+-- It is never stuck, whatever is answered; the value that it gives is of this type, and on the way each fits what the rules know of it.
 abbrev pub Gives : Program → ValueType → Expression → Type 0
-Gives p v c = IsNeverStuck p (v ∷ []) (evaluated v c)
+Gives p v c = IsNeverStuck p (v ∷ []) (evaluated v c) × StaysValid p (v ∷ []) (evaluated v c)
 
 module _ (z : Settings) (m : ModuleTree) (hosts : List TypeTree) where
   -- with the first so many globals, and with all
@@ -70,7 +71,7 @@ module _ (z : Settings) (m : ModuleTree) (hosts : List TypeTree) where
   PlaceFits t passive = Unit {0}
   PlaceFits t declared = Unit {0}
   PlaceFits t (active x c) = (u : Table) × (slice_get (module_of m).tables (table_index x) ≡ Some u)
-      × ((p : Program) (v : Value) → Fits p v t → Fits p v u.element) × Gives all_seen (address_type u.table64) c
+      × ((p : Program) (v : Value) → Fits p v t → Fits p v u.element) × Gives all_seen (address u.table64) c
 
   abbrev pub ElementFits : ElementTree Expression → Type 0
   ElementFits x = ItemsFit (element_type (types_in m) x.items) x.items
@@ -79,7 +80,7 @@ module _ (z : Settings) (m : ModuleTree) (hosts : List TypeTree) where
   abbrev pub DataFits : DataMode Expression → Type 0
   DataFits data_mode.passive = Unit {0}
   DataFits (data_mode.active x c) = (u : MemoryType) × (slice_get (module_of m).memories x ≡ Some u)
-      × Gives all_seen (address_type u.memory64) c
+      × Gives all_seen (address u.memory64) c
 
   pub record EachConstantFits : Type 0 where
     -- what fits in the place of a constant fits in the whole module

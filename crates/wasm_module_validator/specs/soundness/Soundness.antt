@@ -1,22 +1,33 @@
 -- That a valid module runs soundly (WebAssembly 3.0, appendix, soundness), and so does each module that bytes spell and that is accepted.
-use Rattle.std.specs.Prelude.{ℕ, List}
+use Rattle.std.specs.Prelude.{◌≡◌, ℕ, List, [], Some, slice_get}
 use Rattle.wasm_types.specs.settings.Settings.{Settings}
 use Rattle.wasm_types.specs.trees.Trees.{TypeTree}
 use Rattle.wasm_operator_validator_rules.specs.Operands.{ValueType}
 use Rattle.wasm_module_validator_rules.specs.Syntax.{ModuleTree}
-use Rattle.wasm_module_validator_rules.specs.Valid.{IsValid}
-use Rattle.wasm_module_validator_rules.specs.Accepts.{Judges, AcceptsUnder}
-use Rattle.wasm_operator_validator_soundness.specs.runs.Values.{IsStandard}
+use Rattle.wasm_module_validator_rules.specs.Binary.{SpelledModule}
+use Rattle.wasm_module_validator_rules.specs.Valid.{IfThere, IsValid}
+use Rattle.wasm_module_validator_rules.specs.Accepts.{AcceptsUnder}
+use Rattle.wasm_operator_validator_soundness.specs.runs.Values.{Function, Program, IsStandard}
 use Rattle.wasm_operator_validator_soundness.specs.runs.States.{State}
-use Rattle.wasm_operator_validator_soundness.specs.runs.Soundness.{IsStarted, IsNeverStuck}
+use Rattle.wasm_operator_validator_rules.specs.Context.{IsFunctionType}
+use Rattle.wasm_operator_validator_soundness.specs.runs.Soundness.{IsStarted, IsNeverStuck, StaysValid}
 use Rattle.wasm_module_validator.specs.soundness.Modules.{program_of, AreHosts}
 use Rattle.wasm_module_validator.specs.soundness.Constants.{EachConstantFits}
 
+-- a function that takes and gives nothing, by its own type
+abbrev pub MayStart : Program → ℕ → Type 0
+MayStart p x = (f : Function) × (slice_get p.functions x ≡ Some f)
+    × IsFunctionType f.type (record { params = []; results = [] })
+
 -- Whatever function of the module is started, with arguments that fit its parameters, and whatever is answered, it is never stuck; what
--- it returns or throws fits. Each constant gives what fits its place.
+-- it returns or throws fits, and at each place on the way each value fits what the rules know of it there. The function that starts the
+-- module takes and gives nothing. Each constant gives what fits its place.
 pub record RunsFrom (z : Settings) (m : ModuleTree) (hosts : List TypeTree) : Type 0 where
   pub functions : (s : State) (results : List ValueType) → IsStarted (program_of z m hosts) s results
       → IsNeverStuck (program_of z m hosts) results s
+  pub states : (s : State) (results : List ValueType) → IsStarted (program_of z m hosts) s results
+      → StaysValid (program_of z m hosts) results s
+  pub start : IfThere (MayStart (program_of z m hosts)) m.start
   pub constants : EachConstantFits z m hosts
 
 -- so it is whatever the host gives for the functions that are imported
@@ -27,11 +38,11 @@ ModuleRunsSoundly z m = (hosts : List TypeTree) → AreHosts m hosts → RunsFro
 abbrev pub ModulesAreSound : Type 0
 ModulesAreSound = (z : Settings) (m : ModuleTree) → IsStandard z.features → IsValid z m → ModuleRunsSoundly z m
 
--- The bytes spell a valid module, and under the features of the standard it runs soundly.
+-- The bytes spell a module, and whatever module they spell is valid and, under the features of the standard, runs soundly.
 pub record RunsSoundly (z : Settings) (bytes : List ℕ) : Type 0 where
-  pub tree : ModuleTree
-  pub judged : Judges z bytes tree
-  pub runs : IsStandard z.features → ModuleRunsSoundly z tree
+  pub accepted : AcceptsUnder z bytes
+  pub valid : (m : ModuleTree) → SpelledModule z m bytes → IsValid z m
+  pub runs : (m : ModuleTree) → SpelledModule z m bytes → IsStandard z.features → ModuleRunsSoundly z m
 
 -- What is accepted runs soundly.
 abbrev pub AcceptedIsSound : Type 0

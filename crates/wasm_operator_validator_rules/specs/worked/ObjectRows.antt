@@ -31,6 +31,8 @@ pub record GcRowsWorked : Type 0 where
   pub copy_up : HasNo (GcRow here (gc.ArrayCopy 12 6))
   pub copy_immutable : HasNo (GcRow here (gc.ArrayCopy 7 7))
   pub copy_packed : HasNo (GcRow here (gc.ArrayCopy 4 5))
+  pub copy_bytes_as_halves : HasNo (GcRow here (gc.ArrayCopy 14 5))
+  pub copy_bytes_as_words : HasNo (GcRow here (gc.ArrayCopy 15 5))
   pub init_elem : GcRow here (gc.ArrayInitElem 6 0) (known (null_to cells) ∷ i32_known ∷ i32_known ∷ i32_known ∷ []) []
   pub init_elem_other : HasNo (GcRow here (gc.ArrayInitElem 12 0))
   pub init_elem_immutable : HasNo (GcRow here (gc.ArrayInitElem 7 1))

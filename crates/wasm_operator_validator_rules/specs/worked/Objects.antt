@@ -1,7 +1,7 @@
 -- Operators on structs, arrays and references: the types and contexts that their worked rows speak of.
 use Rattle.std.specs.Prelude.{◌-◌, true, false, List, [], ◌∷◌, Some, None}
 use Rattle.wasm_types.specs.settings.Features.{mask, CustomDescriptors}
-use Rattle.wasm_types.specs.trees.Types.{i32, i64, number, i8, FieldOf, EntryOf, function, array_of, struct_of, continuation}
+use Rattle.wasm_types.specs.trees.Types.{i32, i64, number, i8, i16, FieldOf, EntryOf, function, array_of, struct_of, continuation}
 use Rattle.wasm_types.specs.trees.Trees.{RefTree, local, GroupTree, TypeTree, group_tree}
 use Rattle.wasm_types.specs.trees.worked.Types.{alone, declared_entry, constant, variable}
 use Rattle.wasm_operator_validator_rules.specs.Operands.{ValueType}
@@ -62,13 +62,21 @@ full_cells = alone (declared_entry None false (array_of (variable (to cell))))
 abbrev pub constants : TypeTree
 constants = alone (declared_entry None false (array_of (constant (number i32))))
 
+-- arrays of 16 bits and of 32
+abbrev pub halves : TypeTree
+halves = alone (declared_entry None false (array_of (record { storage = i16; mutable = true })))
+
+abbrev pub words : TypeTree
+words = alone (declared_entry None false (array_of (variable (number i32))))
+
 -- ---- contexts
 
 -- a module with these types, and with element segments of narrow and of wide cells
 abbrev pub with_objects : Module
 with_objects = record some_module {
   types =
-      widening ∷ cell ∷ wide_cell ∷ node ∷ numbers ∷ bytes ∷ cells ∷ wide_cells ∷ described ∷ describing ∷ started ∷ misplaced ∷ full_cells ∷ constants ∷ [];
+      widening ∷ cell ∷ wide_cell ∷ node ∷ numbers ∷ bytes ∷ cells ∷ wide_cells ∷ described ∷ describing ∷ started ∷ misplaced ∷ full_cells ∷ constants
+      ∷ halves ∷ words ∷ [];
   elements = null_to cell ∷ null_to wide_cell ∷ [];
 }
 

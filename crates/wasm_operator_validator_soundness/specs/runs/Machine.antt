@@ -1,9 +1,9 @@
 -- How a module runs (WebAssembly 3.0, execution), over all activations at once. Whatever the standard computes from bits, memories
 -- or contents is an answer that comes from outside, and has to fit the type that it is said to have. Each operator says which
--- values it takes, which answers fit, and what comes of it; numbers, vectors, constants, memories, atomic accesses and segments that
--- are dropped have one rule, by the table of instruction types.
+-- values it takes, which answers fit, and what comes of it. Operators on numbers, constants and accesses to memories say it by their names
+-- (`Names`). Of the rules' tables none is used.
 use Rattle.std.specs.Prelude.{All, flat_map, ◌≡◌, ◌<◌, ℕ, zero, suc, Bool, true, false, IsTrue, not, ◌&&◌, List, [], ◌∷◌, ◌++◌, length, map, reverse, take, drop, replicate, get_or, Option, Some, None, option_map, slice_get, slice_set, if◌then◌else◌}
-use Rattle.wasm_types.specs.trees.Types.{number, StorageOf, i8, i16, value, i32, Abstract, extern, any, none, eq, array, i31, exn, HeapOf, abstract, concrete, ref, exact, ValueOf}
+use Rattle.wasm_types.specs.trees.Types.{number, StorageOf, i8, i16, value, i32, i64, Abstract, extern, any, none, eq, array, i31, exn, HeapOf, abstract, concrete, ref, exact, ValueOf}
 use Rattle.wasm_types.specs.trees.Types.{FieldOf, InnerOf, array_of, struct_of}
 use Rattle.wasm_types.specs.trees.Trees.{TypeTree}
 use Rattle.wasm_types.specs.trees.Below.{expanded, is_shared}
@@ -14,6 +14,7 @@ use Rattle.wasm_types.specs.values.declared.heap.HeapType.{HeapType}
 use Rattle.wasm_types.specs.values.declared.value.ValType.{ValType}
 use Rattle.wasm_types.specs.values.Trees.{heap_of}
 use Rattle.wasm_types.specs.values.Values.{value_of}
+use Rattle.wasm_types.specs.externs.declared.memory.MemoryType.{MemoryType}
 use Rattle.wasm_operators_immediates.specs.declared.block.BlockType.{BlockType}
 use Rattle.wasm_operators_immediates.specs.declared.block.BlockType.TheVariants as block
 use Rattle.wasm_operators_immediates.specs.declared.handlers.Catch.{Catch}
@@ -24,17 +25,23 @@ use Rattle.wasm_operators_enums.specs.declared.memory.MemoryOperator.{MemoryOper
 use Rattle.wasm_operators_enums.specs.declared.memory.MemoryOperator.TheVariants as memory
 use Rattle.wasm_operators_enums.specs.declared.bulk.BulkOperator.{BulkOperator}
 use Rattle.wasm_operators_enums.specs.declared.bulk.BulkOperator.TheVariants as bulk
+use Rattle.wasm_operators_enums.specs.declared.atomic.AtomicOperator.{AtomicOperator}
+use Rattle.wasm_operators_enums.specs.declared.atomic.AtomicOperator.TheVariants as atomic
 use Rattle.wasm_operators_enums.specs.declared.gc.GcOperator.{GcOperator}
 use Rattle.wasm_operators_enums.specs.declared.gc.GcOperator.TheVariants as gc
+use Rattle.wasm_operators_enums.specs.Table.{info_of}
+use Rattle.wasm_operators_enums.specs.Immediates.{immediates_of}
 use Rattle.wasm_operators_enums.specs.Op as op
 use Rattle.wasm_operators_enums.specs.Op.{Op, ParametricTree, ExceptionTree}
 use Rattle.wasm_operators_encoding.specs.expressions.Code.{Code, close, plain, nested, turn}
 use Rattle.wasm_operator_validator_rules.specs.Operands.{ValueType, known, stack}
-use Rattle.wasm_operator_validator_rules.specs.Context.{Context, Module, Table, Global, Signature, address_type}
+use Rattle.wasm_operator_validator_rules.specs.Context.{Module, Table, Global, Signature}
 use Rattle.wasm_operator_validator_rules.specs.Named.{as_function}
-use Rattle.wasm_operator_validator_rules.specs.InstructionTypes.{instruction_type, i32_type, shorter}
-use Rattle.wasm_operator_validator_soundness.specs.runs.Values.{Body, Function, Program, Value, number_value, ref_null, ref_function, ref_object, ref_exn, least_type, is_null, IsNumberValue, IsAReference, IsMade, IsAkin, Fits, AllFit, EachFits, null_of, default_of}
-use Rattle.wasm_operator_validator_soundness.specs.runs.States.{Continuation, behind, again, Handlers, no_handlers, table, clauses, Label, Activation, branch_type, is_clause, Answer}
+use Rattle.wasm_operator_validator_rules.specs.InstructionTypes.{i32_type}
+use Rattle.wasm_operator_validator_rules.specs.Numbers.{numbers}
+use Rattle.wasm_operator_validator_soundness.specs.runs.Values.{Body, Function, Program, Value, number_value, ref_null, ref_function, ref_object, ref_i31, ref_exn, least_type, is_null, IsNumberValue, IsAReference, IsMade, IsAkin, Fits, AllFit, EachFits, null_of, default_of}
+use Rattle.wasm_operator_validator_soundness.specs.runs.Names.{computed, accessed, argument_of}
+use Rattle.wasm_operator_validator_soundness.specs.runs.States.{Continuation, behind, again, Handlers, no_handlers, table, clauses, Label, Activation, branch_type, Answer}
 use Rattle.wasm_operator_validator_soundness.specs.runs.States.{next, returned, trapped, thrown, Move, done, stop, refused, asks, allows, choose, found, pops}
 
 -- ---- what the code means in a module
@@ -123,14 +130,29 @@ operand_of (value t) = t
 abbrev pub operands_of : List (FieldOf TypeTree) → List ValueType
 operands_of fs = map (λ (f : FieldOf TypeTree). operand_of f.storage) fs
 
--- those of a struct, if it is one, and those of an array
-abbrev pub struct_operands : InnerOf TypeTree → Option (List ValueType)
-struct_operands (struct_of fs) = Some (operands_of fs)
-struct_operands _ = None
+-- the fields of a struct, if it is one, and that of an array
+abbrev pub struct_fields : InnerOf TypeTree → Option (List (FieldOf TypeTree))
+struct_fields (struct_of fs) = Some fs
+struct_fields _ = None
 
-abbrev pub array_operands : InnerOf TypeTree → Option (List ValueType)
-array_operands (array_of f) = Some (operands_of (f ∷ []))
-array_operands _ = None
+abbrev pub array_fields : InnerOf TypeTree → Option (List (FieldOf TypeTree))
+array_fields (array_of f) = Some (f ∷ [])
+array_fields _ = None
+
+-- the bits in which it is packed, if it is; whether a read gives it as it is, or extends it; and whether a copy needs no conversion
+abbrev pub packed_in : StorageOf TypeTree → Option ℕ
+packed_in i8 = Some 8
+packed_in i16 = Some 16
+packed_in (value t) = None
+
+abbrev pub IsWhole : StorageOf TypeTree → Type 0
+IsWhole s = packed_in s ≡ None
+
+abbrev pub IsPacked : StorageOf TypeTree → Type 0
+IsPacked s = (bits : ℕ) × (packed_in s ≡ Some bits)
+
+abbrev pub AreStoredAlike : StorageOf TypeTree → StorageOf TypeTree → Type 0
+AreStoredAlike s t = packed_in s ≡ packed_in t
 
 -- there is a default; bytes can be read as it
 abbrev pub HasDefault : ValueType → Type 0
@@ -139,6 +161,41 @@ HasDefault t = (v : Value) × (default_of t ≡ Some v)
 abbrev pub IsOfBytes : ValueType → Type 0
 IsOfBytes (number n) = Unit {0}
 IsOfBytes (ref n h) = ⊥
+
+abbrev pub HaveDefaults : List (FieldOf TypeTree) → Type 0
+HaveDefaults fs = All HasDefault (operands_of fs)
+
+-- a field is written, where it may be
+abbrev pub writes : FieldOf TypeTree → Move → Move
+writes f m = asks (IsTrue f.mutable) m
+
+-- null, or a function
+abbrev pub IsCallable : Value → Type 0
+IsCallable (ref_null s h) = Unit {0}
+IsCallable (ref_function i t) = Unit {0}
+IsCallable v = ⊥
+
+-- what operators on abstract types find, if it is not null: an array, an unboxed scalar, and what can be compared
+abbrev pub IsArray : Value → Type 0
+IsArray (ref_null s h) = Unit {0}
+IsArray (ref_object t) = (f : FieldOf TypeTree) × (expanded t ≡ array_of f)
+IsArray v = ⊥
+
+abbrev pub IsUnboxed : Value → Type 0
+IsUnboxed (ref_null s h) = Unit {0}
+IsUnboxed ref_i31 = Unit {0}
+IsUnboxed v = ⊥
+
+abbrev pub IsComparable : Value → Type 0
+IsComparable (ref_null s h) = Unit {0}
+IsComparable (ref_object t) = Unit {0}
+IsComparable ref_i31 = Unit {0}
+IsComparable v = ⊥
+
+-- the address of a memory, and the index of a table, of 64 bits or of 32; a length for two of them is of the shorter
+abbrev pub address : Bool → ValueType
+address true = number i64
+address false = number i32
 
 -- the data count section, if there is one, names the data segment
 abbrev pub IsData : Option ℕ → ℕ → Type 0
@@ -214,6 +271,13 @@ module _ (p : Program) (a : Answer) where
 
   abbrev pub tag_there : ℕ → (TypeTree → Move) → Move
   tag_there x f = found (slice_get p.«module».tags x) f
+
+  abbrev pub memory_there : ℕ → (MemoryType → Move) → Move
+  memory_there x f = found (slice_get p.«module».memories x) f
+
+  -- a data segment, by the data count section
+  abbrev pub data_there : ℕ → Move → Move
+  data_there d m = asks (IsData p.«module».data_count d) m
 
   -- an element segment, by its type
   abbrev pub segment_there : ℕ → (ValueType → Move) → Move
@@ -338,18 +402,6 @@ module _ (p : Program) (a : Answer) where
     abbrev pub label_at : ℕ → Option (List ValueType)
     label_at n = slice_get (map branch_type labels) n
 
-    -- what the rules know at its innermost instructions
-    abbrev pub here : Context
-    here = record {
-      bits = p.bits;
-      «module» = p.«module»;
-      locals = act.types;
-      labels = map branch_type labels;
-      catches = map is_clause labels;
-      results = act.results;
-      shared = act.shared;
-    }
-
     -- it goes on with these values and these instructions
     abbrev pub going : List Value → Code → Activation
     going ws more = record act { innermost = record act.innermost { values = ws; code = more } }
@@ -361,10 +413,14 @@ module _ (p : Program) (a : Answer) where
     abbrev pub exchange : List ValueType → List ValueType → Code → Move
     exchange ts us more = takes ts vs (λ xs ws. may_trap (gives us (λ rs. goes (rs ++ ws) more)))
 
-    -- an operator of the table of instruction types: numbers, vectors, constants, memories, atomic accesses, segments that are
-    -- dropped
-    abbrev pub by_table : Op → Code → Move
-    by_table o more = found (instruction_type here o) (λ t. exchange t.takes t.gives more)
+    -- an operator on numbers or a constant, and an access to a memory above an address, by their names
+    abbrev pub compute : Op → Code → Move
+    compute o more = found (computed (info_of o).name) (λ n. exchange (numbers n.takes) (numbers n.gives) more)
+
+    abbrev pub access : Op → Code → Move
+    access o more = found (argument_of (immediates_of o)) (λ i. memory_there i.memory (λ t.
+        found (accessed (info_of o).name)
+        (λ n. exchange (address t.memory64 ∷ numbers n.takes) (numbers n.gives) more)))
 
     -- ---- blocks and branches (execution, control instructions)
 
@@ -414,11 +470,12 @@ module _ (p : Program) (a : Answer) where
     call_reference tail x more = type_there x
         (λ t. pops vs (λ v ws. asks (Fits p v (ref true (concrete t))) (invoke tail v ws more)))
 
-    -- through a table: the answer says what it holds there, which passes the test of its type; or the call traps
+    -- Through a table: the answer says what it holds there, which has to be null or a function, and whether that passes the test of its
+    -- type; if not, or where the index is out of bounds, the call traps.
     abbrev pub call_indirect : Bool → ℕ → ℕ → Code → Move
-    call_indirect tail y x more = table_there x (λ t. type_there y (λ u. takes (address_type t.table64 ∷ []) vs (λ c ws.
-        may_trap (allows (Fits p a.held t.element × Fits p a.held (ref false (concrete u)))
-        (invoke tail a.held ws more)))))
+    call_indirect tail y x more = table_there x (λ t. type_there y (λ u. takes (address t.table64 ∷ []) vs (λ c ws.
+        may_trap (allows (Fits p a.held t.element) (asks (IsCallable a.held) (choose a.condition
+        (allows (Fits p a.held (ref false (concrete u))) (invoke tail a.held ws more)) (done trapped)))))))
 
     abbrev pub operate_control : ControlOperator → Code → Move
     operate_control control.Unreachable more = done trapped
@@ -490,66 +547,91 @@ module _ (p : Program) (a : Answer) where
     operate_memory (memory.GlobalGet x) more = global_there x (λ t. exchange [] (t.content ∷ []) more)
     operate_memory (memory.GlobalSet x) more = global_there x
         (λ t. asks (IsTrue t.mutable) (exchange (t.content ∷ []) [] more))
-    operate_memory o more = by_table (op.Memory o) more
+    operate_memory (memory.MemorySize x) more = memory_there x (λ t. exchange [] (address t.memory64 ∷ []) more)
+    operate_memory (memory.MemoryGrow x) more = memory_there x
+        (λ t. exchange (address t.memory64 ∷ []) (address t.memory64 ∷ []) more)
+    operate_memory o more = access (op.Memory o) more
 
-    -- ---- references and tables
+    -- ---- references, and ranges of tables and memories
 
     abbrev pub operate_bulk : BulkOperator → Code → Move
     operate_bulk (bulk.RefNull h) more = found (meant_heap p.«module» h) (λ k. goes (null_of k ∷ vs) more)
     operate_bulk bulk.RefIsNull more = pops vs (λ v ws. asks (IsAReference v) (goes (number_value i32 ∷ ws) more))
     operate_bulk (bulk.RefFunc x) more = function_there x (λ f. goes (ref_function (Some x) f.type ∷ vs) more)
     operate_bulk (bulk.TableInit e x) more = segment_there e (λ s. table_there x (λ t.
-        takes (address_type t.table64 ∷ i32_type ∷ i32_type ∷ []) vs
+        takes (address t.table64 ∷ i32_type ∷ i32_type ∷ []) vs
         (λ us ws. may_trap (copies s t.element (goes ws more)))))
     operate_bulk (bulk.TableCopy x y) more = table_there x (λ t. table_there y (λ s.
-        takes (address_type t.table64 ∷ address_type s.table64 ∷ shorter t.table64 s.table64 ∷ []) vs
+        takes (address t.table64 ∷ address s.table64 ∷ address (t.table64 && s.table64) ∷ []) vs
         (λ us ws. may_trap (copies s.element t.element (goes ws more)))))
     operate_bulk (bulk.TableGet x) more = table_there x
-        (λ t. exchange (address_type t.table64 ∷ []) (t.element ∷ []) more)
+        (λ t. exchange (address t.table64 ∷ []) (t.element ∷ []) more)
     operate_bulk (bulk.TableSet x) more = table_there x
-        (λ t. exchange (address_type t.table64 ∷ t.element ∷ []) [] more)
+        (λ t. exchange (address t.table64 ∷ t.element ∷ []) [] more)
     operate_bulk (bulk.TableGrow x) more = table_there x
-        (λ t. exchange (t.element ∷ address_type t.table64 ∷ []) (address_type t.table64 ∷ []) more)
-    operate_bulk (bulk.TableSize x) more = table_there x (λ t. exchange [] (address_type t.table64 ∷ []) more)
+        (λ t. exchange (t.element ∷ address t.table64 ∷ []) (address t.table64 ∷ []) more)
+    operate_bulk (bulk.TableSize x) more = table_there x (λ t. exchange [] (address t.table64 ∷ []) more)
     operate_bulk (bulk.TableFill x) more = table_there x
-        (λ t. exchange (address_type t.table64 ∷ t.element ∷ address_type t.table64 ∷ []) [] more)
-    operate_bulk o more = by_table (op.Bulk o) more
+        (λ t. exchange (address t.table64 ∷ t.element ∷ address t.table64 ∷ []) [] more)
+    operate_bulk (bulk.ElemDrop e) more = segment_there e (λ s. goes vs more)
+    operate_bulk (bulk.DataDrop d) more = data_there d (goes vs more)
+    operate_bulk (bulk.MemoryInit d x) more = memory_there x
+        (λ t. data_there d (exchange (address t.memory64 ∷ i32_type ∷ i32_type ∷ []) [] more))
+    operate_bulk (bulk.MemoryCopy x y) more = memory_there x (λ t. memory_there y (λ s.
+        exchange (address t.memory64 ∷ address s.memory64 ∷ address (t.memory64 && s.memory64) ∷ []) [] more))
+    operate_bulk (bulk.MemoryFill x) more = memory_there x
+        (λ t. exchange (address t.memory64 ∷ i32_type ∷ address t.memory64 ∷ []) [] more)
+    operate_bulk (bulk.MemoryDiscard x) more = memory_there x
+        (λ t. exchange (address t.memory64 ∷ address t.memory64 ∷ []) [] more)
+
+    -- ---- atomic accesses
+
+    abbrev pub operate_atomic : AtomicOperator → Code → Move
+    operate_atomic atomic.AtomicFence more = goes vs more
+    operate_atomic o more = access (op.Atomic o) more
 
     -- ---- objects and casts (execution, aggregate instructions)
 
     -- what a struct or an array holds
     abbrev pub Holding : Type 0
-    Holding = InnerOf TypeTree → Option (List ValueType)
+    Holding = InnerOf TypeTree → Option (List (FieldOf TypeTree))
 
     -- an object by what it was made to hold; a null traps
-    abbrev pub object : Holding → Value → (List ValueType → Move) → Move
+    abbrev pub object : Holding → Value → (List (FieldOf TypeTree) → Move) → Move
     object of (ref_object t) f = found (of (expanded t)) f
     object of (ref_null s h) f = done trapped
     object of v f = stop
 
     -- an object of the type with this index, a struct or an array, above which there are numbers
-    abbrev pub object_under : Holding → List ValueType → ℕ → List Value → (List ValueType → List Value → Move) → Move
+    abbrev pub object_under : Holding → List ValueType → ℕ → List Value
+        → (List (FieldOf TypeTree) → List Value → Move) → Move
     object_under of ns x ws f = type_there x (λ t. found (of (expanded t)) (λ own.
-        takes (ref true (concrete t) ∷ ns) ws (λ us rest. may_trap (object of (last_of us) (λ ts. f ts rest)))))
+        takes (ref true (concrete t) ∷ ns) ws (λ us rest. may_trap (object of (last_of us) (λ fs. f fs rest)))))
 
-    -- a field is read, and is written
-    abbrev pub read : Holding → List ValueType → ℕ → ℕ → Code → Move
-    read of ns x i more = object_under of ns x vs
-        (λ ts ws. found (slice_get ts i) (λ t. gives (t ∷ []) (λ rs. goes (rs ++ ws) more)))
+    -- a field of the object's own type is read, where it is stored as the operator says, and is written
+    abbrev pub read : (StorageOf TypeTree → Type 0) → Holding → List ValueType → ℕ → ℕ → Code → Move
+    read stored of ns x i more = object_under of ns x vs (λ fs ws. found (slice_get fs i) (λ f.
+        asks (stored f.storage) (gives (operand_of f.storage ∷ []) (λ rs. goes (rs ++ ws) more))))
 
     abbrev pub write : Holding → List ValueType → ℕ → ℕ → Value → List Value → Code → Move
-    write of ns x i v us more = object_under of ns x us
-        (λ ts ws. found (slice_get ts i) (λ t. asks (Fits p v t) (goes ws more)))
+    write of ns x i v us more = object_under of ns x us (λ fs ws. found (slice_get fs i) (λ f.
+        writes f (asks (Fits p v (operand_of f.storage)) (goes ws more))))
 
     -- An object is made with the type with this index, of these values, or of the defaults of its fields. What else a new array is
     -- made of are numbers of a data segment, or the answer's elements of an element segment.
-    abbrev pub make : Holding → ℕ → (List ValueType → List ValueType) → (List ValueType → Move → Move) → Code → Move
-    make of x takes_for further more = type_there x (λ t. found (of (expanded t)) (λ ts.
-        takes (takes_for ts) vs (λ us ws. further ts (goes (ref_object t ∷ ws) more))))
+    abbrev pub make : Holding → ℕ → (List (FieldOf TypeTree) → List ValueType)
+        → (List (FieldOf TypeTree) → Move → Move) → Code → Move
+    make of x takes_for further more = type_there x (λ t. found (of (expanded t)) (λ fs.
+        takes (takes_for fs) vs (λ us ws. further fs (goes (ref_object t ∷ ws) more))))
 
     -- bytes of a data segment are read as what is held
-    abbrev pub FromData : ℕ → List ValueType → Type 0
-    FromData d ts = All IsOfBytes ts × IsData p.«module».data_count d
+    abbrev pub FromData : ℕ → List (FieldOf TypeTree) → Type 0
+    FromData d fs = All IsOfBytes (operands_of fs) × IsData p.«module».data_count d
+
+    -- elements of a segment are stored in an array
+    abbrev pub stores_from : ℕ → List (FieldOf TypeTree) → (FieldOf TypeTree → Move → Move) → Move → Move
+    stores_from e fs may m = segment_there e
+        (λ s. found (slice_get fs 0) (λ f. may f (copies s (operand_of f.storage) m)))
 
     -- A cast to a type: a null passes exactly if that may be null, another value if the answer says so, which it may if the
     -- value is of that type.
@@ -562,17 +644,20 @@ module _ (p : Program) (a : Answer) where
     cast_top n h f = found (meant_heap p.«module» h)
         (λ k. pops vs (λ v ws. asks (IsMade p v × IsAkin (least_type v) k) (cast n k v (λ b. f b v ws))))
 
+    -- between two types of one hierarchy
     abbrev pub cast_from : Reference → Reference → (Bool → Value → List Value → Move) → Move
     cast_from from to f = found (meant_heap p.«module» from.heap) (λ h. found (meant_heap p.«module» to.heap) (λ k.
-        pops vs (λ v ws. asks (Fits p v (ref from.nullable h)) (cast to.nullable k v (λ b. f b v ws)))))
+        pops vs (λ v ws. asks (Fits p v (ref from.nullable h) × IsAkin (ref from.nullable h) k)
+        (cast to.nullable k v (λ b. f b v ws)))))
 
-    -- a value below an abstract type, of which a number is made; or a value of another hierarchy, as shared, and a null exactly for a
+    -- a value below an abstract type, of which a number is made, and which is such a one; or a value of another hierarchy, as shared, and a null exactly for a
     -- null
     abbrev pub IsOf : Abstract → Value → Type 0
     IsOf h v = (s : Bool) × Fits p v (ref true (abstract s h))
 
-    abbrev pub number_from : Abstract → Code → Move
-    number_from h more = pops vs (λ v ws. asks (IsOf h v) (may_trap (goes (number_value i32 ∷ ws) more)))
+    abbrev pub number_from : Abstract → (Value → Type 0) → Code → Move
+    number_from h is more = pops vs
+        (λ v ws. asks (IsOf h v × is v) (may_trap (goes (number_value i32 ∷ ws) more)))
 
     abbrev pub null_in : Abstract → Value → Value
     null_in h (ref_null s k) = ref_null s h
@@ -585,37 +670,39 @@ module _ (p : Program) (a : Answer) where
 
     abbrev pub operate_gc : GcOperator → Code → Move
     operate_gc gc.RefEq more = pops vs (λ v ws. pops ws
-        (λ w us. asks (IsOf eq v × IsOf eq w) (goes (number_value i32 ∷ us) more)))
-    operate_gc (gc.StructNew x) more = make struct_operands x (λ ts. ts) (λ ts m. m) more
-    operate_gc (gc.StructNewDefault x) more = make struct_operands x (λ ts. [])
-        (λ ts m. asks (All HasDefault ts) m) more
-    operate_gc (gc.StructGet x i) more = read struct_operands [] x i more
-    operate_gc (gc.StructGetS x i) more = read struct_operands [] x i more
-    operate_gc (gc.StructGetU x i) more = read struct_operands [] x i more
-    operate_gc (gc.StructSet x i) more = pops vs (λ v ws. write struct_operands [] x i v ws more)
-    operate_gc (gc.ArrayNew x) more = make array_operands x (λ ts. ts ++ i32_type ∷ []) (λ ts m. m) more
-    operate_gc (gc.ArrayNewDefault x) more = make array_operands x (λ ts. i32_type ∷ [])
-        (λ ts m. asks (All HasDefault ts) m) more
-    operate_gc (gc.ArrayNewFixed x n) more = make array_operands x
-        (λ ts. flat_map (λ (u : ValueType). replicate n u) ts) (λ ts m. m) more
-    operate_gc (gc.ArrayNewData x d) more = make array_operands x (λ ts. i32_type ∷ i32_type ∷ [])
-        (λ ts m. asks (FromData d ts) (may_trap m)) more
-    operate_gc (gc.ArrayNewElem x e) more = make array_operands x (λ ts. i32_type ∷ i32_type ∷ [])
-        (λ ts m. may_trap (segment_there e (λ s. found (slice_get ts 0) (λ u. copies s u m)))) more
-    operate_gc (gc.ArrayGet x) more = read array_operands (i32_type ∷ []) x 0 more
-    operate_gc (gc.ArrayGetS x) more = read array_operands (i32_type ∷ []) x 0 more
-    operate_gc (gc.ArrayGetU x) more = read array_operands (i32_type ∷ []) x 0 more
-    operate_gc (gc.ArraySet x) more = pops vs (λ v ws. write array_operands (i32_type ∷ []) x 0 v ws more)
-    operate_gc gc.ArrayLen more = number_from array more
+        (λ w us. asks ((IsOf eq v × IsComparable v) × (IsOf eq w × IsComparable w))
+        (goes (number_value i32 ∷ us) more)))
+    operate_gc (gc.StructNew x) more = make struct_fields x operands_of (λ fs m. m) more
+    operate_gc (gc.StructNewDefault x) more = make struct_fields x (λ fs. [])
+        (λ fs m. asks (HaveDefaults fs) m) more
+    operate_gc (gc.StructGet x i) more = read IsWhole struct_fields [] x i more
+    operate_gc (gc.StructGetS x i) more = read IsPacked struct_fields [] x i more
+    operate_gc (gc.StructGetU x i) more = read IsPacked struct_fields [] x i more
+    operate_gc (gc.StructSet x i) more = pops vs (λ v ws. write struct_fields [] x i v ws more)
+    operate_gc (gc.ArrayNew x) more = make array_fields x (λ fs. operands_of fs ++ i32_type ∷ []) (λ fs m. m) more
+    operate_gc (gc.ArrayNewDefault x) more = make array_fields x (λ fs. i32_type ∷ [])
+        (λ fs m. asks (HaveDefaults fs) m) more
+    operate_gc (gc.ArrayNewFixed x n) more = make array_fields x
+        (λ fs. flat_map (λ (u : ValueType). replicate n u) (operands_of fs)) (λ fs m. m) more
+    operate_gc (gc.ArrayNewData x d) more = make array_fields x (λ fs. i32_type ∷ i32_type ∷ [])
+        (λ fs m. asks (FromData d fs) (may_trap m)) more
+    operate_gc (gc.ArrayNewElem x e) more = make array_fields x (λ fs. i32_type ∷ i32_type ∷ [])
+        (λ fs m. may_trap (stores_from e fs (λ f n. n) m)) more
+    operate_gc (gc.ArrayGet x) more = read IsWhole array_fields (i32_type ∷ []) x 0 more
+    operate_gc (gc.ArrayGetS x) more = read IsPacked array_fields (i32_type ∷ []) x 0 more
+    operate_gc (gc.ArrayGetU x) more = read IsPacked array_fields (i32_type ∷ []) x 0 more
+    operate_gc (gc.ArraySet x) more = pops vs (λ v ws. write array_fields (i32_type ∷ []) x 0 v ws more)
+    operate_gc gc.ArrayLen more = number_from array IsArray more
     operate_gc (gc.ArrayFill x) more = pops vs
-        (λ n ws. asks (Fits p n i32_type) (pops ws (λ v us. write array_operands (i32_type ∷ []) x 0 v us more)))
-    operate_gc (gc.ArrayCopy x y) more = object_under array_operands (i32_type ∷ i32_type ∷ []) y vs
-        (λ ss ws. object_under array_operands (i32_type ∷ []) x ws (λ ts us.
-        found (slice_get ss 0) (λ s. found (slice_get ts 0) (λ t. copies s t (goes us more)))))
-    operate_gc (gc.ArrayInitData x d) more = object_under array_operands (i32_type ∷ i32_type ∷ i32_type ∷ []) x vs
-        (λ ts ws. asks (FromData d ts) (goes ws more))
-    operate_gc (gc.ArrayInitElem x e) more = object_under array_operands (i32_type ∷ i32_type ∷ i32_type ∷ []) x vs
-        (λ ts ws. segment_there e (λ s. found (slice_get ts 0) (λ t. copies s t (goes ws more))))
+        (λ n ws. asks (Fits p n i32_type) (pops ws (λ v us. write array_fields (i32_type ∷ []) x 0 v us more)))
+    operate_gc (gc.ArrayCopy x y) more = object_under array_fields (i32_type ∷ i32_type ∷ []) y vs
+        (λ ss ws. object_under array_fields (i32_type ∷ []) x ws (λ fs us.
+        found (slice_get ss 0) (λ s. found (slice_get fs 0) (λ f. writes f (asks (AreStoredAlike s.storage f.storage)
+        (copies (operand_of s.storage) (operand_of f.storage) (goes us more)))))))
+    operate_gc (gc.ArrayInitData x d) more = object_under array_fields (i32_type ∷ i32_type ∷ i32_type ∷ []) x vs
+        (λ fs ws. found (slice_get fs 0) (λ f. writes f (asks (FromData d fs) (goes ws more))))
+    operate_gc (gc.ArrayInitElem x e) more = object_under array_fields (i32_type ∷ i32_type ∷ i32_type ∷ []) x vs
+        (λ fs ws. stores_from e fs writes (goes ws more))
     operate_gc (gc.RefTestNonNull h) more = cast_top false h (λ b v ws. goes (number_value i32 ∷ ws) more)
     operate_gc (gc.RefTestNullable h) more = cast_top true h (λ b v ws. goes (number_value i32 ∷ ws) more)
     operate_gc (gc.RefCastNonNull h) more = cast_top false h (λ b v ws. choose b (goes (v ∷ ws) more) (done trapped))
@@ -627,10 +714,10 @@ module _ (p : Program) (a : Answer) where
     operate_gc gc.AnyConvertExtern more = convert extern any more
     operate_gc gc.ExternConvertAny more = convert any extern more
     operate_gc gc.RefI31 more = exchange (i32_type ∷ []) (ref false (abstract false i31) ∷ []) more
-    operate_gc gc.I31GetS more = number_from i31 more
-    operate_gc gc.I31GetU more = number_from i31 more
+    operate_gc gc.I31GetS more = number_from i31 IsUnboxed more
+    operate_gc gc.I31GetU more = number_from i31 IsUnboxed more
 
-    -- ---- all of them; operators of the three proposals that are not standard have no rule
+    -- ---- all of them; vectors and operators of the three proposals that are not standard have no rule
 
     abbrev pub operate : Op → Code → Move
     operate (op.Control o) more = operate_control o more
@@ -639,11 +726,9 @@ module _ (p : Program) (a : Answer) where
     operate (op.Memory o) more = operate_memory o more
     operate (op.Bulk o) more = operate_bulk o more
     operate (op.Gc o) more = operate_gc o more
-    operate (op.Const o) more = by_table (op.Const o) more
-    operate (op.Numeric o) more = by_table (op.Numeric o) more
-    operate (op.Atomic o) more = by_table (op.Atomic o) more
-    operate (op.Simd o) more = by_table (op.Simd o) more
-    operate (op.SimdNumeric o) more = by_table (op.SimdNumeric o) more
+    operate (op.Const o) more = compute (op.Const o) more
+    operate (op.Numeric o) more = compute (op.Numeric o) more
+    operate (op.Atomic o) more = operate_atomic o more
     operate o more = stop
 
     -- the end of a block's instructions, or of a part of them

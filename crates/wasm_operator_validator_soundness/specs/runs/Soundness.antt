@@ -101,6 +101,10 @@ IsNeverStuck p results s = (answers : List Answer) (t : State) (a : Answer) → 
     → (step p t a).is_answer
     → (step p t a).needs × EndsWell p results (step p t a).outcome
 
+-- In each state of a run all fits.
+abbrev pub StaysValid : Program → List ValueType → State → Type 0
+StaysValid p results s = (answers : List Answer) (t : State) → Runs p s answers t → IsValidState p results t
+
 -- No run of a valid program is stuck.
 abbrev pub ProgramsAreSound : Type 0
 ProgramsAreSound = (p : Program) (s : State) (results : List ValueType) → IsValidProgram p → IsStarted p s results

@@ -2,3 +2,5 @@ pub mod Runs
 pub mod Stuck
 pub mod Sums
 pub mod Caught
+pub mod Objects
+pub mod Older

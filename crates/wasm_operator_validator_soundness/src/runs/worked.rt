@@ -2,6 +2,8 @@
 
 ghost use Rattle.std.specs.Prelude.{ℤ};
 ghost use Rattle.wasm_operator_validator_soundness.specs.runs.worked.Caught.{CaughtWorked};
+ghost use Rattle.wasm_operator_validator_soundness.specs.runs.worked.Objects.{ObjectsWorked};
+ghost use Rattle.wasm_operator_validator_soundness.specs.runs.worked.Older.{OlderWorked};
 ghost use Rattle.wasm_operator_validator_soundness.specs.runs.worked.Runs.{RunsWorked};
 ghost use Rattle.wasm_operator_validator_soundness.specs.runs.worked.Stuck.{PlacesWorked, StuckWorked};
 ghost use Rattle.wasm_operator_validator_soundness.specs.runs.worked.Sums.{SumsWorked};
@@ -26,4 +28,15 @@ pub fn sums_are_worked()
 /// further out.
 pub fn caught_is_worked()
     ensures { (x : ℤ) → CaughtWorked x }
+{}
+
+/// Runs of a program that is valid with structs and arrays, and which of them are of which types.
+pub fn objects_are_worked()
+    ensures { (x : ℤ) → ObjectsWorked x }
+{}
+
+/// Runs of a program that is valid, with a host that returns, traps and throws, a clause of an older `try`, tail calls, references to
+/// functions, a local, a global and a constant.
+pub fn older_is_worked()
+    ensures { (x : ℤ) → OlderWorked x }
 {}

@@ -123,7 +123,7 @@ module _ (x : ℤ) where
   giving = record silent { values = number_value i32 ∷ [] }
 
   abbrev pub holding : Answer
-  holding = record silent { held = ref_function (Some 0) below_type }
+  holding = record silent { held = ref_function (Some 0) below_type; condition = true }
 
   abbrev pub leaving : Answer
   leaving = record silent { leaves = 2 }

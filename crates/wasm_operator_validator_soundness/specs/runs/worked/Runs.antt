@@ -1,6 +1,6 @@
 -- Worked runs: what some code comes to, so that the laws are not about nothing.
 use Rattle.std.specs.Prelude.{◌≡◌, ℕ, ℤ, true, false, List, [], ◌∷◌, Option, Some, None}
-use Rattle.wasm_types.specs.trees.Types.{any, abstract, i32, i64, number, i8, value, array_of, FieldOf, InnerOf, function, struct_of, entry_map, ref}
+use Rattle.wasm_types.specs.trees.Types.{any, abstract, i32, i64, number, i8, i16, value, array_of, FieldOf, InnerOf, function, struct_of, entry_map, ref}
 use Rattle.wasm_types.specs.trees.Trees.{TypeTree, type_of, group_tree}
 use Rattle.wasm_types.specs.values.declared.heap.AbstractHeapType.TheVariants as heap
 use Rattle.wasm_types.specs.values.declared.heap.HeapType.{HeapType}
@@ -66,6 +66,13 @@ cells = alone None (array_of (variable (ref true (abstract false any))))
 
 abbrev pub octets : TypeTree
 octets = alone None (array_of (record { storage = i8; mutable = true }))
+
+-- one of 16 bits, and one of bytes that is never written
+abbrev pub halves : TypeTree
+halves = alone None (array_of (record { storage = i16; mutable = true }))
+
+abbrev pub fixed : TypeTree
+fixed = alone None (array_of (record { storage = i8; mutable = false }))
 
 abbrev pub whole : TypeTree
 whole = alone None (struct_of (variable (ref false (abstract false any)) ∷ []))
@@ -151,9 +158,9 @@ module _ (x : ℤ) where
   small = record {
     bits = 0;
     «module» = record {
-      types = gives_i32 ∷ takes_i32 ∷ pair ∷ triple ∷ cells ∷ whole ∷ octets ∷ [];
+      types = gives_i32 ∷ takes_i32 ∷ pair ∷ triple ∷ cells ∷ whole ∷ octets ∷ halves ∷ fixed ∷ [];
       functions = gives_i32 ∷ gives_i32 ∷ gives_i32 ∷ gives_i32 ∷ gives_i32 ∷ gives_i32 ∷ [];
-      tables = [];
+      tables = record { element = ref true (abstract false any); table64 = false; shared = false } ∷ [];
       memories = [];
       globals = record { content = number i32; mutable = false; shared = false } ∷ [];
       tags = takes_i32 ∷ [];

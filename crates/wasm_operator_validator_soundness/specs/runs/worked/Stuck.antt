@@ -1,17 +1,23 @@
 -- Worked states that are stuck, one for each way to be so, and steps that tell whose place is meant.
-use Rattle.std.specs.Prelude.{◌≡◌, ◌⊎◌, ℤ, false, List, [], ◌∷◌, None}
+use Rattle.std.specs.Prelude.{◌≡◌, ◌⊎◌, ℤ, true, false, List, [], ◌∷◌, None}
 use Rattle.wasm_types.specs.trees.Types.{struct, any, abstract, i32, i64, number, ref}
 use Rattle.wasm_types.specs.trees.declared.index.UnpackedIndex.TheVariants as index
+use Rattle.wasm_types.specs.values.Reference.{Reference}
+use Rattle.wasm_types.specs.values.declared.heap.AbstractHeapType.{AbstractHeapType}
+use Rattle.wasm_types.specs.values.declared.heap.AbstractHeapType.TheVariants as heap
 use Rattle.wasm_types.specs.values.declared.heap.HeapType.{HeapType}
 use Rattle.wasm_types.specs.values.declared.heap.HeapType.TheVariants as written_heap
 use Rattle.wasm_types.specs.values.declared.value.ValType.TheVariants as written
 use Rattle.wasm_operators_immediates.specs.declared.block.BlockType.TheVariants as block
+use Rattle.wasm_operators_immediates.specs.declared.memory.MemArg.{MemArg}
+use Rattle.wasm_operators_immediates.specs.declared.memory.MemArgTarget.TheVariants as target
 use Rattle.wasm_operators_immediates.specs.declared.handlers.Catch.{Catch}
 use Rattle.wasm_operators_immediates.specs.declared.handlers.Catch.TheVariants as catch
 use Rattle.wasm_operators_enums.specs.declared.control.ControlOperator.TheVariants as control
 use Rattle.wasm_operators_enums.specs.declared.memory.MemoryOperator.TheVariants as memory
 use Rattle.wasm_operators_enums.specs.declared.bulk.BulkOperator.TheVariants as bulk
 use Rattle.wasm_operators_enums.specs.declared.numeric.NumericOperator.TheVariants as numeric
+use Rattle.wasm_operators_enums.specs.declared.atomic.AtomicOperator.TheVariants as atomic
 use Rattle.wasm_operators_enums.specs.declared.gc.GcOperator.TheVariants as gc
 use Rattle.wasm_operators_enums.specs.Op as op
 use Rattle.wasm_operators_enums.specs.Op.{Op}
@@ -20,7 +26,7 @@ use Rattle.wasm_operator_validator_soundness.specs.runs.Values.{Value, number_va
 use Rattle.wasm_operator_validator_soundness.specs.runs.States.{Activation, Outcome, next, trapped, stuck, Move, done}
 use Rattle.wasm_operator_validator_soundness.specs.runs.Machine.{begun_with}
 use Rattle.wasm_operator_validator_soundness.specs.runs.Soundness.{step}
-use Rattle.wasm_operator_validator_soundness.specs.runs.worked.Runs.{takes_i32, takes_i64, gives_i64, pair, triple, wide, end, five, call, throw, small, a_struct, silent, giving, deciding, standing, run, one}
+use Rattle.wasm_operator_validator_soundness.specs.runs.worked.Runs.{takes_i32, takes_i64, gives_i64, pair, triple, wide, octets, halves, fixed, end, five, call, throw, small, a_struct, silent, giving, deciding, standing, run, one}
 
 -- a value is missing or does not fit its place, or an index, a label or the value of a local is not there
 abbrev pub IsStuck : Move → Type 0
@@ -29,6 +35,13 @@ IsStuck m = (m.needs → ⊥) ⊎ (m.outcome ≡ stuck)
 -- the type with an index that the module does not have
 abbrev pub nowhere : HeapType
 nowhere = written_heap.Concrete (index.Module 9)
+
+-- a reference type that may be null, and an access to the first memory
+abbrev pub to_heap : AbstractHeapType → Reference
+to_heap h = record { nullable = true; heap = written_heap.Abstract false h }
+
+abbrev pub argument : MemArg
+argument = record { align = 0; max_align = 0; offset = 0; memory = 0; ordering = None; target = target.Memory }
 
 abbrev pub long : Value
 long = number_value i64
@@ -73,6 +86,8 @@ module _ (x : ℤ) where
     -- arguments, results, and what the caller awaits, whatever the function itself gives
     pub argument_wrong : IsStuck (at (ref_function None takes_i32 ∷ long ∷ []) (op.Control (control.CallRef 1)))
     pub no_function : IsStuck (at (ref_object pair ∷ []) (op.Control (control.CallRef 0)))
+    pub no_function_in_table : IsStuck (step (small x) (standing (number i32 ∷ []) (one ∷ [])
+        (plain (op.Control (control.CallIndirect 0 0)) end)) (record silent { held = ref_i31 }))
     pub result_wrong : IsStuck (at_code (long ∷ []) end)
     pub result_left : IsStuck (at_code (one ∷ one ∷ []) end)
     pub owed_wrong : IsStuck (step (small x) (standing (number i64 ∷ []) (one ∷ []) end) silent)
@@ -92,9 +107,14 @@ module _ (x : ℤ) where
     pub label_unknown : IsStuck (at [] (op.Control (control.Br 1)))
     pub function_unknown : IsStuck (at [] (call 9))
     pub reference_unknown : IsStuck (at [] (op.Bulk (bulk.RefFunc 9)))
-    pub table_unknown : IsStuck (at (one ∷ []) (op.Bulk (bulk.TableGet 0)))
+    pub table_unknown : IsStuck (at (one ∷ []) (op.Bulk (bulk.TableGet 9)))
     pub memory_unknown : IsStuck (at [] (op.Memory (memory.MemorySize 0)))
+    pub no_memory_read : IsStuck (at (one ∷ []) (op.Memory (memory.I32Load argument)))
+    pub no_memory_written : IsStuck (at (one ∷ one ∷ []) (op.Memory (memory.I32Store8 argument)))
+    pub no_memory_changed : IsStuck (at (one ∷ one ∷ []) (op.Atomic (atomic.I32AtomicRmwAdd argument)))
+    pub no_memory_filled : IsStuck (at (one ∷ one ∷ one ∷ []) (op.Bulk (bulk.MemoryFill 0)))
     pub segment_unknown : IsStuck (at [] (op.Bulk (bulk.ElemDrop 0)))
+    pub data_not_dropped : IsStuck (at [] (op.Bulk (bulk.DataDrop 9)))
     pub tag_unknown : IsStuck (at (one ∷ []) (op.Exception (op.Throw 9)))
     pub type_unknown : IsStuck (at (one ∷ []) (op.Gc (gc.StructNew 9)))
     pub block_unknown : IsStuck (at_code [] (nested (op.Control (control.Block (block.FuncType 9))) end end))
@@ -106,10 +126,20 @@ module _ (x : ℤ) where
     pub no_object : IsStuck (at (ref_i31 ∷ []) (op.Gc (gc.StructGet 2 0)))
     pub field_unknown : IsStuck (at (ref_object pair ∷ []) (op.Gc (gc.StructGet 2 1)))
     pub field_wrong : IsStuck (at (one ∷ ref_object triple ∷ []) (op.Gc (gc.StructSet 3 1)))
+    pub packed_as_whole : IsStuck (at (one ∷ ref_object octets ∷ []) (op.Gc (gc.ArrayGet 6)))
+    pub whole_as_packed : IsStuck (at (ref_object pair ∷ []) (op.Gc (gc.StructGetS 2 0)))
+    pub copied_apart : IsStuck (at (one ∷ one ∷ ref_object octets ∷ one ∷ ref_object halves ∷ [])
+        (op.Gc (gc.ArrayCopy 7 6)))
+    pub field_immutable : IsStuck (at (one ∷ one ∷ ref_object fixed ∷ []) (op.Gc (gc.ArraySet 8)))
+    pub initialised_immutable : IsStuck (at (one ∷ one ∷ one ∷ ref_object fixed ∷ []) (op.Gc (gc.ArrayInitData 8 0)))
+    pub no_array : IsStuck (at (ref_object pair ∷ []) (op.Gc gc.ArrayLen))
+    pub not_unboxed : IsStuck (at (ref_object pair ∷ []) (op.Gc gc.I31GetS))
+    pub not_compared : IsStuck (at (ref_i31 ∷ ref_function None takes_i32 ∷ []) (op.Gc gc.RefEq))
     pub no_default : IsStuck (at [] (op.Gc (gc.StructNewDefault 5)))
     pub bytes_as_references : IsStuck (at (one ∷ one ∷ []) (op.Gc (gc.ArrayNewData 4 0)))
     pub data_unknown : IsStuck (at (one ∷ one ∷ []) (op.Gc (gc.ArrayNewData 6 9)))
     pub cast_elsewhere : IsStuck (at (ref_function None takes_i32 ∷ []) (op.Gc (gc.RefTestNullable a_struct)))
+    pub cast_across : IsStuck (at (ref_i31 ∷ []) (op.Gc (gc.BrOnCast 0 (to_heap heap.Any) (to_heap heap.Func))))
     -- no activation is left
     pub nothing_runs : IsStuck (step (small x) [] silent)
 

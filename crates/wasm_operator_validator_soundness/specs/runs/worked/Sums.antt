@@ -96,10 +96,10 @@ module _ (x : ℤ) where
 
   -- the table holds this function of the program, or the import, which gives a number at once
   abbrev pub held_own : Answer
-  held_own = record silent { held = ref_function (Some 1) binary }
+  held_own = record silent { held = ref_function (Some 1) binary; condition = true }
 
   abbrev pub held_import : Answer
-  held_import = record giving { held = ref_function (Some 0) binary }
+  held_import = record giving { held = ref_function (Some 0) binary; condition = true }
 
   -- a body with two numbers
   abbrev pub started : Body → State
