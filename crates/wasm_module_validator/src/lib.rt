@@ -1,18 +1,17 @@
-//! A validator of WebAssembly modules.
+//! A validator of WebAssembly modules. The public crate of this layer.
 //!
-//! [`validate`] judges all the bytes of one module, and so does a [`Validator`]. Both promise Ok exactly if the bytes spell a module
-//! that is valid by the rules of `wasm_module_validator_rules`, under the features that are allowed and the limits that hold, out of memory
-//! aside (`specs/Accepts.antt`). A module is read section by section, and its bodies are judged behind the last.
+//! [`validate`] judges all the bytes of one module, and so does a [`Validator`]. Both promise Ok exactly if the bytes spell
+//! a module that is valid by the rules of `wasm_module_validator_rules`, under the features that are allowed and the limits
+//! that hold, out of memory aside (`specs/Accepts.antt`). A module is read section by section, and its bodies are judged
+//! after the last.
 //!
-//! Or a parser's payloads are taken one by one, each by a method of the [`Validator`]: what each accepts and leaves stands in
-//! `specs/Methods.antt`. [`Validator::code_section_entry`] hands each function out, to be judged whenever it suits.
+//! Or a parser's payloads are taken one by one, each by a method of the [`Validator`]: `specs/Methods.antt` says what each
+//! accepts and leaves. [`Validator::code_section_entry`] hands each function out, to be judged whenever it suits.
 //!
-//! A validator has one list of types for all its modules, so that ids of two modules may be compared ([`Types`], [`TypeList`]). What is
-//! looked up in a module, and what lists of types are made of, is passed on from the crates below.
+//! A validator has one list of types for all its modules, so that ids of two modules may be compared ([`Types`],
+//! [`TypeList`]). What is looked up in a module, and what lists of types are made of, is passed on from the crates below.
 //!
-//! Its parts beside these:
-//!
-//! - [`soundness`]: no run of a valid module is stuck.
+//! [`soundness`] says that no run of a valid module is stuck.
 #![tactic(auto)]
 
 mod laws;

@@ -1,10 +1,9 @@
-//! Globals, tables, data and element segments checked over their constants, and added.
+//! Globals, tables, data and element segments: checked over their constants, and added.
 //!
-//! Its parts:
-//!
-//! - [`segments`]: items with constant expressions checked by the rules.
-//! - [`elements`]: element segments checked by the rules.
-//! - [`adding`]: globals, tables and segments checked over their constants, and added to a module that is being read.
+//! A check is Ok exactly if the bytes of the item's expressions spell code with which the item is valid, in the module so
+//! far, out of memory aside; it changes nothing ([`segments`] for globals, tables and data segments, [`elements`] for
+//! element segments). [`adding`] checks an item and adds it to the module that is being read. A constant is judged at its
+//! own place: it sees the globals before it, and may refer to each function.
 #![tactic(auto)]
 
 pub mod adding;

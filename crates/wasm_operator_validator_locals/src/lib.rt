@@ -1,11 +1,8 @@
-//! The locals of a function: their types, the first one by one and all as runs of one type; and which of them are initialised
-//! ([`inits`]).
+//! What a validator keeps of a function's locals, and what it can take back.
 //!
-//! [`tape`] is the stack under what a validator of operators keeps: it can take back what was done to it since a moment.
-//!
-//! Its parts beside these:
-//!
-//! - [`labels`]: labels of a table that were met.
+//! A function has up to 50,000 locals by default: the types of the first ones are kept one by one, and all of them as runs
+//! of one type. [`inits`] knows which are initialised, and [`tape`] is the stack under it: it can take back what was done to
+//! it since a moment. [`labels`] marks the labels of a table of branches that were met, so that each is asked once.
 #![tactic(auto)]
 
 pub mod inits;

@@ -1,13 +1,9 @@
-//! Loads and stores, memories and data segments, tables and element segments, references, variables, and operands of any type: `drop` and
-//! the three forms of `select`.
+//! Checks of operators on memories, tables, segments, references and variables, and of `drop` and the three forms of
+//! `select`; of atomic accesses to memories ([`atomics`]).
 //!
-//! Each check decides its operator: it is not refused exactly if the operator may come, out of memory aside, and leaves what may
-//! follow (`Checks` of `wasm_operator_validator_state`). `specs/Reaching.antt` says which accesses a memory allows, `specs/Choices.antt`
-//! what a choice between two operands gives.
-//!
-//! Its parts beside these:
-//!
-//! - [`atomics`]: atomic accesses to memories (the proposal on threads).
+//! Each check decides its operator: it is not refused exactly if the operator may come, out of memory aside, and leaves
+//! what may follow (`Checks` of `wasm_operator_validator_state`). `specs/Reaching.antt` says which accesses a memory allows,
+//! `specs/Choices.antt` what a choice between two operands gives.
 #![tactic(auto)]
 
 mod accesses;

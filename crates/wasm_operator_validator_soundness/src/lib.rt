@@ -1,12 +1,9 @@
-//! Typed code is never stuck (WebAssembly 3.0, appendix, soundness), as far as one activation goes.
+//! Typed code is never stuck (WebAssembly 3.0, appendix, soundness).
 //!
-//! There is no code here but the laws, each on the contract of a function that does nothing. `specs/` is read in the order of
-//! its `Lib.antt`: values and their types, how instructions run, and what it means that they are never stuck.
-//! [`accepted`] says the same of a body that the validator accepts.
-//!
-//! Its parts beside these:
-//!
-//! - [`runs`]: no run of a valid program is stuck.
+//! There is no code here except the laws, each on the contract of a function that does nothing. The first part goes as far
+//! as one activation: `specs/` has values and their types, how instructions run, and what it means that they are never
+//! stuck; [`accepted`] says the same of a body that the validator accepts. [`runs`] goes over all activations of a whole
+//! program: its machine reads none of the rules' tables, so a wrong row of the rules breaks its laws.
 #![tactic(auto)]
 
 pub mod accepted;

@@ -1,17 +1,14 @@
 //! The stacks of a validator of operators: operands, open frames and locals that were set, each with what is done to it.
 //!
-//! A contract sees the state of `wasm_operator_validator_state`: each open frame with operands of its own. In memory all operands lie
-//! in one place, and a frame knows how many lay below it where it began (`specs/Layout.antt`).
+//! A contract sees the state of `wasm_operator_validator_state`: each open frame with operands of its own. In memory all
+//! operands lie in one place, and a frame knows how many lay below it at its beginning (`specs/Layout.antt`).
 //!
-//! The validator of a function, as its body begins: [`new_func`]. [`begin_func`] does the same in place of all that a validator knew,
-//! and does not say why it could not.
+//! A body begins with [`new_func`], or with [`begin_func`], which takes the place of all that a validator knew and does not
+//! say why it could not. From there exactly the operators of well-typed bodies may come (`specs/Functions.antt`,
+//! `bodies_are_accepted` of `wasm_operator_validator_state`).
 //!
-//! `specs/Functions.antt` says what it knows then. From there exactly the operators of well-typed bodies may come
-//! (`bodies_are_accepted` of `wasm_operator_validator_state`).
-//!
-//! Its parts beside these:
-//!
-//! - [`determined`]: how a check is proved where the module determines the operator's type, and what checks share.
+//! [`determined`] has the checks of operators whose types the module determines, as `i32.add`, and how such a check is
+//! proved: the row is looked up in the table of instruction types, so no operator needs a proof of its own.
 #![tactic(auto)]
 
 mod allocations;

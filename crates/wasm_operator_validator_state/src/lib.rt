@@ -1,14 +1,11 @@
 //! What a validator of operators knows at a place in a body, and what it stands for.
 //!
-//! `specs/State.antt` says what is known and which operators may still come; `specs/Steps.antt` what the steps of a validator do,
-//! by the stacks that its operands stand for; `specs/Refusals.antt` what refusals of a few bytes are; `specs/laws/` how a visit's
-//! promise follows from what its steps did.
+//! `specs/State.antt` says what is known and which operators may still come; `specs/Steps.antt` what the steps of a
+//! validator do, by the stacks that its operands stand for; `specs/Refusals.antt` what refusals of a few bytes are;
+//! `specs/laws/` how a visit's promise follows from what its steps did.
 //!
-//! [`attempts`] keeps what one attempt did to the stacks, so that it can be taken back.
-//!
-//! Its parts beside these:
-//!
-//! - [`blocks`]: the types of blocks and functions in a module, as slices of what the module has.
+//! [`attempts`] keeps what one attempt did to the stacks, so that it can be taken back. [`blocks`] has the types of blocks
+//! and functions, as slices of what the module has.
 #![tactic(auto)]
 
 pub mod attempts;

@@ -1,27 +1,20 @@
-//! Operators of WebAssembly, readers and visitors of them.
+//! Operators of WebAssembly: readers and visitors of them. The public crate of this layer.
 //!
 //! `OperatorsReader` reads operators from bytes, one after the other, and knows which frames are open (`ControlStack`);
-//! `read_expression` reads a whole expression, and `visit_expression` visits one. With frames of your own, `ReadOperators`,
-//! `ReadToVisitor` and `ReadToSimdVisitor` look at, read and visit one operator of a `BinaryReader`. `FunctionBody` has the
-//! groups of locals of a body (`LocalsReader`) and finds where its operators begin; `ConstExpr` is a constant expression.
-//! `Operator::info` tells an operator's proposal, name, prefix and code (`OperatorInfo`).
+//! `read_expression` reads a whole expression, and [`visit_expression`] visits one. With frames of your own
+//! (`FrameStack`), `ReadOperators`, [`ReadToVisitor`] and [`ReadToSimdVisitor`] look at, read and visit one operator of a
+//! `BinaryReader`; [`VisitNext`] and [`VisitNextSimd`] do so of a reader of operators. `FunctionBody` has the groups of
+//! locals of a body (`LocalsReader`) and finds the place at which its operators begin; `ConstExpr` is a constant
+//! expression. `Operator::info` tells an operator's proposal, name, prefix and code (`OperatorInfo`).
 //!
 //! A visitor implements the traits of groups (`VisitControl`, `VisitMemory` and so on), one visit for each operator, under
-//! the relation that its `Visitor` states. With all of them but those of vectors it is a `VisitOperator`. With `VisitSimd`,
-//! `VisitSimdNarrow`, `VisitSimdWide` and `VisitSimdFloats` too it is a `VisitSimdOperator`, which has every visit. Calls at one
-//! type with hundreds of visits are made by `TellOperator`, which has three methods, and with vectors by `TellSimdOperator`, which
-//! has one.
+//! the relation that its `Visitor` states. With all of them except those of vectors it is a `VisitOperator`; with
+//! `VisitSimd`, `VisitSimdNarrow`, `VisitSimdWide` and `VisitSimdFloats` too it is a `VisitSimdOperator`. Calls at one type
+//! with hundreds of visits are made by `TellOperator`, which has three methods, and with vectors by `TellSimdOperator`,
+//! which has one.
 //!
-//! This crate has no code of its own. The rules stand in the crates below: the tables of opcodes and of immediates in
-//! `wasm_operators_enums`, which bytes spell an operator in `wasm_operators_encoding`, and which spell an
-//! expression in `wasm_operators_encoding::expressions`.
-//!
-//! Operators that are visited as they are read.
-//!
-//! By [`ReadToVisitor`] and [`ReadToSimdVisitor`] one operator is read and visited, where the visitor knows which frames are open
-//! (`FrameStack`); by [`VisitNext`] and [`VisitNextSimd`] a reader of operators does the same. [`visit_expression`] visits the operators
-//! of an expression, exactly if all the bytes spell one without vectors. They stand on what `wasm_operators_reader::walks` reads, and
-//! pass it on.
+//! The rules are in the crates below: the tables of opcodes and of immediates in `wasm_operators_enums`, which bytes spell
+//! an operator in `wasm_operators_encoding`, and which spell an expression in `wasm_operators_encoding::expressions`.
 #![tactic(auto)]
 
 mod expressions;

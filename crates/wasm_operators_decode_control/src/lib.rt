@@ -1,19 +1,11 @@
-//! Operators of control, parametric operators, and those of exceptions and continuations from their bytes (WebAssembly
-//! 3.0, binary format, control instructions and parametric instructions; the older exceptions and the continuations by
-//! the proposals on them).
+//! Readers of operators of control, parametric operators, exceptions and continuations, and of aggregates, casts and
+//! descriptors (WebAssembly 3.0, binary format, instructions; the older exceptions, continuations and descriptors by the
+//! proposals on them).
 //!
-//! For each group one function finds the shape of what stands behind a code, such as `control_shape`, and another reads
-//! the immediates of this shape and makes the operator. A reader promises that its operator has that code and exactly
-//! the immediates that the decoder of `wasm_operators_encoding` gives. `specs/` has the kinds of immediates of
-//! each shape.
-//!
-//! Operators of aggregates, casts and descriptors from their bytes (WebAssembly 3.0, binary format, aggregate
-//! instructions and reference instructions; for descriptors the proposal on them).
-//!
-//! For each group one function finds the shape of what stands behind a code, such as `gc_shape`, and another reads the
-//! immediates of this shape and makes the operator. [`gc_plain_of`] does both for `ref.eq`, which carries nothing. A
-//! reader promises that its operator has that code and exactly the immediates that the decoder of
-//! `wasm_operators_encoding` gives. `specs/` has the kinds of immediates of each shape.
+//! For each group one function finds the shape of what follows a code, such as `control_shape`, and another reads the
+//! immediates of this shape and makes the operator. A reader promises that its operator has that code and exactly the
+//! immediates that the decoder of `wasm_operators_encoding` gives. `specs/` has the kinds of immediates of each shape.
+//! [`gc_plain_of`] does both for `ref.eq`, which carries nothing.
 #![tactic(auto)]
 
 mod continuation;

@@ -1,17 +1,13 @@
-//! Operators on variables, memories and tables, constants and references from their bytes (WebAssembly 3.0, binary
-//! format, variable, table, memory, reference and numeric instructions).
+//! Readers of operators on variables, memories, tables, constants and references, and on numbers (WebAssembly 3.0, binary
+//! format, instructions).
 //!
-//! For each group one function finds the shape of what stands behind a code, such as `memory_shape`, and another reads
-//! the immediates of this shape and makes the operator. A reader promises that its operator has that code and exactly
-//! the immediates that the decoder of `wasm_operators_encoding` gives. `specs/` has the kinds of immediates of
-//! each shape.
+//! For each group that carries something one function finds the shape of what follows a code, such as `memory_shape`, and
+//! another reads the immediates of this shape and makes the operator, with exactly the immediates that the decoder of
+//! `wasm_operators_encoding` gives. `specs/` has the kinds of immediates of each shape.
 //!
-//! Operators on numbers from their codes (WebAssembly 3.0, binary format, numeric instructions; sums and products of
-//! 128 bits by the proposal on wide arithmetic).
-//!
-//! None of these operators carries anything, so a code is all there is to look at: [`numeric_of`] goes by a code of one
-//! byte, [`numeric_prefixed_of`] by one behind `fc`. Each answers an operator exactly if the table of opcodes has
-//! one with this code. The table stands in `wasm_operators_enums`.
+//! Operators on numbers carry nothing, so a code is all there is to look at: [`numeric_of`] goes by a code of one byte,
+//! [`numeric_prefixed_of`] by one after `fc`. Each answers an operator exactly if the table of opcodes has one with this
+//! code.
 #![tactic(auto)]
 
 mod bulk;

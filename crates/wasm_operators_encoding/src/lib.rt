@@ -1,16 +1,12 @@
-//! Operators of WebAssembly as bytes have them: an opcode, and immediates of the kinds that belong to it (WebAssembly
-//! 3.0, binary format, instructions).
+//! Operators and expressions of WebAssembly as bytes have them (WebAssembly 3.0, binary format, instructions).
 //!
-//! `specs/Coded.antt` has the decoder of operators, and `specs/Operators.antt` which bytes spell one. Which kinds
-//! belong to a code is looked up in the table of opcodes, so no operator has a definition of its own here. The laws are
-//! promised by functions that do nothing: the decoder is lawful and exact, and no two operators are spelled by the same
-//! bytes.
+//! An operator is an opcode, and immediates of the kinds that belong to it. Which kinds belong to a code is looked up in
+//! the table of opcodes, so no operator has a definition of its own: `specs/Operators.antt` says which bytes spell one, and
+//! `specs/Coded.antt` has the decoder. The laws say that the decoder is lawful and exact, and that no two operators are
+//! spelled by the same bytes.
 //!
-//! Its parts beside these:
-//!
-//! - [`immediates`]: what operators of WebAssembly carry besides their opcode, from bytes.
-//! - [`codes`]: opcodes with immediates as operators.
-//! - [`expressions`]: expressions of WebAssembly.
+//! [`immediates`] reads what operators carry, [`codes`] makes operators of an opcode and its immediates, and
+//! [`expressions`] has expressions as trees, which bytes spell them, and the list of open frames.
 #![tactic(auto)]
 
 ghost use Rattle.std.specs.Prelude.{◌≡◌, IsTrue, ℕ, List, Some};

@@ -1,23 +1,14 @@
-//! Operators of WebAssembly, one variant for each, in groups.
+//! Operators of WebAssembly, one variant for each, in enums by what they do.
+//!
+//! There are groups of control, parametric operators, exceptions and continuations; of variables, memories, constants,
+//! tables and references; of numbers; of aggregates, casts and descriptors; of atomic accesses; and two of vectors, since
+//! an enum has at most 256 variants: [`SimdOperator`] has those that carry something, [`SimdNumericOperator`] those that
+//! do not. [`Operator`] is one of any group. An operator has its immediates as fields.
 //!
 //! A contract sees an operator as the tree `Op` of `specs/Op.antt`, which has the same groups and variants, with plain
-//! lists in place of what lies in memory. The rules are the table of opcodes (`specs/Table.antt`), what each operator
-//! carries (`specs/Immediates.antt`), and what it does to the frame in which it stands (`specs/Roles.antt`). `laws`
-//! promises that codes tell operators apart, and that `==` is equality of trees.
-//!
-//! Operators but those on vectors, one variant for each, in enums by what they do: control, parametric, exceptions and
-//! continuations; variables, memories, constants, tables and references; numbers; aggregates, casts and descriptors; atomic accesses.
-//!
-//! An operator is one variant of an enum, and has its immediates as fields. Where one keeps a list in memory, contracts
-//! see its plain tree (`specs/control/Trees.antt`). The rules are two tables for each group: `Table.antt` has the row of each
-//! operator in the table of opcodes, which `info` is proved to answer, and `Immediates.antt` has what each carries after its opcode.
-//!
-//! Operators on vectors, one variant for each.
-//!
-//! There are two enums, since one has at most 256 variants: [`SimdOperator`] has the operators that carry something, as
-//! fields, and [`SimdNumericOperator`] those that carry nothing. The rules are two tables: `specs/Table.antt` has the
-//! row of each operator in the table of opcodes, which `info` is proved to answer, and `specs/Immediates.antt` has what
-//! each carries behind its opcode.
+//! lists in place of what lies in memory. The rules are the table of opcodes (`specs/Table.antt`), which `info` is proved
+//! to answer, what each operator carries (`specs/Immediates.antt`), and what it does to the frame in which it is
+//! (`specs/Roles.antt`). [`laws`] promises that codes tell operators apart, and that `==` is equality of trees.
 #![tactic(auto)]
 
 mod atomic;

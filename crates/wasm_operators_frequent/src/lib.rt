@@ -1,21 +1,17 @@
-//! The frequent operators, read from their first byte and visited at once.
+//! The frequent operators, from their first byte to the operator or its visit.
 //!
-//! [`visit_short`] takes the bytes of an expression, an offset in them and a visitor. Where a frequent operator in a
-//! frequent form begins there, the visitor is told of it and the offset behind it is answered: no operator is built, no
-//! reader moves, and no error is made. Where it answers none, nothing was visited; `read_operator` then reads whatever
-//! stands there, or says why it is refused.
+//! [`visit_short`] takes the bytes of an expression, an offset in them and a visitor. If a frequent operator in a frequent
+//! form begins there, the visitor is told of it and the offset after it is answered: no operator is built, no reader moves,
+//! and no error is made. If it answers none, nothing was visited; `read_operator` then reads whatever is there, or says why
+//! it is refused. [`reading`] has the same for whoever wants the operator itself.
 //!
-//! [`TellOperator`] is what reading asks of a visitor, three methods in place of a visit for each operator; a [`LentVisitor`] has
-//! them by the visits of the visitor that is lent. A type that has all visits may tell itself by the parts of [`visit_short`], one for
-//! each shape of operator ([`short_alone`], [`short_local_get`], [`short_load`], ..). [`TellPlain`] adds a method that takes many
-//! operators in one call, where they open and close no frame: whoever is told so may go over them in a loop of its own.
+//! [`TellOperator`] is what reading asks of a visitor, three methods in place of a visit for each operator; a
+//! [`LentVisitor`] has them by the visits of the visitor that is lent. A type that has all visits may tell itself by the
+//! parts of [`visit_short`], one for each shape of operator ([`short_alone`], [`short_local_get`], [`short_load`], ..).
+//! [`TellPlain`] adds a method that takes many operators in one call, if they open and close no frame.
 //!
 //! `specs/Short.antt` defines what was told: that the decoder of operators gives this operator for these bytes, wherever
-//! they stand, and that the visitor's relation holds of it. `specs/Plain.antt` says the same of many, one after the other.
-//!
-//! Its parts beside these:
-//!
-//! - [`reading`]: the frequent operators, read from their first byte.
+//! they are, and that the visitor's relation holds of it. `specs/Plain.antt` says the same of many, one after the other.
 #![tactic(auto)]
 
 mod bulk;

@@ -1,15 +1,14 @@
-//! What operators of WebAssembly carry besides their opcode: memory arguments, block types, tables of labels.
+//! What an operator of WebAssembly is apart from what it does: what it carries besides its opcode, and its row in the table
+//! of opcodes.
 //!
-//! Contracts see each as a plain tree: its variants and fields, with a list where the code has borrowed bytes.
-//! `specs/Kinds.antt` has the kinds of immediates, and `specs/Immediates.antt` what an immediate of each kind carries.
-//! Block types, tables of labels, clauses and handlers are read here, exactly if the bytes spell them
-//! (`specs/Blocks.antt`, `specs/Labels.antt`, `specs/Handlers.antt`).
+//! Immediates are memory arguments, block types, tables of labels, clauses and handlers. Contracts see each as a plain
+//! tree: its variants and fields, with a list if the code has borrowed bytes. `specs/Kinds.antt` has the kinds of
+//! immediates, and `specs/Immediates.antt` what an immediate of each kind carries. Block types, tables of labels, clauses
+//! and handlers are read here, exactly if the bytes spell them (`specs/Blocks.antt`, `specs/Labels.antt`,
+//! `specs/Handlers.antt`).
 //!
-//! What is told of an operator apart from what it carries: the proposal that brought it, its name and its opcode.
-//!
-//! An [`OperatorInfo`] is one row of the table of opcodes. The rows themselves stand next to the operators, in
-//! `specs/Table.antt` of each crate of a group; `specs/Info.antt` here defines what a row is. A [`Proposal`] is the
-//! release or the proposal to which an operator belongs.
+//! An [`OperatorInfo`] is one row of the table: the [`Proposal`] that brought the operator, its name, its prefix and its
+//! code. The rows themselves are next to the operators (`wasm_operators_enums`); `specs/Info.antt` defines what a row is.
 #![tactic(auto)]
 
 mod block;

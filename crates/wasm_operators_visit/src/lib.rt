@@ -1,14 +1,13 @@
-//! What a visitor of operators is.
+//! What a visitor of operators is, and the visits of operators of control.
 //!
-//! A visitor is told each operator by a visit of its own, a method of one of the traits of groups in the crates above
-//! this one. All visits of a [`Visitor`] promise one relation, which the visitor names: of itself before, the operator,
-//! the answer, and itself after. What lends a visitor ([`Lender`]), as a reference or
-//! a box does, is a visitor too. `specs/Memory.antt` defines which operators keep a list, so that a copy of one takes
+//! A visitor is told each operator by a visit of its own, a method of one of the traits of groups. All visits of a
+//! [`Visitor`] promise one relation, which the visitor names: of itself before, the operator, the answer, and itself
+//! after. So whoever drives a visitor needs one clause for all operators. What lends a visitor ([`Lender`]), as a reference
+//! or a box does, is a visitor too. `specs/Memory.antt` defines which operators keep a list, so that a copy of one takes
 //! memory.
 //!
-//! Its parts beside these:
-//!
-//! - [`control`]: visits of operators of control, of those that take operands of any type, of exceptions and of continuations.
+//! [`control`] has the first of these traits: operators of control, those that take operands of any type, exceptions and
+//! continuations. The other groups have crates of their own.
 #![tactic(auto)]
 
 ghost use Rattle.std.specs.Prelude.{◌≡◌};

@@ -1,10 +1,7 @@
-//! Visits of atomic accesses, and which one belongs to an operator.
+//! Visits of atomic accesses: to memories ([`atomic`]), to globals, tables, structs and arrays ([`shared`]), and which one
+//! belongs to an operator ([`dispatch`]).
 //!
-//! Its parts:
-//!
-//! - [`dispatch`]: the visits that belong to atomic accesses.
-//! - [`atomic`]: visits of atomic accesses to memories.
-//! - [`shared`]: visits of atomic accesses to globals, tables, structs and arrays.
+//! Each visit promises the one relation of its visitor (`Visitor` of `wasm_operators_visit`) for its own operator.
 #![tactic(auto)]
 
 pub mod atomic;

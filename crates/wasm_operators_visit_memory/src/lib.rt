@@ -1,12 +1,8 @@
-//! Visits of variables, memories and tables, of references and of constants.
+//! Visits of variables, memories, tables, references and constants, and of structs, arrays, casts and descriptors ([`gc`]).
 //!
-//! [`VisitMemory`] has one visit for each operator. Each visit promises the one relation of its visitor (`Visitor` of
-//! `wasm_operators_visit`) for its own operator. So do the visits of what lends a visitor (`&mut V`, `Box<V>`). The
+//! [`VisitMemory`] has one visit for each operator. Each promises the one relation of its visitor (`Visitor` of
+//! `wasm_operators_visit`) for its own operator, and so do the visits of what lends a visitor (`&mut V`, `Box<V>`). The
 //! functions [`visit_memory`], [`visit_const`] and [`visit_bulk`] choose the visit that belongs to an operator.
-//!
-//! Its parts beside these:
-//!
-//! - [`gc`]: visits of structs, arrays, casts and descriptors.
 #![tactic(auto)]
 
 mod dispatch;

@@ -1,10 +1,7 @@
-//! Visits of integers and floats, and which one belongs to an operator.
+//! Visits of operators on numbers: of integers ([`integers`]), of floats ([`floats`]), and which one belongs to an operator
+//! ([`dispatch`]).
 //!
-//! Its parts:
-//!
-//! - [`dispatch`]: the visit that belongs to an operator on numbers.
-//! - [`integers`]: visits of integers.
-//! - [`floats`]: visits of floats.
+//! Each visit promises the one relation of its visitor (`Visitor` of `wasm_operators_visit`) for its own operator.
 #![tactic(auto)]
 
 pub mod dispatch;

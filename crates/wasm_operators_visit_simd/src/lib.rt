@@ -1,13 +1,9 @@
-//! The visit that belongs to an operator on vectors.
+//! The visit that belongs to an operator on vectors, and the visits of vectors of floats ([`floats`]) and of those that
+//! carry immediates ([`immediates`]).
 //!
-//! [`visit_simd`] takes an operator with immediates and calls its own visit, of `VisitSimd`. [`visit_simd_numeric`]
-//! takes one without, and calls a visit of one of the four traits for vectors. Each promises the relation of the
-//! visitor for that operator.
-//!
-//! Its parts beside these:
-//!
-//! - [`floats`]: visits of vectors of floats.
-//! - [`immediates`]: visits of vectors.
+//! [`visit_simd`] takes an operator with immediates and calls its own visit, of `VisitSimd`. [`visit_simd_numeric`] takes
+//! one without, and calls a visit of one of the four traits for vectors. Each promises the relation of the visitor for that
+//! operator.
 #![tactic(auto)]
 
 ghost use Rattle.wasm_operators_enums.specs.Op.{Op};

@@ -1,9 +1,6 @@
-//! Visits of vectors of integers of 8 to 64 bits.
+//! Visits of operators on vectors of integers: of 8 and 16 bits ([`narrow`]), of 32 and 64 bits ([`wide`]).
 //!
-//! Its parts:
-//!
-//! - [`narrow`]: visits of vectors of bytes and of 16-bit integers.
-//! - [`wide`]: visits of vectors of 32-bit and 64-bit integers.
+//! Each visit promises the one relation of its visitor (`Visitor` of `wasm_operators_visit`) for its own operator.
 #![tactic(auto)]
 
 pub mod narrow;
