@@ -1,5 +1,5 @@
 -- What is named of continuations and tags.
-use Rattle.std.proofs.Common.{◌≡◌, ◌∙◌, ℕ, Bool, List, [], Option, Some, None, option_map, slice_get, refl, sym, ap, subst}
+use Rattle.std.proofs.Common.{◌≡◌, ◌∙◌, ◌<◌, ℕ, Bool, List, [], length, Option, Some, None, option_map, slice_get, refl, sym, ap, subst}
 use Rattle.wasm_types.specs.trees.declared.index.UnpackedIndex.{UnpackedIndex}
 use Rattle.wasm_types.specs.trees.Types.{InnerOf, function, continuation, ref, concrete, exact}
 use Rattle.wasm_types.specs.trees.Trees.{TypeTree}
@@ -24,6 +24,7 @@ use Rattle.wasm_types.specs.declared.sub_type.SubType.{SubType}
 use Rattle.wasm_operator_validator_resources.specs.Meaning.{entry_in}
 use Rattle.wasm_operator_validator_stacks.specs.determined.laws.Types.{reference_is}
 use Rattle.wasm_operator_validator_objects.specs.Found.{IsUsed}
+use Rattle.wasm_operator_validator_objects.proofs.Looking.{used_within}
 use Rattle.wasm_operator_validator_proposals.proofs.Meanings.{Goes, continuation_there, no_continuation_there, nothing_continues, function_is}
 
 -- ---- one type, one signature
@@ -191,3 +192,11 @@ tag_unknown m x e b (t, h, p) = no_tag_there (slice_get m.«module».tags x) t e
 pub one_tag : (m : Meaning) (x : ℕ) (b c : Signature) → IsTagIn m x b → IsTagIn m x c → Agree b c
 one_tag m x b c (t, e, p) (u, f, q) =
     let y : u ≡ t = one_type (slice_get m.«module».tags x) t u e f in same_signature t b c p (subst (λ (z : TypeTree). IsFunctionType z c) y q)
+
+-- ---- a type that was found has an index
+
+pub continues_index : (m : Meaning) (σ : State) (x : ℕ) (f : UnpackedIndex) → Continues m σ x f → x < length m.«module».types
+continues_index m σ x f c = used_within m σ x (TypeAt m x) c.0
+
+pub continuation_index : (m : Meaning) (σ : State) (x : ℕ) (ps rs : List ValType) → IsContinuation (here m σ) x (TypeAt m x) (signature m ps rs) → x < length m.«module».types
+continuation_index m σ x ps rs i = used_within m σ x (TypeAt m x) i.0

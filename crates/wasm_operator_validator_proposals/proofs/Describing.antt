@@ -1,5 +1,5 @@
 -- The rows of operators on descriptors.
-use Rattle.std.proofs.Common.{◌≡◌, ◌↔◌, ◌∙◌, ℕ, Bool, true, false, IsTrue, List, [], ◌∷◌, ◌++◌, map, Option, Some, None, option_map, option_and_then, slice_get, refl, sym, ap, subst, inl, inr, ◌⊎◌, ⊎_elim}
+use Rattle.std.proofs.Common.{◌≡◌, ◌↔◌, ◌∙◌, ◌<◌, ℕ, Bool, true, false, IsTrue, List, [], ◌∷◌, ◌++◌, map, length, Option, Some, None, option_map, option_and_then, slice_get, refl, sym, ap, subst, inl, inr, ◌⊎◌, ⊎_elim}
 use Rattle.std.proofs.lemmas.List.{map-append}
 use Rattle.wasm_types.specs.decoding.declared.error.ErrorKind.{ErrorKind}
 use Rattle.wasm_types.specs.decoding.Denials.{Denies}
@@ -46,6 +46,7 @@ use Rattle.wasm_operator_validator_stacks.specs.determined.laws.Usable.{fails}
 use Rattle.wasm_operator_validator_objects.specs.Rows.{here, taken_by, left_by}
 use Rattle.wasm_operator_validator_objects.specs.Found.{TypeAt, IsUsed, IsStruct, fields_in, struct_with, unpacked_fields, are_defaultable}
 use Rattle.wasm_operator_validator_objects.specs.Casts.{IsCastOf, IsNoCast}
+use Rattle.wasm_operator_validator_objects.proofs.Looking.{used_within}
 use Rattle.wasm_operator_validator_objects.proofs.Storing.{operands_in, defaults_in}
 use Rattle.wasm_operator_validator_objects.proofs.Casting.{as_named, one_heap, LabelAt, nothing_last, label_parts, same_types, IsTaken}
 use Rattle.wasm_operator_validator_proposals.specs.Named.{described_at, IsDescribedAt}
@@ -277,6 +278,9 @@ other_described r m σ ρ x d a v u c k b j p e i h g l n =
     by_case : (q : Bool) → Stands m a (described_of m x q) → ⊥
     by_case true z = fails c i h (subst (λ (t : ValueType). Stands m a (known t)) (sym e) z)
     by_case false z = fails k l n (subst (λ (t : ValueType). Stands m a (known t)) (sym g) z)
+
+pub described_index : (m : Meaning) (σ : State) (x : ℕ) (d : UnpackedIndex) → IsDescribedAt m σ x d → x < length m.«module».types
+described_index m σ x d j = used_within m σ x (TypeAt m x) j.0
 
 pub no_get_desc : (m : Meaning) (σ : State) (x : ℕ) → described_at m σ x ≡ None → HasNoRow m σ (get_desc x)
 no_get_desc m σ x n popped pushed (t, d, e, u, k, c) = no_such m σ x t d n u k

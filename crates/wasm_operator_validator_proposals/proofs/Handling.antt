@@ -1,5 +1,5 @@
 -- Handlers, and the rows of operators on continuations.
-use Rattle.std.proofs.Common.{◌≡◌, ◌↔◌, ◌∙◌, ◌<◌, ◌≤◌, ℕ, suc, Bool, true, false, IsTrue, List, [], ◌∷◌, ◌++◌, length, map, Option, Some, None, slice_get, refl, sym, ap, subst, arith, length-append}
+use Rattle.std.proofs.Common.{◌≡◌, ◌↔◌, ◌∙◌, ◌<◌, ◌≤◌, ℕ, suc, Bool, true, false, IsTrue, List, [], ◌∷◌, ◌++◌, ◌==◌, length, map, Option, Some, None, slice_get, refl, sym, ap, subst, arith, length-append}
 use Rattle.std.proofs.lemmas.List.{map-append, length-map}
 use Rattle.wasm_types.specs.trees.declared.index.UnpackedIndex.{UnpackedIndex}
 use Rattle.wasm_types.specs.trees.Types.{continuation, ref, concrete}
@@ -113,6 +113,10 @@ nothing_in m (p ∷ ps) e = cc
 pub emptied : (ps : List ValType) → length ps ≡ 0 → ps ≡ []
 emptied [] e = refl
 emptied (p ∷ ps) e = cc
+
+-- a test that a list is not empty
+pub not_empty : {xs : List ValType} (ps : List ValType) (b : Bool) → xs ≡ ps → b ≡ (length xs == 0) → b ≡ false → ps ≡ [] → ⊥
+not_empty ps b e f g h = let x : false ≡ true = sym g ∙ f ∙ ap (λ (ys : List ValType). length ys == 0) (e ∙ h) in cc
 
 abbrev carrying_none : List ValueType → Signature
 carrying_none ts = record { params = []; results = ts }

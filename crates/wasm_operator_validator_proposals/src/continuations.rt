@@ -6,7 +6,9 @@ ghost use Rattle.wasm_operator_validator_state.specs.Refusals.{refused};
 ghost use Rattle.wasm_operator_validator_state.specs.State.{Checks};
 
 use crate::handlers::check_handlers;
-use crate::naming::{continuation_at, continuation_in, continued_at, function_named, tag_at};
+use crate::naming::{
+    continuation_at, continuation_in, continued_at, function_named, reference_to, tag_at,
+};
 use crate::steps::exchange_above;
 use wasm_operator_validator_control::{are_below, exception_tag, exception_type};
 use wasm_operator_validator_objects::{reference_at, split_label};
@@ -14,7 +16,7 @@ use wasm_operator_validator_stacks::determined::{
     OperatorValidator, Proposal, Reason, Refusal, Space, WasmModuleResources,
 };
 use wasm_operators_immediates::ResumeTable;
-use wasm_types::{RefType, ValType};
+use wasm_types::ValType;
 
 /// `cont.new`: the continuation of a function.
 pub fn check_cont_new<R: WasmModuleResources>(
@@ -42,7 +44,7 @@ pub fn check_cont_new<R: WasmModuleResources>(
             });
         }
     }
-    let of = ValType::Ref(RefType::concrete(true, function));
+    let of = reference_to(true, false, function);
     let made = reference_at(resources, type_index, false, false);
     validator.exchange(resources, &[of], &[made])
 }

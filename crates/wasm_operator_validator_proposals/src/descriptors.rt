@@ -9,7 +9,7 @@ ghost use Rattle.wasm_operator_validator_state.specs.Refusals.{refused};
 ghost use Rattle.wasm_operator_validator_state.specs.State.{Checks};
 ghost use Rattle.wasm_operator_validator_proposals.specs.Descriptors.{CastsBy, BranchesOnCastBy, DescribesBy};
 
-use crate::naming::{descriptor_at, named_type};
+use crate::naming::{descriptor_at, named_type, reference_to};
 use crate::steps::{exchange_fields, exchange_last};
 use wasm_operator_validator_control::label_types;
 use wasm_operator_validator_objects::{
@@ -43,7 +43,7 @@ pub fn check_struct_new_desc<R: WasmModuleResources>(
         Ok(descriptor) => descriptor,
         Err(refusal) => return Err(refusal),
     };
-    let by = ValType::Ref(RefType::exact(true, descriptor));
+    let by = reference_to(true, true, descriptor);
     let made = allocated(validator, resources, type_index);
     exchange_fields(validator, resources, fields, &by, &made)
 }
@@ -72,7 +72,7 @@ pub fn check_struct_new_default_desc<R: WasmModuleResources>(
     if !are_defaultable(fields) {
         return Err(Refusal::Because(Reason::NotDefaultable));
     }
-    let by = ValType::Ref(RefType::exact(true, descriptor));
+    let by = reference_to(true, true, descriptor);
     let made = allocated(validator, resources, type_index);
     validator.exchange(resources, &[by], &[made])
 }
@@ -100,7 +100,7 @@ pub fn check_ref_get_desc<R: WasmModuleResources>(
     };
     let exact = reference_at(resources, type_index, true, true);
     if is_fit(resources, &found, &exact) {
-        let by = ValType::Ref(RefType::exact(false, descriptor));
+        let by = reference_to(false, true, descriptor);
         return validator.push_operands(resources, &[by]);
     }
     let declared = reference_at(resources, type_index, true, false);
@@ -110,7 +110,7 @@ pub fn check_ref_get_desc<R: WasmModuleResources>(
             found,
         });
     }
-    let by = ValType::Ref(RefType::concrete(false, descriptor));
+    let by = reference_to(false, false, descriptor);
     validator.push_operands(resources, &[by])
 }
 
@@ -125,11 +125,11 @@ fn described_by<R: WasmModuleResources>(
     match heap_type {
         HeapType::Abstract { shared: _, ty: _ } => None,
         HeapType::Concrete(index) => match descriptor_named(resources, index) {
-            Some(descriptor) => Some(ValType::Ref(RefType::concrete(true, descriptor))),
+            Some(descriptor) => Some(reference_to(true, false, descriptor)),
             None => None,
         },
         HeapType::Exact(index) => match descriptor_named(resources, index) {
-            Some(descriptor) => Some(ValType::Ref(RefType::exact(true, descriptor))),
+            Some(descriptor) => Some(reference_to(true, true, descriptor)),
             None => None,
         },
     }

@@ -8,8 +8,9 @@ ghost use Rattle.wasm_types.specs.trees.Trees.{TypeTree, opened, past_the_end};
 ghost use Rattle.wasm_types.specs.trees.Below.{expanded};
 ghost use Rattle.wasm_operator_validator_rules.specs.Context.{Signature, IsFunctionType};
 ghost use Rattle.wasm_operator_validator_rules.specs.Named.{used_type};
+ghost use Rattle.wasm_operator_validator_rules.specs.Descriptors.{of_type};
 ghost use Rattle.wasm_operator_validator_rules.specs.Continuations.{IsContinuation, IsContinuationType};
-ghost use Rattle.wasm_operator_validator_resources.specs.Meaning.{entry_in, named_type, type_in};
+ghost use Rattle.wasm_operator_validator_resources.specs.Meaning.{Meaning, entry_in, named_type, type_in};
 ghost use Rattle.wasm_operator_validator_objects.specs.Rows.{here};
 ghost use Rattle.wasm_operator_validator_objects.specs.Found.{TypeAt};
 ghost use Rattle.wasm_operator_validator_proposals.specs.Named.{signature, IsTagIn, IsDescribedAt, described_at};
@@ -20,7 +21,7 @@ use wasm_operator_validator_stacks::determined::{
     OperatorValidator, Reason, Refusal, Space, WasmModuleResources,
 };
 use wasm_types::{
-    CompositeInnerType, FuncType, HeapType, PackedIndex, SubType, UnpackedIndex, ValType,
+    CompositeInnerType, FuncType, HeapType, PackedIndex, RefType, SubType, UnpackedIndex, ValType,
 };
 
 // The type at an index of the module, if there is one.
@@ -180,6 +181,16 @@ pub(crate) fn tag_at<R: WasmModuleResources>(
             index: tag_index,
         }),
     }
+}
+
+/// A reference to what an index means, or exactly to it.
+pub(crate) fn reference_to(nullable: bool, exactly: bool, index: PackedIndex) -> ValType
+    ensures { (m : Meaning) → type_in m result ≡ ref nullable (of_type exactly (named_type m index)) }
+{
+    if exactly {
+        return ValType::Ref(RefType::exact(nullable, index));
+    }
+    ValType::Ref(RefType::concrete(nullable, index))
 }
 
 /// What describes the type at an index, by its index.

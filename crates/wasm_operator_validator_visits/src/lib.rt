@@ -20,7 +20,6 @@ mod simd_floats;
 mod simd_immediates;
 mod simd_narrow;
 mod simd_wide;
-mod unsupported;
 mod vectors;
 mod visitor;
 
