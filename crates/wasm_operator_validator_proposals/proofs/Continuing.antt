@@ -11,7 +11,6 @@ use Rattle.wasm_types.specs.values.declared.value.ValType.TheVariants as vals
 use Rattle.wasm_types.specs.values.Reference.{Reference}
 use Rattle.wasm_types.specs.values.ValueKinds.{reference_in}
 use Rattle.wasm_types.specs.fields.declared.func.FuncType.{FuncType}
-
 use Rattle.wasm_operator_validator_rules.specs.Context.{Signature, IsFunctionType}
 use Rattle.wasm_operator_validator_rules.specs.Named.{used_type}
 use Rattle.wasm_operator_validator_rules.specs.Continuations.{IsContinuationType, IsContinuation}

@@ -91,6 +91,7 @@ struct_used m σ x s e = of_used (used_type (here m σ) x) refl e
     of_fields : (t : TypeTree) (o : Option (List (FieldOf TypeTree))) → option_map (λ xs. record { type = t; fields = xs }) o ≡ Some s → t ≡ s.type
     of_fields t None f = cc
     of_fields t (Some xs) f = let g : record { type = t; fields = xs } ≡ s = cc in ap (λ (y : Struct). y.type) g
+
     of_used : (o : Option TypeTree) → used_type (here m σ) x ≡ o → option_and_then (λ t. option_map (λ xs. record { type = t; fields = xs }) (as_struct (expanded t))) o ≡ Some s
         → used_type (here m σ) x ≡ Some s.type
     of_used None f g = cc

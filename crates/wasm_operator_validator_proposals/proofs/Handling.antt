@@ -370,19 +370,19 @@ bind_row m σ x y os or ns nr bs es v w i j s k l e h popped pushed = rw (e, h) 
       (subst (λ (z : TypeTree). Binds ts (TypeAt m x) z popped pushed) g (subst (λ (z : TypeTree). Binds ts z u popped pushed) f r))
       ),
   λ r. (
-      TypeAt m x,
-      TypeAt m y,
-      types_in m bs,
-      record {
-        old = signature m os or;
-        old_named = i;
-        new = signature m ns nr;
-        new_named = j;
-        rest = types_in m es;
-        params = ap (types_in m) s.0 ∙ map-append (type_in m) bs es;
-        fits = (k, l);
-      },
-      r,
+    TypeAt m x,
+    TypeAt m y,
+    types_in m bs,
+    record {
+      old = signature m os or;
+      old_named = i;
+      new = signature m ns nr;
+      new_named = j;
+      rest = types_in m es;
+      params = ap (types_in m) s.0 ∙ map-append (type_in m) bs es;
+      fits = (k, l);
+    },
+    r,
   ),
 )
 
@@ -448,21 +448,21 @@ switch_row m σ x y ns nr os v us ws ps qs r i e (n, u, a, k) g z p q h popped p
       (subst (λ (xs : List ValueType). Goes xs (TypeAt m x) own.params popped pushed) w.0 (subst (λ (y : TypeTree). Goes ts y own.params popped pushed) f c))
       ),
   λ c. (
-      TypeAt m x,
-      types_in m os,
-      signature m us ws,
-      record {
-        next = signature m ns nr;
-        next_named = i;
-        nullable = n;
-        left = u;
-        params = ap (types_in m) e ∙ map-append (type_in m) os (v ∷ []) ∙ ap (λ (y : ValueType). types_in m os ++ y ∷ []) a;
-        goes_on = k;
-        tag = types_in m qs;
-        tag_named = tag_empty m y ps qs g z;
-        fits = p;
-        back = q;
-      },
-      c,
+    TypeAt m x,
+    types_in m os,
+    signature m us ws,
+    record {
+      next = signature m ns nr;
+      next_named = i;
+      nullable = n;
+      left = u;
+      params = ap (types_in m) e ∙ map-append (type_in m) os (v ∷ []) ∙ ap (λ (y : ValueType). types_in m os ++ y ∷ []) a;
+      goes_on = k;
+      tag = types_in m qs;
+      tag_named = tag_empty m y ps qs g z;
+      fits = p;
+      back = q;
+    },
+    c,
   ),
 )

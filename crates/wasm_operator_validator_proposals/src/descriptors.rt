@@ -115,10 +115,7 @@ pub fn check_ref_get_desc<R: WasmModuleResources>(
 }
 
 // What describes the type at an index, if something does.
-fn described_by<R: WasmModuleResources>(
-    resources: &R,
-    heap_type: HeapType,
-) -> Option<ValType>
+fn described_by<R: WasmModuleResources>(resources: &R, heap_type: HeapType) -> Option<ValType>
     ensures { MatchOption result (descriptor_of (heap_in (R.meaning resources.now) heap_type) ≡ None)
         (λ t. DescribesBy (R.meaning resources.now) heap_type t) }
 {
@@ -220,5 +217,11 @@ pub fn check_br_on_cast_desc_eq<R: WasmModuleResources>(
     if !resources.is_subtype(taken, last) {
         return Err(Refusal::Because(Reason::CastLabel));
     }
-    exchange_last(validator, resources, others, &[ValType::Ref(first), by], &left)
+    exchange_last(
+        validator,
+        resources,
+        others,
+        &[ValType::Ref(first), by],
+        &left,
+    )
 }

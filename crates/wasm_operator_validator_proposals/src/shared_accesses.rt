@@ -42,7 +42,15 @@ pub fn check_global_access<R: WasmModuleResources>(
         Ok(global) => global,
         Err(refusal) => return Err(refusal),
     };
-    check_access(validator, resources, &op, access, &[], &global, Reason::ImmutableGlobal)
+    check_access(
+        validator,
+        resources,
+        &op,
+        access,
+        &[],
+        &global,
+        Reason::ImmutableGlobal,
+    )
 }
 
 /// An atomic access to an element of the table at an index.
@@ -64,7 +72,15 @@ pub fn check_table_access<R: WasmModuleResources>(
         Ok(found) => found,
         Err(refusal) => return Err(refusal),
     };
-    check_access(validator, resources, &op, access, &[index], &element, Reason::ImmutableArray)
+    check_access(
+        validator,
+        resources,
+        &op,
+        access,
+        &[index],
+        &element,
+        Reason::ImmutableArray,
+    )
 }
 
 /// An atomic access to a field of the struct type at an index.
@@ -87,7 +103,15 @@ pub fn check_field_access<R: WasmModuleResources>(
         Ok(found) => found,
         Err(refusal) => return Err(refusal),
     };
-    check_access(validator, resources, &op, access, &[reference], &field, Reason::ImmutableField)
+    check_access(
+        validator,
+        resources,
+        &op,
+        access,
+        &[reference],
+        &field,
+        Reason::ImmutableField,
+    )
 }
 
 /// An atomic access to an element of the array type at an index.
@@ -110,7 +134,15 @@ pub fn check_element_access<R: WasmModuleResources>(
         Err(refusal) => return Err(refusal),
     };
     let reached = &[reference, ValType::I32];
-    check_access(validator, resources, &op, access, reached, &element, Reason::ImmutableArray)
+    check_access(
+        validator,
+        resources,
+        &op,
+        access,
+        reached,
+        &element,
+        Reason::ImmutableArray,
+    )
 }
 
 /// `ref.i31_shared`.
@@ -202,7 +234,13 @@ fn exchange_stored<R: WasmModuleResources>(
             exchange_above(validator, resources, reached, &[*stored], &[*stored])
         }
         AtomicAccess::Compares => {
-            exchange_above(validator, resources, reached, &[*stored, *stored], &[*stored])
+            exchange_above(
+                validator,
+                resources,
+                reached,
+                &[*stored, *stored],
+                &[*stored],
+            )
         }
     }
 }

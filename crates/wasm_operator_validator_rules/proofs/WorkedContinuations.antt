@@ -201,19 +201,19 @@ handlers_worked = record {
     taking [] (full_cell ∷ []),
     (refl, (_, refl, refl)),
     (
-    record {
-      tag = taking (full_cell ∷ []) (null_cell ∷ []);
-      tag_named = (_, refl, refl);
-      carried = null_cell ∷ [];
-      nullable = false;
-      left = full_to_null;
-      label = refl;
-      fits = ((tt, itself), tt);
-      rest = taking (full_cell ∷ []) (null_cell ∷ []);
-      goes_on = (_, refl, refl);
-      matches = (((tt, itself), tt), ((tt, itself), tt));
-    },
-    tt,
+      record {
+        tag = taking (full_cell ∷ []) (null_cell ∷ []);
+        tag_named = (_, refl, refl);
+        carried = null_cell ∷ [];
+        nullable = false;
+        left = full_to_null;
+        label = refl;
+        fits = ((tt, itself), tt);
+        rest = taking (full_cell ∷ []) (null_cell ∷ []);
+        goes_on = (_, refl, refl);
+        matches = (((tt, itself), tt), ((tt, itself), tt));
+      },
+      tt,
     ),
     (refl, refl),
   );
@@ -265,6 +265,7 @@ handlers_worked = record {
       goes_on = (_, refl, refl);
       matches = ((refl, tt), (refl, tt));
     }
+
     otherwise : (t : TypeTree) (b : Signature) → IsContinuation there 0 t b → IsCaught (below (number i64 ∷ to resumed_otherwise ∷ [])) b.results 1 0 → ⊥
     otherwise t b n h =
         let l = left_agrees resumed_otherwise (number i64) h.carried h.nullable h.left h.rest (taking (number f64 ∷ []) (number i64 ∷ [])) h.label (_, refl, refl) h.goes_on in

@@ -161,7 +161,14 @@ impl<'a, 'v, 'r, R: WasmModuleResources, A: AnswerAs> VisitShared<'a>
             field_index,
         };
         let access = AtomicAccess::Reads;
-        let checked = check_field_access(self.inner, self.resources, op, access, struct_type_index, field_index);
+        let checked = check_field_access(
+            self.inner,
+            self.resources,
+            op,
+            access,
+            struct_type_index,
+            field_index,
+        );
         self.tell(checked)
     }
 
@@ -177,7 +184,14 @@ impl<'a, 'v, 'r, R: WasmModuleResources, A: AnswerAs> VisitShared<'a>
             field_index,
         };
         let access = AtomicAccess::ReadsPacked;
-        let checked = check_field_access(self.inner, self.resources, op, access, struct_type_index, field_index);
+        let checked = check_field_access(
+            self.inner,
+            self.resources,
+            op,
+            access,
+            struct_type_index,
+            field_index,
+        );
         self.tell(checked)
     }
 
@@ -193,7 +207,14 @@ impl<'a, 'v, 'r, R: WasmModuleResources, A: AnswerAs> VisitShared<'a>
             field_index,
         };
         let access = AtomicAccess::ReadsPacked;
-        let checked = check_field_access(self.inner, self.resources, op, access, struct_type_index, field_index);
+        let checked = check_field_access(
+            self.inner,
+            self.resources,
+            op,
+            access,
+            struct_type_index,
+            field_index,
+        );
         self.tell(checked)
     }
 
@@ -209,7 +230,14 @@ impl<'a, 'v, 'r, R: WasmModuleResources, A: AnswerAs> VisitShared<'a>
             field_index,
         };
         let access = AtomicAccess::Writes;
-        let checked = check_field_access(self.inner, self.resources, op, access, struct_type_index, field_index);
+        let checked = check_field_access(
+            self.inner,
+            self.resources,
+            op,
+            access,
+            struct_type_index,
+            field_index,
+        );
         self.tell(checked)
     }
 
@@ -225,7 +253,14 @@ impl<'a, 'v, 'r, R: WasmModuleResources, A: AnswerAs> VisitShared<'a>
             field_index,
         };
         let access = AtomicAccess::Modifies;
-        let checked = check_field_access(self.inner, self.resources, op, access, struct_type_index, field_index);
+        let checked = check_field_access(
+            self.inner,
+            self.resources,
+            op,
+            access,
+            struct_type_index,
+            field_index,
+        );
         self.tell(checked)
     }
 
@@ -241,7 +276,14 @@ impl<'a, 'v, 'r, R: WasmModuleResources, A: AnswerAs> VisitShared<'a>
             field_index,
         };
         let access = AtomicAccess::Modifies;
-        let checked = check_field_access(self.inner, self.resources, op, access, struct_type_index, field_index);
+        let checked = check_field_access(
+            self.inner,
+            self.resources,
+            op,
+            access,
+            struct_type_index,
+            field_index,
+        );
         self.tell(checked)
     }
 
@@ -257,7 +299,14 @@ impl<'a, 'v, 'r, R: WasmModuleResources, A: AnswerAs> VisitShared<'a>
             field_index,
         };
         let access = AtomicAccess::Modifies;
-        let checked = check_field_access(self.inner, self.resources, op, access, struct_type_index, field_index);
+        let checked = check_field_access(
+            self.inner,
+            self.resources,
+            op,
+            access,
+            struct_type_index,
+            field_index,
+        );
         self.tell(checked)
     }
 
@@ -273,7 +322,14 @@ impl<'a, 'v, 'r, R: WasmModuleResources, A: AnswerAs> VisitShared<'a>
             field_index,
         };
         let access = AtomicAccess::Modifies;
-        let checked = check_field_access(self.inner, self.resources, op, access, struct_type_index, field_index);
+        let checked = check_field_access(
+            self.inner,
+            self.resources,
+            op,
+            access,
+            struct_type_index,
+            field_index,
+        );
         self.tell(checked)
     }
 
@@ -289,7 +345,14 @@ impl<'a, 'v, 'r, R: WasmModuleResources, A: AnswerAs> VisitShared<'a>
             field_index,
         };
         let access = AtomicAccess::Modifies;
-        let checked = check_field_access(self.inner, self.resources, op, access, struct_type_index, field_index);
+        let checked = check_field_access(
+            self.inner,
+            self.resources,
+            op,
+            access,
+            struct_type_index,
+            field_index,
+        );
         self.tell(checked)
     }
 
@@ -305,7 +368,14 @@ impl<'a, 'v, 'r, R: WasmModuleResources, A: AnswerAs> VisitShared<'a>
             field_index,
         };
         let access = AtomicAccess::Exchanges;
-        let checked = check_field_access(self.inner, self.resources, op, access, struct_type_index, field_index);
+        let checked = check_field_access(
+            self.inner,
+            self.resources,
+            op,
+            access,
+            struct_type_index,
+            field_index,
+        );
         self.tell(checked)
     }
 
@@ -321,7 +391,14 @@ impl<'a, 'v, 'r, R: WasmModuleResources, A: AnswerAs> VisitShared<'a>
             field_index,
         };
         let access = AtomicAccess::Compares;
-        let checked = check_field_access(self.inner, self.resources, op, access, struct_type_index, field_index);
+        let checked = check_field_access(
+            self.inner,
+            self.resources,
+            op,
+            access,
+            struct_type_index,
+            field_index,
+        );
         self.tell(checked)
     }
 
@@ -331,7 +408,13 @@ impl<'a, 'v, 'r, R: WasmModuleResources, A: AnswerAs> VisitShared<'a>
             array_type_index,
         };
         let access = AtomicAccess::Reads;
-        let checked = check_element_access(self.inner, self.resources, op, access, array_type_index);
+        let checked = check_element_access(
+            self.inner,
+            self.resources,
+            op,
+            access,
+            array_type_index,
+        );
         self.tell(checked)
     }
 
@@ -341,7 +424,13 @@ impl<'a, 'v, 'r, R: WasmModuleResources, A: AnswerAs> VisitShared<'a>
             array_type_index,
         };
         let access = AtomicAccess::ReadsPacked;
-        let checked = check_element_access(self.inner, self.resources, op, access, array_type_index);
+        let checked = check_element_access(
+            self.inner,
+            self.resources,
+            op,
+            access,
+            array_type_index,
+        );
         self.tell(checked)
     }
 
@@ -351,7 +440,13 @@ impl<'a, 'v, 'r, R: WasmModuleResources, A: AnswerAs> VisitShared<'a>
             array_type_index,
         };
         let access = AtomicAccess::ReadsPacked;
-        let checked = check_element_access(self.inner, self.resources, op, access, array_type_index);
+        let checked = check_element_access(
+            self.inner,
+            self.resources,
+            op,
+            access,
+            array_type_index,
+        );
         self.tell(checked)
     }
 
@@ -361,7 +456,13 @@ impl<'a, 'v, 'r, R: WasmModuleResources, A: AnswerAs> VisitShared<'a>
             array_type_index,
         };
         let access = AtomicAccess::Writes;
-        let checked = check_element_access(self.inner, self.resources, op, access, array_type_index);
+        let checked = check_element_access(
+            self.inner,
+            self.resources,
+            op,
+            access,
+            array_type_index,
+        );
         self.tell(checked)
     }
 
@@ -375,7 +476,13 @@ impl<'a, 'v, 'r, R: WasmModuleResources, A: AnswerAs> VisitShared<'a>
             array_type_index,
         };
         let access = AtomicAccess::Modifies;
-        let checked = check_element_access(self.inner, self.resources, op, access, array_type_index);
+        let checked = check_element_access(
+            self.inner,
+            self.resources,
+            op,
+            access,
+            array_type_index,
+        );
         self.tell(checked)
     }
 
@@ -389,7 +496,13 @@ impl<'a, 'v, 'r, R: WasmModuleResources, A: AnswerAs> VisitShared<'a>
             array_type_index,
         };
         let access = AtomicAccess::Modifies;
-        let checked = check_element_access(self.inner, self.resources, op, access, array_type_index);
+        let checked = check_element_access(
+            self.inner,
+            self.resources,
+            op,
+            access,
+            array_type_index,
+        );
         self.tell(checked)
     }
 
@@ -403,7 +516,13 @@ impl<'a, 'v, 'r, R: WasmModuleResources, A: AnswerAs> VisitShared<'a>
             array_type_index,
         };
         let access = AtomicAccess::Modifies;
-        let checked = check_element_access(self.inner, self.resources, op, access, array_type_index);
+        let checked = check_element_access(
+            self.inner,
+            self.resources,
+            op,
+            access,
+            array_type_index,
+        );
         self.tell(checked)
     }
 
@@ -417,7 +536,13 @@ impl<'a, 'v, 'r, R: WasmModuleResources, A: AnswerAs> VisitShared<'a>
             array_type_index,
         };
         let access = AtomicAccess::Modifies;
-        let checked = check_element_access(self.inner, self.resources, op, access, array_type_index);
+        let checked = check_element_access(
+            self.inner,
+            self.resources,
+            op,
+            access,
+            array_type_index,
+        );
         self.tell(checked)
     }
 
@@ -431,7 +556,13 @@ impl<'a, 'v, 'r, R: WasmModuleResources, A: AnswerAs> VisitShared<'a>
             array_type_index,
         };
         let access = AtomicAccess::Modifies;
-        let checked = check_element_access(self.inner, self.resources, op, access, array_type_index);
+        let checked = check_element_access(
+            self.inner,
+            self.resources,
+            op,
+            access,
+            array_type_index,
+        );
         self.tell(checked)
     }
 
@@ -445,7 +576,13 @@ impl<'a, 'v, 'r, R: WasmModuleResources, A: AnswerAs> VisitShared<'a>
             array_type_index,
         };
         let access = AtomicAccess::Exchanges;
-        let checked = check_element_access(self.inner, self.resources, op, access, array_type_index);
+        let checked = check_element_access(
+            self.inner,
+            self.resources,
+            op,
+            access,
+            array_type_index,
+        );
         self.tell(checked)
     }
 
@@ -459,7 +596,13 @@ impl<'a, 'v, 'r, R: WasmModuleResources, A: AnswerAs> VisitShared<'a>
             array_type_index,
         };
         let access = AtomicAccess::Compares;
-        let checked = check_element_access(self.inner, self.resources, op, access, array_type_index);
+        let checked = check_element_access(
+            self.inner,
+            self.resources,
+            op,
+            access,
+            array_type_index,
+        );
         self.tell(checked)
     }
 
