@@ -115,3 +115,14 @@ closing_no_vectors m w pushed (o ∷ outer) set os off (s, covers, (c, rest, i, 
 -- what may come has none
 pub accepted_no_vectors : (m : Meaning) (σ : State) (os : List Op) → judges_vectors σ.given.bits ≡ false → Accepts m σ os → HasNoVectors os
 accepted_no_vectors m σ os off (f, x) = closing_no_vectors m σ.given [] σ.opens (initialised m σ.given σ.inits) os off x
+
+pub accepted_have_no_vectors : AcceptedHaveNoVectors
+accepted_have_no_vectors m σ os below = accepted_no_vectors m σ os (asked_apart σ.given.bits below)
+
+pub bodies_have_no_vectors : BodiesHaveNoVectors
+bodies_have_no_vectors g params c below h = typed_no_vectors (inside frames.Block g.results g) (record {
+    kind = frames.Block;
+    block = record { params = []; results = g.results };
+    before =
+        initialised_at_first params g.locals;
+  }) (initialised_at_first params g.locals) frames.Block c [] (asked_apart g.bits below) h.expression h.typed
