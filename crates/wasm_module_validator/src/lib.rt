@@ -22,7 +22,9 @@ pub mod soundness;
 mod types;
 mod validator;
 
-pub use laws::{ids_stay, lists_are_worked, states_are_worked, validators_begin};
+pub use laws::{
+    ids_stay, lists_are_worked, states_are_worked, validators_begin, vectors_are_asked_for,
+};
 pub use lists::Verdict;
 pub use payloads::ValidPayload;
 pub use types::Types;

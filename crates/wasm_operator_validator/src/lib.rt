@@ -23,7 +23,8 @@
 //! visitor.visit_i32_const(42)?;
 //! ```
 //!
-//! It is a [`ValidatingVisitor`], whose visits answer as their `answer` says: [`AsRefusal`] answers in few bytes, without a text.
+//! It is a [`ValidatingVisitor`], whose visits answer as their `answer` says: [`AsRefusal`] answers in few bytes, without a text. Operators on
+//! vectors it is told by `simd` and `simd_numeric`, or, visit by visit, in a [`ValidatingSimdVisitor`].
 //!
 //! [`check_const_expr`] judges a whole constant expression, and [`new_const_expr`] makes the validator of one.
 //!
@@ -45,6 +46,7 @@ pub use wasm_operator_validator_driver::{
     BlockType, Frame, FrameKind, LocalInits, Locals, MaybeType, OperatorValidator,
     OperatorValidatorAllocations, WasmModuleResources, validate_expression,
 };
+pub use wasm_operator_validator_simd_visits::ValidatingSimdVisitor;
 pub use wasm_operator_validator_soundness::accepted::accepted_bodies_are_sound;
 pub use wasm_operator_validator_stacks::new_func;
 pub use wasm_operator_validator_state::attempts::{
