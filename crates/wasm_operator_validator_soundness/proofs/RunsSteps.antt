@@ -9,6 +9,7 @@ use Rattle.wasm_operators_encoding.specs.expressions.Code.{Code, close, plain, n
 use Rattle.wasm_operator_validator_rules.specs.Operands.{ValueType, Operand, AllBelow, stack}
 use Rattle.wasm_operator_validator_rules.specs.Context.{Context, Initialised, Frame, initialised_at_first}
 use Rattle.wasm_operator_validator_rules.specs.Numbers.{class_of, taken_by, given_by, constant_type}
+use Rattle.wasm_operator_validator_rules.specs.Vectors.{work_of}
 use Rattle.wasm_operator_validator_rules.specs.Row.{GroupRow, after, IsEnabled}
 use Rattle.wasm_operator_validator_rules.specs.Typed.{Typed}
 use Rattle.wasm_operator_validator_soundness.specs.runs.Values.{Body, Function, Program, Value, AllFit}
@@ -19,7 +20,7 @@ use Rattle.wasm_operator_validator_soundness.specs.runs.Machine.{operate, end, e
 use Rattle.wasm_operator_validator_soundness.specs.runs.Soundness.{HasValidBody, IsValidProgram, step, Runs, EndsWell, IsNeverStuck, ProgramsAreSound, StepsAreSound, StartsAreValid, evaluated, ConstantsAreValid, ConstantsAreSound, AncestorsAreSound}
 use Rattle.wasm_operator_validator_soundness.proofs.RunsFitting.{all_below}
 use Rattle.wasm_operator_validator_soundness.specs.runs.ValidStates.{AreSet, Around, around_of}
-use Rattle.wasm_operator_validator_soundness.proofs.RunsInvariant.{none_is_some, some_same}
+use Rattle.wasm_operator_validator_soundness.proofs.RunsInvariant.{some_same}
 use Rattle.wasm_operator_validator_soundness.specs.runs.ValidStates.{IsValidState, IsValidOutcome}
 use Rattle.wasm_operator_validator_soundness.proofs.RunsInvariant.{here, IsOkay}
 use Rattle.wasm_operator_validator_soundness.proofs.Objects.{field_through, matches_along}
@@ -28,8 +29,8 @@ use Rattle.wasm_operator_validator_soundness.proofs.RunsLeaving.{initially_set, 
 use Rattle.wasm_operator_validator_soundness.proofs.Values.{calls_through, no_descriptors, no_sharing, no_switching, results_below}
 use Rattle.wasm_operator_validator_soundness.proofs.Standing.{compute_okay, table_of, Here}
 use Rattle.wasm_operator_validator_soundness.proofs.Calling.{control_okay}
-use Rattle.wasm_operator_validator_soundness.proofs.Operating.{atomic_okay, bulk_okay, memory_okay, parametric_okay}
-use Rattle.wasm_operator_validator_soundness.proofs.Names.{numeric_says, constant_says}
+use Rattle.wasm_operator_validator_soundness.proofs.Operating.{atomic_okay, bulk_okay, lanes_okay, memory_okay, parametric_okay, vector_okay}
+use Rattle.wasm_operator_validator_soundness.proofs.Names.{numeric_says, constant_says, work_says}
 use Rattle.wasm_operator_validator_soundness.proofs.Throwing.{exception_okay}
 use Rattle.wasm_operator_validator_soundness.proofs.Making.{gc_okay}
 use Rattle.wasm_operator_validator_soundness.proofs.Entering.{enter_okay}
@@ -86,8 +87,8 @@ module _ (p : Program) (valid : IsValidProgram p) (final : List ValueType) (a : 
       compute_okay p valid final a act acts h (op.Const o) [] (constant_type o ∷ []) more popped pushed rest m (constant_says o) (table_of p valid final a act acts h (op.Const o) _ popped pushed refl r) b e t
   operate_okay (op.Numeric o) more popped pushed rest m n r b e t =
       compute_okay p valid final a act acts h (op.Numeric o) (taken_by (class_of o)) (given_by (class_of o)) more popped pushed rest m (numeric_says o) (table_of p valid final a act acts h (op.Numeric o) _ popped pushed refl r) b e t
-  operate_okay (op.Simd o) more popped pushed rest m n r b e t = absurd (none_is_some r.0 r.1)
-  operate_okay (op.SimdNumeric o) more popped pushed rest m n r b e t = absurd (none_is_some r.0 r.1)
+  operate_okay (op.Simd o) more popped pushed rest m n r b e t = vector_okay p valid final a act acts h (op.Simd o) (work_of o) (work_says o) more popped pushed rest m r.0 r.1 r.2 b e t
+  operate_okay (op.SimdNumeric o) more popped pushed rest m n r b e t = lanes_okay p valid final a act acts h o more popped pushed rest m r b e t
   operate_okay (op.Atomic o) more popped pushed rest m n r b e t = atomic_okay p valid final a act acts h o more popped pushed rest m r b e t
   operate_okay (op.Descriptor o) more popped pushed rest m n r b e t = absurd (no_descriptors p.bits valid.standard o n)
   operate_okay (op.Shared o) more popped pushed rest m n r b e t = absurd (no_sharing p.bits valid.standard o n)
