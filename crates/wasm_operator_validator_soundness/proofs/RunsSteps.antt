@@ -17,7 +17,7 @@ use Rattle.wasm_operator_validator_soundness.specs.runs.States.{Activation, Stat
 use Rattle.wasm_operator_validator_soundness.specs.runs.States.{Outcome, next, returned, trapped, thrown, stuck, Move}
 use Rattle.wasm_operator_validator_soundness.specs.runs.Machine.{label_at}
 use Rattle.wasm_operator_validator_soundness.specs.runs.Machine.{operate, end, execute}
-use Rattle.wasm_operator_validator_soundness.specs.runs.Soundness.{HasValidBody, IsValidProgram, step, Runs, EndsWell, IsNeverStuck, ProgramsAreSound, StepsAreSound, StartsAreValid, evaluated, ConstantsAreValid, ConstantsAreSound, AncestorsAreSound}
+use Rattle.wasm_operator_validator_soundness.specs.runs.Soundness.{HasValidBody, IsValidProgram, step, Runs, EndsWell, IsNeverStuck, ProgramsAreSound, ProgramsStayValid, StepsAreSound, StartsAreValid, evaluated, ConstantsAreValid, ConstantsAreSound, AncestorsAreSound}
 use Rattle.wasm_operator_validator_soundness.proofs.RunsFitting.{all_below}
 use Rattle.wasm_operator_validator_soundness.specs.runs.ValidStates.{AreSet, Around, around_of}
 use Rattle.wasm_operator_validator_soundness.proofs.RunsInvariant.{some_same}
@@ -26,7 +26,7 @@ use Rattle.wasm_operator_validator_soundness.proofs.RunsInvariant.{here, IsOkay}
 use Rattle.wasm_operator_validator_soundness.proofs.Objects.{field_through, matches_along}
 use Rattle.wasm_operator_validator_soundness.proofs.Combining.{asks_okay, found_okay}
 use Rattle.wasm_operator_validator_soundness.proofs.RunsLeaving.{initially_set, come_out_okay, begun_awaits, standard_links}
-use Rattle.wasm_operator_validator_soundness.proofs.Values.{calls_through, no_descriptors, no_sharing, no_switching, results_below}
+use Rattle.wasm_operator_validator_soundness.proofs.Values.{calls_through, never_enabled, results_below}
 use Rattle.wasm_operator_validator_soundness.proofs.Standing.{compute_okay, table_of, Here}
 use Rattle.wasm_operator_validator_soundness.proofs.Calling.{control_okay}
 use Rattle.wasm_operator_validator_soundness.proofs.Operating.{atomic_okay, bulk_okay, lanes_okay, memory_okay, parametric_okay, vector_okay}
@@ -90,9 +90,9 @@ module _ (p : Program) (valid : IsValidProgram p) (final : List ValueType) (a : 
   operate_okay (op.Simd o) more popped pushed rest m n r b e t = vector_okay p valid final a act acts h (op.Simd o) (work_of o) (work_says o) more popped pushed rest m r.0 r.1 r.2 b e t
   operate_okay (op.SimdNumeric o) more popped pushed rest m n r b e t = lanes_okay p valid final a act acts h o more popped pushed rest m r b e t
   operate_okay (op.Atomic o) more popped pushed rest m n r b e t = atomic_okay p valid final a act acts h o more popped pushed rest m r b e t
-  operate_okay (op.Descriptor o) more popped pushed rest m n r b e t = absurd (no_descriptors p.bits valid.standard o n)
-  operate_okay (op.Shared o) more popped pushed rest m n r b e t = absurd (no_sharing p.bits valid.standard o n)
-  operate_okay (op.Continuation o) more popped pushed rest m n r b e t = absurd (no_switching p.bits valid.standard o n)
+  operate_okay (op.Descriptor o) more popped pushed rest m n r b e t = absurd (never_enabled p.bits valid.standard (op.Descriptor o) tt n)
+  operate_okay (op.Shared o) more popped pushed rest m n r b e t = absurd (never_enabled p.bits valid.standard (op.Shared o) tt n)
+  operate_okay (op.Continuation o) more popped pushed rest m n r b e t = absurd (never_enabled p.bits valid.standard (op.Continuation o) tt n)
 
   -- ---- all instructions
 
@@ -162,6 +162,9 @@ run_sound p results s v i answers t a r given =
 
 pub programs_sound : ProgramsAreSound
 programs_sound p s results v i = run_sound p results s v (starts_valid p s results v i)
+
+pub programs_stay_valid : ProgramsStayValid
+programs_stay_valid p s results v i answers t r = runs_stay_valid p results s answers t v (starts_valid p s results v i) r
 
 pub steps_sound : StepsAreSound
 steps_sound p results s a v i given = (step_okay p results s a v i).okay given
