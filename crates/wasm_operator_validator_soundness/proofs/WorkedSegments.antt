@@ -147,10 +147,10 @@ module _ (x : ℤ) where
     filling_from = starts 1 (filling x) refl;
     storing_from = starts 2 (storing x) refl;
     copying_from = starts 3 (copying x) refl;
-    read = (_, (_, (((tt, refl), tt), tt), refl, (_, (((tt, refl), tt), tt), refl, (_, (((tt, refl), tt), tt), refl, (_, tt, refl, (_, tt, refl, (_, (((tt, refl), tt), tt), refl, (_, (((tt, refl), tt), tt), refl, refl))))))), tt, refl);
+    read = (_, (_, (((tt, refl), tt), tt), refl, (_, (((tt, refl), tt), tt), refl, (_, (((tt, refl), tt), tt), refl, (_, (tt, tt), refl, (_, tt, refl, (_, (((tt, refl), tt), tt), refl, (_, (((tt, refl), tt), tt), refl, refl))))))), tt, refl);
     read_trapped = (_, (_, (((tt, refl), tt), tt), refl, (_, (((tt, refl), tt), tt), refl, (_, (((tt, refl), tt), tt), refl, refl))), tt, refl);
     filled = (_, (_, (((tt, refl), tt), tt), refl, (_, tt, refl, (_, (((tt, refl), tt), tt), refl, (_, (((tt, refl), tt), tt), refl, (_, (((tt, refl), tt), tt), refl, (_, tt, refl, (_, (((tt, refl), tt), tt), refl, refl))))))), tt, refl);
-    stored = (_, (_, (((tt, refl), tt), tt), refl, (_, tt, refl, (_, (((tt, refl), tt), tt), refl, (_, (((tt, refl), tt), tt), refl, (_, (((tt, refl), tt), tt), refl, (_, (((tt, (tt, (refl, nofunc_func))), ((tt, (tt, (refl, same))), tt)), tt), refl, (_, (((tt, refl), tt), tt), refl, refl))))))), tt, refl);
+    stored = (_, (_, (((tt, refl), tt), tt), refl, (_, tt, refl, (_, (((tt, refl), tt), tt), refl, (_, (((tt, refl), tt), tt), refl, (_, (((tt, refl), tt), tt), refl, (_, (((tt, (tt, (refl, nofunc_func))), ((tt, (tt, (refl, nofunc_func))), tt)), tt), refl, (_, (((tt, refl), tt), tt), refl, refl))))))), tt, refl);
     copied = (_, (_, (((tt, refl), tt), tt), refl, (_, tt, refl, (_, (((tt, refl), tt), tt), refl, (_, (((tt, refl), tt), tt), refl, (_, tt, refl, (_, (((tt, refl), tt), tt), refl, (_, (((tt, refl), tt), tt), refl, (_, (((tt, refl), ((tt, refl), tt)), tt), refl, (_, (((tt, refl), tt), tt), refl, refl))))))))), tt, refl);
     copy_trapped = (_, (_, (((tt, refl), tt), tt), refl, (_, tt, refl, (_, (((tt, refl), tt), tt), refl, (_, (((tt, refl), tt), tt), refl, (_, tt, refl, (_, (((tt, refl), tt), tt), refl, (_, (((tt, refl), tt), tt), refl, refl))))))), tt, refl);
   }

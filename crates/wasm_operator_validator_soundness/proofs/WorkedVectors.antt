@@ -118,5 +118,5 @@ module _ (x : ℤ) (c : V128) where
     no_number = λ f. subst IsVector f.1 tt;
     added = (_, (_, (((tt, refl), tt), tt), refl, (_, (((tt, refl), tt), tt), refl, (_, (((tt, refl), tt), tt), refl, (_, (((tt, refl), tt), tt), refl, (_, (((tt, refl), tt), tt), refl, (_, (((tt, refl), tt), tt), refl, (_, (((tt, refl), tt), tt), refl, refl))))))), tt, refl);
     added_trapped = (_, (_, (((tt, refl), tt), tt), refl, (_, (((tt, refl), tt), tt), refl, refl)), tt, refl);
-    moved = (_, (_, (((tt, refl), tt), tt), refl, (_, (((tt, refl), tt), tt), refl, (_, (((tt, refl), tt), tt), refl, (_, (((tt, refl), tt), tt), refl, (_, tt, refl, (_, (((tt, refl), tt), tt), refl, refl)))))), tt, refl);
+    moved = (_, (_, (((tt, refl), tt), tt), refl, (_, (((tt, refl), tt), tt), refl, (_, (((tt, refl), tt), tt), refl, (_, (((tt, refl), tt), tt), refl, (_, (tt, tt), refl, (_, (((tt, refl), tt), tt), refl, refl)))))), tt, refl);
   }
