@@ -2,10 +2,13 @@
  *
  * PROVED, of the library's source: durskeyl_validate answers DURSKEYL_VALID only if the bytes spell a module that is valid by the written
  * rules under the settings (docs/SPECIFICATION.md names them), and a kind that is a verdict only if they do not; fault->kind is that
- * answer; the text ends in a 0. durskeyl_imports and durskeyl_exports, of bytes that durskeyl_validate accepted by whatever settings: how
- * many there are, and in each row the names, the kind and the index that the module has, in its order; of any other bytes, that the names of
- * all rows that were written lie in the bytes, unless the answer is DURSKEYL_NO_MODULE. All calls end on all bytes, read only
- * what they are given, and write only the fault or the rows. No call depends on an earlier one, keeps anything, or leaves anything to free.
+ * answer; the text ends in a 0. A module that is accepted runs soundly: if the features are those of the standard, so without bits 9, 23
+ * and 27 (shared everything, stack switching, custom descriptors), no run of it is stuck, whatever its host and its memory answer;
+ * docs/SOUNDNESS.md says which checks a compiler may leave out. durskeyl_imports and durskeyl_exports, of bytes that durskeyl_validate
+ * accepted by whatever settings: how many there are, and in each row the names, the kind and the index that the module has, in its order;
+ * of any other bytes, that the names of all rows that were written lie in the bytes, unless the answer is DURSKEYL_NO_MODULE. All calls
+ * end on all bytes, read only what they are given, and write only the fault or the rows. No call depends on an earlier one, keeps
+ * anything, or leaves anything to free.
  * NOT PROVED: which of several faults is told, its kind, offset and text; time, memory and stack; this header; the kit's
  *   functions of memory; the C library.
  *

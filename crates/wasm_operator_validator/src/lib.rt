@@ -37,7 +37,9 @@
 //! This crate has no code of its own. The rules stand in the crates below: what each operator takes and gives, and the typing of
 //! code, in `wasm_operator_validator_rules`; what a validator knows, and which operators it accepts, in
 //! `wasm_operator_validator_state`; which bytes it accepts, in `wasm_operator_validator_expression`. What is accepted as a body is
-//! never stuck within one activation: [`accepted_bodies_are_sound`].
+//! never stuck within one activation: [`accepted_bodies_are_sound`]. No run of a valid program is stuck, over all its activations, and at
+//! each place of it each value fits what the rules know of it: [`programs_are_sound`], [`steps_are_sound`], [`constants_are_sound`],
+//! [`ancestors_are_sound`].
 #![tactic(auto)]
 
 pub use wasm_operator_validator_arity::{ModuleArity, OperatorArity};
@@ -48,6 +50,9 @@ pub use wasm_operator_validator_driver::{
 };
 pub use wasm_operator_validator_simd_visits::ValidatingSimdVisitor;
 pub use wasm_operator_validator_soundness::accepted::accepted_bodies_are_sound;
+pub use wasm_operator_validator_soundness::runs::{
+    ancestors_are_sound, constants_are_sound, programs_are_sound, steps_are_sound,
+};
 pub use wasm_operator_validator_stacks::new_func;
 pub use wasm_operator_validator_state::attempts::{
     RollbackLog, RollbackLogAllocations, Transaction, ty_to_str,
