@@ -16,7 +16,6 @@ mod integers;
 mod memory;
 mod numbers;
 mod shared;
-mod unsupported;
 mod vectors;
 mod visitor;
 

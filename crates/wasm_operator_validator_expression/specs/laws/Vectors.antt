@@ -124,8 +124,8 @@ accepted_have_no_vectors m σ os below = accepted_no_vectors m σ os (asked_apar
 
 pub bodies_have_no_vectors : BodiesHaveNoVectors
 bodies_have_no_vectors g params c below h = typed_no_vectors (inside frames.Block g.results g) (record {
-    kind = frames.Block;
-    block = record { params = []; results = g.results };
-    before =
-        initialised_at_first params g.locals;
-  }) (initialised_at_first params g.locals) frames.Block c [] (asked_apart g.bits below) h.expression h.typed
+  kind = frames.Block;
+  block = record { params = []; results = g.results };
+  before =
+      initialised_at_first params g.locals;
+}) (initialised_at_first params g.locals) frames.Block c [] (asked_apart g.bits below) h.expression h.typed
