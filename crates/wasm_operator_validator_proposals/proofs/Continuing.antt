@@ -1,5 +1,5 @@
 -- What is named of continuations and tags.
-use Rattle.std.proofs.Common.{◌≡◌, ◌∙◌, ◌<◌, ℕ, Bool, List, [], length, Option, Some, None, option_map, slice_get, refl, sym, ap, subst}
+use Rattle.std.proofs.Common.{◌≡◌, ◌∙◌, ◌<◌, ℕ, Bool, List, [], length, Option, Some, None, option_map, slice_get, MatchOption, refl, sym, ap, subst}
 use Rattle.wasm_types.specs.trees.declared.index.UnpackedIndex.{UnpackedIndex}
 use Rattle.wasm_types.specs.trees.Types.{InnerOf, function, continuation, ref, concrete, exact}
 use Rattle.wasm_types.specs.trees.Trees.{TypeTree}
@@ -159,6 +159,11 @@ none_continues t n b (f, e, i) = n f e
 pub continues_none : (m : Meaning) (t : TypeTree) (f : UnpackedIndex) → expanded t ≡ continuation (named_type m f) → ((b : Signature) → IsFunctionType (named_type m f) b → ⊥)
     → (b : Signature) → IsContinuationType t b → ⊥
 continues_none m t f e n b (g, h, i) = n b (subst (λ (z : TypeTree). IsFunctionType z b) (one_function (expanded t) (named_type m f) g e h) i)
+
+-- an answer that is passed on
+pub answered : {A : Type 0} (o : Option A) (N K : Type 0) (S T : A → Type 0) → (N → K) → ((x : A) → S x → T x) → MatchOption o N S → MatchOption o K T
+answered None N K S T f g x = f x
+answered (Some a) N K S T f g x = g a x
 
 abbrev pub IsIn : Meaning → ValType → Signature → Type 0
 IsIn m t c = (n : Bool) × (u : TypeTree) × (type_in m t ≡ ref n (concrete u)) × IsContinuationType u c

@@ -389,3 +389,21 @@ branch_by_row m σ o l from to first second f g vs os v by taken left b i c a (d
           ),
       λ t. (i (here m σ) popped pushed).1 (hs, ks, d, c.cast, k', (types_in m os, (type_in m v, there, rw w.0 at (j.0 n)), t)),
     )
+
+-- ---- what describes the type that an index means
+
+pub by_concrete : (m : Meaning) (i j : UnpackedIndex) (t : ValType) (o : Option UnpackedIndex) → option_map (named_type m) o ≡ (opened (named_type m i)).descriptor → o ≡ Some j
+    → type_in m t ≡ ref true (of_type false (named_type m j)) → DescribesBy m (heap.Concrete i) t
+by_concrete m i j t o e f g = (concrete (named_type m j), ap (option_map concrete) (sym e ∙ ap (option_map (named_type m)) f), g)
+
+pub by_exact : (m : Meaning) (i j : UnpackedIndex) (t : ValType) (o : Option UnpackedIndex) → option_map (named_type m) o ≡ (opened (named_type m i)).descriptor → o ≡ Some j
+    → type_in m t ≡ ref true (of_type true (named_type m j)) → DescribesBy m (heap.Exact i) t
+by_exact m i j t o e f g = (exact (named_type m j), ap (option_map exact) (sym e ∙ ap (option_map (named_type m)) f), g)
+
+pub none_by_concrete : (m : Meaning) (i : UnpackedIndex) (o : Option UnpackedIndex) → option_map (named_type m) o ≡ (opened (named_type m i)).descriptor → o ≡ None
+    → descriptor_of (heap_in m (heap.Concrete i)) ≡ None
+none_by_concrete m i o e f = ap (option_map concrete) (sym e ∙ ap (option_map (named_type m)) f)
+
+pub none_by_exact : (m : Meaning) (i : UnpackedIndex) (o : Option UnpackedIndex) → option_map (named_type m) o ≡ (opened (named_type m i)).descriptor → o ≡ None
+    → descriptor_of (heap_in m (heap.Exact i)) ≡ None
+none_by_exact m i o e f = ap (option_map exact) (sym e ∙ ap (option_map (named_type m)) f)
