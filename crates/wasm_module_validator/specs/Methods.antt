@@ -142,7 +142,8 @@ Ends v answer w = EndsFrom v.state v answer w
 
 -- If what was judged are all frames of some bytes, and each of their bodies spells a valid function of its type, these bytes run soundly.
 abbrev pub RunsSoundlyWhole : Validator → Type 0
-RunsSoundlyWhole v = (z : Settings) (bytes : List ℕ) (q : SoFar) → IsReadAs z bytes q → IsReached z v.reached q → AreBodies z q → RunsSoundly z bytes
+RunsSoundlyWhole v = (z : Settings) (bytes : List ℕ) (q : SoFar) → IsReadAs z bytes q → IsReached z v.reached q → AreBodies z q
+    → RunsSoundly z bytes
 
 -- ---- what is asked
 

@@ -356,7 +356,6 @@ impl Validator {
     /// # Errors
     ///
     /// No header came, or the module has ended. The validator has ended then. Or there is no memory, and it has failed.
-    #[tactic(auto, using(crate::proofs::Whole::whole_is_sound))]
     pub fn end(&mut self, offset: u64) -> Result<Types>
         ensures ends { Ends self.old result self.new }
         ensures told { IfOk result (λ t. AreToldUnder t.kept.items.spaces.settings t.kept.groups t.kept.groups) }

@@ -651,8 +651,8 @@ module _ (p : Program) (a : Answer) where
         pops vs (λ v ws. asks (Fits p v (ref from.nullable h) × IsAkin (ref from.nullable h) k)
         (cast to.nullable k v (λ b. f b v ws)))))
 
-    -- a value below an abstract type, of which a number is made, and which is such a one; or a value of another hierarchy, as shared, and a null exactly for a
-    -- null
+    -- a value below an abstract type, of which a number is made, and which is such a one; or a value of another hierarchy, as shared, and
+    -- a null exactly for a null
     abbrev pub IsOf : Abstract → Value → Type 0
     IsOf h v = (s : Bool) × Fits p v (ref true (abstract s h))
 
