@@ -1,5 +1,5 @@
 -- Handlers, and the rows of operators on continuations.
-use Rattle.std.proofs.Common.{◌≡◌, ◌↔◌, ◌∙◌, ◌<◌, ◌≤◌, ℕ, suc, Bool, true, false, IsTrue, List, [], ◌∷◌, ◌++◌, ◌==◌, length, map, Option, Some, None, slice_get, refl, sym, ap, subst, arith, length-append}
+use Rattle.std.proofs.Common.{◌≡◌, ◌↔◌, ◌∙◌, ◌<◌, ◌≤◌, ◌+◌, ℕ, suc, Bool, true, false, IsTrue, List, [], ◌∷◌, ◌++◌, ◌==◌, length, map, Option, Some, None, slice_get, refl, sym, ap, subst, arith, length-append}
 use Rattle.std.proofs.lemmas.List.{map-append, length-map}
 use Rattle.wasm_types.specs.trees.declared.index.UnpackedIndex.{UnpackedIndex}
 use Rattle.wasm_types.specs.trees.Types.{continuation, ref, concrete}
@@ -323,10 +323,10 @@ bind_short m σ x y os or ns nr i j lt popped pushed (t, u, ts, b, c) =
 
 -- lists with equal ends of one length
 one_split : {A : Type 0} (xs ys us vs : List A) → xs ++ us ≡ ys ++ vs → length us ≡ length vs → (xs ≡ ys) × (us ≡ vs)
-one_split [] [] us vs e l = (refl, e)
-one_split [] (y ∷ ys) us vs e l = absurd (omega (arith, l, ap (λ (zs : List A). length zs) e, length-append (y ∷ ys) vs))
-one_split (x ∷ xs) [] us vs e l = absurd (omega (arith, l, ap (λ (zs : List A). length zs) e, length-append (x ∷ xs) us))
-one_split (x ∷ xs) (y ∷ ys) us vs e l =
+one_split {A = A} [] [] us vs e l = (refl, e)
+one_split {A = A} [] (y ∷ ys) us vs e l = absurd (omega (arith, l, ap (λ (zs : List A). length zs) e, length-append (y ∷ ys) vs))
+one_split {A = A} (x ∷ xs) [] us vs e l = absurd (omega (arith, l, ap (λ (zs : List A). length zs) e, length-append (x ∷ xs) us))
+one_split {A = A} (x ∷ xs) (y ∷ ys) us vs e l =
     let h : x ≡ y = cc in
     let t : xs ++ us ≡ ys ++ vs = cc in
     let (f, g) = one_split xs ys us vs t l in (rw (h, f) refl, g)

@@ -90,9 +90,9 @@ no_function_there m t x i e b f = of x.composite_type.inner refl e
   where
     of : (y : CompositeInnerType) → x.composite_type.inner ≡ y → None ≡ func_in y → ⊥
     of (composite.Func h) k j = cc
-    of (composite.Array h) k j = let g : (entry_in m x).inner ≡ function b.params b.results = sym (inner_is m x (opened t) i) ∙ f in (rw k at g)
-    of (composite.Struct h) k j = let g : (entry_in m x).inner ≡ function b.params b.results = sym (inner_is m x (opened t) i) ∙ f in (rw k at g)
-    of (composite.Cont h) k j = let g : (entry_in m x).inner ≡ function b.params b.results = sym (inner_is m x (opened t) i) ∙ f in (rw k at g)
+    of (composite.Array h) k j = let g : (entry_in m x).inner ≡ function b.params b.results = sym (inner_is m x (opened t) i) ∙ f in let h' = (rw k at g) in cc
+    of (composite.Struct h) k j = let g : (entry_in m x).inner ≡ function b.params b.results = sym (inner_is m x (opened t) i) ∙ f in let h' = (rw k at g) in cc
+    of (composite.Cont h) k j = let g : (entry_in m x).inner ≡ function b.params b.results = sym (inner_is m x (opened t) i) ∙ f in let h' = (rw k at g) in cc
 
 -- a type of no group is a function from nothing to nothing
 pub nothing_there : (m : Meaning) (t : TypeTree) → opened t ≡ past_the_end → IsFunctionType t (signature m [] [])
@@ -118,9 +118,9 @@ pub no_continuation_there : (m : Meaning) (t : TypeTree) (x : SubType) → entry
 no_continuation_there m t x i e f h = of x.composite_type.inner refl e
   where
     of : (y : CompositeInnerType) → x.composite_type.inner ≡ y → None ≡ Goes y → ⊥
-    of (composite.Func v) k j = let g : (entry_in m x).inner ≡ continuation f = sym (inner_is m x (opened t) i) ∙ h in (rw k at g)
-    of (composite.Array v) k j = let g : (entry_in m x).inner ≡ continuation f = sym (inner_is m x (opened t) i) ∙ h in (rw k at g)
-    of (composite.Struct v) k j = let g : (entry_in m x).inner ≡ continuation f = sym (inner_is m x (opened t) i) ∙ h in (rw k at g)
+    of (composite.Func v) k j = let g : (entry_in m x).inner ≡ continuation f = sym (inner_is m x (opened t) i) ∙ h in let h' = (rw k at g) in cc
+    of (composite.Array v) k j = let g : (entry_in m x).inner ≡ continuation f = sym (inner_is m x (opened t) i) ∙ h in let h' = (rw k at g) in cc
+    of (composite.Struct v) k j = let g : (entry_in m x).inner ≡ continuation f = sym (inner_is m x (opened t) i) ∙ h in let h' = (rw k at g) in cc
     of (composite.Cont v) k j = cc
 
 pub nothing_continues : (t : TypeTree) → opened t ≡ past_the_end → (f : TypeTree) → expanded t ≡ continuation f → ⊥

@@ -37,20 +37,20 @@ reference_at-declared-requires g c =
     let m = g.R.WasmModuleResources.meaning c.args.resources.now in
     described_index m c.args.validator.now c.args.type_index c.in-Ok-descriptor_at.descriptor c.in-Ok-descriptor_at.ensures
 
-pub push_operands-then-is_fit-requires : goal.push_operands-then-is_fit-requires
-push_operands-then-is_fit-requires g c =
+pub push_operands-requires : goal.push_operands-requires
+push_operands-requires g c =
     let m = g.R.WasmModuleResources.meaning c.args.resources.now in
     (same_open c.args.validator.now.opens c.pop_any.new.self.opens (c.in-Ok-pop_any.ensures.does m).same.frames).1
 
-pub push_operands-requires : goal.push_operands-requires
-push_operands-requires g c =
+pub push_operands-requires-2 : goal.push_operands-requires-2
+push_operands-requires-2 g c =
     let m = g.R.WasmModuleResources.meaning c.args.resources.now in
     (same_open c.args.validator.now.opens c.pop_any.new.self.opens (c.in-Ok-pop_any.ensures.does m).same.frames).1
 
 pub returns-then-is_fit : goal.returns-then-is_fit
 returns-then-is_fit g c =
     let m = g.R.WasmModuleResources.meaning c.args.resources.now in
-    got_exactly (refused c.push_operands-then-is_fit.result) m c.args.validator.now c.pop_any.new.self c.push_operands-then-is_fit.new.self c.args.type_index c.in-Ok-descriptor_at.descriptor c.in-Ok-pop_any.found c.reference_at-exact.result c.reference_to-by.result c.is_fit.result c.in-Ok.ensures.begins c.in-Ok-descriptor_at.ensures (c.in-Ok-pop_any.ensures.does m) c.reference_at-exact.ensures c.is_fit.ensures c.if-is_fit.true (c.reference_to-by.ensures m) c.push_operands-then-is_fit.ensures.does (record { given = c.push_operands-then-is_fit.ensures.given; failed = c.push_operands-then-is_fit.ensures.failed; saved = c.push_operands-then-is_fit.ensures.saved })
+    got_exactly (refused c.push_operands.result) m c.args.validator.now c.pop_any.new.self c.push_operands.new.self c.args.type_index c.in-Ok-descriptor_at.descriptor c.in-Ok-pop_any.found c.reference_at-exact.result c.reference_to-by.result c.is_fit.result c.in-Ok.ensures.begins c.in-Ok-descriptor_at.ensures (c.in-Ok-pop_any.ensures.does m) c.reference_at-exact.ensures c.is_fit.ensures c.if-is_fit.true (c.reference_to-by.ensures m) c.push_operands.ensures.does (record { given = c.push_operands.ensures.given; failed = c.push_operands.ensures.failed; saved = c.push_operands.ensures.saved })
 
 pub returns-then-not-is_fit : goal.returns-then-not-is_fit
 returns-then-not-is_fit g c =
@@ -60,4 +60,4 @@ returns-then-not-is_fit g c =
 pub returns : goal.returns
 returns g c =
     let m = g.R.WasmModuleResources.meaning c.args.resources.now in
-    got_declared (refused c.push_operands.result) m c.args.validator.now c.pop_any.new.self c.push_operands.new.self c.args.type_index c.in-Ok-descriptor_at.descriptor c.in-Ok-pop_any.found c.reference_at-exact.result c.reference_at-declared.result c.reference_to-by-2.result c.is_fit.result c.is_fit-2.result c.in-Ok.ensures.begins c.in-Ok-descriptor_at.ensures (c.in-Ok-pop_any.ensures.does m) c.reference_at-exact.ensures c.is_fit.ensures c.if-is_fit.false c.reference_at-declared.ensures c.is_fit-2.ensures c.if-not-is_fit.false (c.reference_to-by-2.ensures m) c.push_operands.ensures.does (record { given = c.push_operands.ensures.given; failed = c.push_operands.ensures.failed; saved = c.push_operands.ensures.saved })
+    got_declared (refused c.push_operands-2.result) m c.args.validator.now c.pop_any.new.self c.push_operands-2.new.self c.args.type_index c.in-Ok-descriptor_at.descriptor c.in-Ok-pop_any.found c.reference_at-exact.result c.reference_at-declared.result c.reference_to-by-2.result c.is_fit.result c.is_fit-2.result c.in-Ok.ensures.begins c.in-Ok-descriptor_at.ensures (c.in-Ok-pop_any.ensures.does m) c.reference_at-exact.ensures c.is_fit.ensures c.if-is_fit.false c.reference_at-declared.ensures c.is_fit-2.ensures c.if-not-is_fit.false (c.reference_to-by-2.ensures m) c.push_operands-2.ensures.does (record { given = c.push_operands-2.ensures.given; failed = c.push_operands-2.ensures.failed; saved = c.push_operands-2.ensures.saved })

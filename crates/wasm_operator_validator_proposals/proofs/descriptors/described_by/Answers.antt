@@ -15,9 +15,9 @@ returns-in-None g c =
 pub returns-in-Some-descriptor_named : goal.returns-in-Some-descriptor_named
 returns-in-Some-descriptor_named g c =
     let m = g.R.WasmModuleResources.meaning c.args.resources.now in
-    rw c.in-Exact.is (by_exact m c.in-Exact.index c.in-Some-descriptor_named.descriptor c.reference_to-2.result c.descriptor_named-2.result c.descriptor_named-2.ensures c.in-Some-descriptor_named.is (c.reference_to-2.ensures m))
+    rw c.in-Exact.is (by_exact m c.in-Exact.index c.in-Some-descriptor_named.descriptor c.reference_to-in-Some-descriptor_named.result c.descriptor_named-in-Exact.result c.descriptor_named-in-Exact.ensures c.in-Some-descriptor_named.is (c.reference_to-in-Some-descriptor_named.ensures m))
 
 pub returns-in-None-descriptor_named : goal.returns-in-None-descriptor_named
 returns-in-None-descriptor_named g c =
     let m = g.R.WasmModuleResources.meaning c.args.resources.now in
-    rw c.in-Exact.is (none_by_exact m c.in-Exact.index c.descriptor_named-2.result c.descriptor_named-2.ensures c.in-None-descriptor_named.is)
+    rw c.in-Exact.is (none_by_exact m c.in-Exact.index c.descriptor_named-in-Exact.result c.descriptor_named-in-Exact.ensures c.in-None-descriptor_named.is)

@@ -1,3 +1,4 @@
+use Rattle.std.proofs.Common.{sym}
 use Rattle.wasm_operator_validator_proposals.proofs.Describing.{unused_described, described, not_described}
 use Rattle.wasm_operator_validator_proposals.proofs.naming.descriptor_at.Goals as goal
 

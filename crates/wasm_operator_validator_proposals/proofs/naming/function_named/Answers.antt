@@ -7,8 +7,8 @@ returns-in-None g c =
     let m = g.R.WasmModuleResources.meaning c.args.resources.now in
     nothing_there m (named_type m c.args.index) c.in-None.ensures
 
-pub returns-in-Some : goal.returns-in-Some
-returns-in-Some g c =
+pub returns-in-Some-function_of : goal.returns-in-Some-function_of
+returns-in-Some-function_of g c =
     let m = g.R.WasmModuleResources.meaning c.args.resources.now in
     rw (c.params.ensures, c.results.ensures) (function_there m (named_type m c.args.index) c.in-Some.sub_type.now c.in-Some-function_of.function.now c.in-Some.ensures c.in-Some-function_of.ensures)
 
