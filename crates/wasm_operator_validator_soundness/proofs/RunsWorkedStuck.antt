@@ -2,7 +2,7 @@
 use Rattle.std.specs.Prelude.{ℤ}
 use Rattle.std.proofs.Common.{◌≡◌, true, false, [], refl, sym, subst, inl, inr, arith, true≢false}
 use Rattle.std.proofs.lemmas.List.Elements.{All-head}
-use Rattle.wasm_types.specs.trees.Types.{Number, i32, i64, any, ref, abstract}
+use Rattle.wasm_types.specs.trees.Types.{Number, i32, i64, v128, any, ref, abstract}
 use Rattle.wasm_types.specs.trees.Trees.{opened}
 use Rattle.wasm_operator_validator_soundness.specs.runs.Machine.{HasDefault, IsOfBytes}
 use Rattle.wasm_operator_validator_soundness.specs.runs.worked.Stuck.{StuckWorked, PlacesWorked}
@@ -15,11 +15,24 @@ Is64 n = ⊥
 apart : i64 ≡ i32 → ⊥
 apart e = subst Is64 e tt
 
+no_vector : i64 ≡ v128 → ⊥
+no_vector e = subst Is64 e tt
+
+abbrev IsVector : Number → Type 0
+IsVector v128 = Unit {0}
+IsVector n = ⊥
+
+no_lane : v128 ≡ i32 → ⊥
+no_lane e = subst IsVector e tt
+
 pub stuck_worked : (x : ℤ) → StuckWorked x
 unfolding opened
 stuck_worked x = record {
   operand_missing = inl (λ k. k.0.1);
   operand_wrong = inl (λ k. apart k.0.0.1);
+  shifted_by_vector = inl (λ k. no_lane k.0.0.1);
+  lane_of_number = inl (λ k. no_vector k.0.0.1);
+  vector_missing = inl (λ k. k.0.1.1);
   nothing_dropped = inr refl;
   reference_selected = inl (λ k. k.0);
   no_reference = inl (λ k. k.0);
@@ -49,6 +62,7 @@ stuck_worked x = record {
   no_memory_read = inr refl;
   no_memory_written = inr refl;
   no_memory_changed = inr refl;
+  no_memory_for_vector = inr refl;
   no_memory_filled = inr refl;
   segment_unknown = inr refl;
   data_not_dropped = inl (λ k. absurd (omega (arith, k.0)));

@@ -1,6 +1,6 @@
 -- Worked states that are stuck, one for each way to be so, and steps that tell whose place is meant.
 use Rattle.std.specs.Prelude.{◌≡◌, ◌⊎◌, ℤ, true, false, List, [], ◌∷◌, None}
-use Rattle.wasm_types.specs.trees.Types.{struct, any, abstract, i32, i64, number, ref}
+use Rattle.wasm_types.specs.trees.Types.{struct, any, abstract, i32, i64, v128, number, ref}
 use Rattle.wasm_types.specs.trees.declared.index.UnpackedIndex.TheVariants as index
 use Rattle.wasm_types.specs.values.Reference.{Reference}
 use Rattle.wasm_types.specs.values.declared.heap.AbstractHeapType.{AbstractHeapType}
@@ -19,6 +19,8 @@ use Rattle.wasm_operators_enums.specs.declared.bulk.BulkOperator.TheVariants as 
 use Rattle.wasm_operators_enums.specs.declared.numeric.NumericOperator.TheVariants as numeric
 use Rattle.wasm_operators_enums.specs.declared.atomic.AtomicOperator.TheVariants as atomic
 use Rattle.wasm_operators_enums.specs.declared.gc.GcOperator.TheVariants as gc
+use Rattle.wasm_operators_enums.specs.declared.vector.SimdOperator.TheVariants as simd
+use Rattle.wasm_operators_enums.specs.declared.vector_numeric.SimdNumericOperator.TheVariants as lanes
 use Rattle.wasm_operators_enums.specs.Op as op
 use Rattle.wasm_operators_enums.specs.Op.{Op}
 use Rattle.wasm_operators_encoding.specs.expressions.Code.{Code, close, plain, nested}
@@ -45,6 +47,9 @@ argument = record { align = 0; max_align = 0; offset = 0; memory = 0; ordering =
 
 abbrev pub long : Value
 long = number_value i64
+
+abbrev pub vector : Value
+vector = number_value v128
 
 -- with a constant of this number
 module _ (x : ℤ) where
@@ -78,6 +83,9 @@ module _ (x : ℤ) where
     -- operands
     pub operand_missing : IsStuck (at (one ∷ []) (op.Numeric numeric.I32Add))
     pub operand_wrong : IsStuck (at (long ∷ one ∷ []) (op.Numeric numeric.I32Add))
+    pub shifted_by_vector : IsStuck (at (vector ∷ vector ∷ []) (op.SimdNumeric lanes.I64x2Shl))
+    pub lane_of_number : IsStuck (at (long ∷ []) (op.Simd (simd.I32x4ExtractLane 0)))
+    pub vector_missing : IsStuck (at (vector ∷ vector ∷ []) (op.SimdNumeric lanes.V128Bitselect))
     pub nothing_dropped : IsStuck (at [] (op.Parametric op.Drop))
     pub reference_selected : IsStuck (at (one ∷ ref_i31 ∷ ref_i31 ∷ []) (op.Parametric op.Select))
     pub no_reference : IsStuck (at (one ∷ []) (op.Bulk bulk.RefIsNull))
@@ -112,6 +120,7 @@ module _ (x : ℤ) where
     pub no_memory_read : IsStuck (at (one ∷ []) (op.Memory (memory.I32Load argument)))
     pub no_memory_written : IsStuck (at (one ∷ one ∷ []) (op.Memory (memory.I32Store8 argument)))
     pub no_memory_changed : IsStuck (at (one ∷ one ∷ []) (op.Atomic (atomic.I32AtomicRmwAdd argument)))
+    pub no_memory_for_vector : IsStuck (at (vector ∷ one ∷ []) (op.Simd (simd.V128Load8Lane argument 0)))
     pub no_memory_filled : IsStuck (at (one ∷ one ∷ one ∷ []) (op.Bulk (bulk.MemoryFill 0)))
     pub segment_unknown : IsStuck (at [] (op.Bulk (bulk.ElemDrop 0)))
     pub data_not_dropped : IsStuck (at [] (op.Bulk (bulk.DataDrop 9)))
