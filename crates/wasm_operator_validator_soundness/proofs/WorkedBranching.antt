@@ -1,6 +1,6 @@
 -- The worked runs with a loop, a table of labels, a branch on a cast and exceptions that are thrown again.
 use Rattle.std.specs.Prelude.{ℤ, All}
-use Rattle.std.proofs.Common.{◌≡◌, ℕ, zero, suc, [], ◌∷◌, Some, None, true, false, refl, sym, subst, slice_get, rules, true≢false}
+use Rattle.std.proofs.Common.{◌≡◌, ℕ, zero, suc, [], ◌∷◌, Some, true, false, refl, sym, subst, slice_get, rules, true≢false}
 use Rattle.std.proofs.lemmas.Option.{slice_get_within, get_or_from_slice_get}
 use Rattle.std.proofs.lemmas.List.Elements.{All-nil}
 use Rattle.wasm_types.specs.settings.Features.{has}

@@ -20,7 +20,7 @@ use Rattle.wasm_operator_validator_soundness.specs.runs.States.{State, Answer, O
 use Rattle.wasm_operator_validator_soundness.specs.runs.Machine.{begun}
 use Rattle.wasm_operator_validator_soundness.specs.runs.Soundness.{step, Runs, IsValidProgram, IsStarted}
 use Rattle.wasm_operator_validator_soundness.specs.runs.worked.Caught.{alone, gives_number, own, end}
-use Rattle.wasm_operator_validator_soundness.specs.runs.worked.Older.{gives_written, gives_type}
+use Rattle.wasm_operator_validator_soundness.specs.runs.worked.Older.{gives_type}
 
 abbrev pub octets_written : Written
 octets_written = alone (record {
