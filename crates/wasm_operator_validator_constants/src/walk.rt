@@ -90,8 +90,8 @@ impl<'a, 'v, 'r, R: WasmModuleResources> TellSimdOperator<'a> for ConstantWalk<'
             self.walk.visitor.inner.fail();
             return Err(told_refusal(refusal, judged));
         }
-        if let Err(refusal) = self.walk.tell_simd(op) {
-            return Err(ConstantRefusal::Invalid(refusal));
+        if let Err(refused) = self.walk.tell_simd(op) {
+            return Err(ConstantRefusal::Invalid(refused));
         }
         Ok(())
     }
