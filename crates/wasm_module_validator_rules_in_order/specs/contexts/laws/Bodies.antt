@@ -1,15 +1,23 @@
 -- Bodies of functions: the second context has all of the first but the functions that code may refer to, and of these at least as many.
-use Rattle.std.proofs.Common.{◌≡◌, ◌<◌, ℕ, Bool, false, List, [], ◌∷◌, ◌++◌, Option, Some, None, length, subst}
+use Rattle.std.proofs.Common.{◌≡◌, ◌<◌, ℕ, Bool, false, List, [], ◌∷◌, ◌++◌, Option, Some, None, length, refl, subst}
 use Rattle.std.proofs.lemmas.Option.{slice_get_within}
 use Rattle.wasm_types.specs.settings.Settings.{Settings}
 use Rattle.wasm_types.specs.trees.Types.{HeapOf}
 use Rattle.wasm_types.specs.trees.Trees.{TypeTree}
+use Rattle.wasm_types.specs.values.declared.heap.HeapType.{HeapType}
 use Rattle.wasm_types.specs.values.declared.value.ValType.{ValType}
 use Rattle.wasm_types.specs.values.Reference.{Reference}
 use Rattle.wasm_operators_immediates.specs.declared.block.BlockType.{BlockType}
 use Rattle.wasm_operators_immediates.specs.declared.block.BlockType.TheVariants as block
 use Rattle.wasm_operators_immediates.specs.declared.handlers.Catch.{Catch}
 use Rattle.wasm_operators_immediates.specs.declared.handlers.Catch.TheVariants as clause
+use Rattle.wasm_operators_immediates.specs.declared.handlers.Handle.{Handle}
+use Rattle.wasm_operators_immediates.specs.declared.handlers.Handle.TheVariants as handler
+use Rattle.wasm_operators_enums.specs.declared.atomic.SharedOperator.{SharedOperator}
+use Rattle.wasm_operators_enums.specs.declared.atomic.SharedOperator.TheVariants as shared_access
+use Rattle.wasm_operators_enums.specs.declared.gc.DescriptorOperator.{DescriptorOperator}
+use Rattle.wasm_operators_enums.specs.declared.gc.DescriptorOperator.TheVariants as descriptor
+use Rattle.wasm_operators_enums.specs.declared.vector.SimdOperator.{SimdOperator}
 use Rattle.wasm_operators_enums.specs.declared.control.ControlOperator.{ControlOperator}
 use Rattle.wasm_operators_enums.specs.declared.control.ControlOperator.TheVariants as control
 use Rattle.wasm_operators_enums.specs.declared.memory.MemoryOperator.{MemoryOperator}
@@ -19,13 +27,20 @@ use Rattle.wasm_operators_enums.specs.declared.bulk.BulkOperator.TheVariants as 
 use Rattle.wasm_operators_enums.specs.declared.gc.GcOperator.{GcOperator}
 use Rattle.wasm_operators_enums.specs.declared.gc.GcOperator.TheVariants as gc
 use Rattle.wasm_operators_enums.specs.Op as op
-use Rattle.wasm_operators_enums.specs.Op.{Op, ParametricTree, ExceptionTree}
+use Rattle.wasm_operators_enums.specs.Op.{Op, ParametricTree, ExceptionTree, ContinuationTree}
 use Rattle.wasm_operators_encoding.specs.expressions.Code.{Code, close, plain, nested, turn}
 use Rattle.wasm_operator_validator_rules.specs.Operands.{ValueType, Operand, stack}
 use Rattle.wasm_operator_validator_rules.specs.Context.{Module, Table, Context, Initialised, Signature, Frame, IsType, IsBlockType, is_catch, label_of, marked}
+use Rattle.wasm_operator_validator_rules.specs.Aggregates.{Struct}
+use Rattle.wasm_operator_validator_rules.specs.Continuations.{ContinuationRow, IsCaught, IsSwitched, EachHandles, IsBound, IsSwitch}
+use Rattle.wasm_operator_validator_rules.specs.Descriptors.{DescriptorRow, IsDescribed, IsDescribedHeap}
 use Rattle.wasm_operator_validator_rules.specs.Exceptions.{ExceptionRow, EachCatches}
+use Rattle.wasm_operator_validator_rules.specs.InstructionTypes.{InstructionType, where_vectors, work_type}
 use Rattle.wasm_operator_validator_rules.specs.Objects.{IsCast, GcRow}
 use Rattle.wasm_operator_validator_rules.specs.Row.{Row, ControlRow, ParametricRow, MemoryRow, BulkRow, IsIndirect, IsLocal, IsReferenceTo, of_type, of_exactly, after, IsOneOf}
+use Rattle.wasm_operator_validator_rules.specs.SharedAccesses.{SharedRow}
+use Rattle.wasm_operator_validator_rules.specs.Taken.{TableRow}
+use Rattle.wasm_operator_validator_rules.specs.Vectors.{VectorWork, on_lanes, reaches, work_of}
 use Rattle.wasm_operator_validator_rules.specs.Typed.{Steps, Typed, HasType, MayNest, block_type_of, other_part, IsBody}
 use Rattle.wasm_module_validator_rules.specs.Syntax.{Function}
 use Rattle.wasm_module_validator_rules.specs.Valid.{IsValidValueType, IsValidFunction, HasValidBody}
@@ -106,6 +121,88 @@ module _ (g : Module) (rs : List ℕ) (more_of : (x : ℕ) → x < length g.func
       gc_as (gc.BrOnCastFail l from to) popped pushed r = (r.0, r.1, cast_as from to r.0 r.1 r.2, r.3)
       gc_as o popped pushed r = r
 
+      described_as : (x : ℕ) (s : Struct) (d : TypeTree) → IsDescribed (at g ls cs) x s d → IsDescribed (at referring ls cs) x s d
+      described_as x s d k = record { struct = k.struct; descriptor = k.descriptor }
+
+      described_heap_as : (h : HeapType) (p d : HeapOf TypeTree) → IsDescribedHeap (at g ls cs) h p d → IsDescribedHeap (at referring ls cs) h p d
+      described_heap_as h p d k = record { named = k.named; castable = k.castable; descriptor = k.descriptor }
+
+      descriptor_as : (o : DescriptorOperator) (popped pushed : List Operand) → DescriptorRow (at g ls cs) o popped pushed → DescriptorRow (at referring ls cs) o popped pushed
+      descriptor_as (descriptor.StructNewDesc x) popped pushed r = (r.0, r.1, described_as x r.0 r.1 r.2, r.3)
+      descriptor_as (descriptor.StructNewDefaultDesc x) popped pushed r = (r.0, r.1, described_as x r.0 r.1 r.2, r.3, r.4)
+      descriptor_as (descriptor.RefGetDesc x) popped pushed r = r
+      descriptor_as (descriptor.RefCastDescEqNonNull h) popped pushed r = (r.0, r.1, described_heap_as h r.0 r.1 r.2, r.3)
+      descriptor_as (descriptor.RefCastDescEqNullable h) popped pushed r = (r.0, r.1, described_heap_as h r.0 r.1 r.2, r.3)
+      descriptor_as (descriptor.BrOnCastDescEq l from to) popped pushed r = (r.0, r.1, r.2, cast_as from to r.0 r.1 r.3, r.4, r.5)
+      descriptor_as (descriptor.BrOnCastDescEqFail l from to) popped pushed r = (r.0, r.1, r.2, cast_as from to r.0 r.1 r.3, r.4, r.5)
+
+      shared_as : (o : SharedOperator) (popped pushed : List Operand) → SharedRow (at g ls cs) o popped pushed → SharedRow (at referring ls cs) o popped pushed
+      shared_as shared_access.RefI31Shared popped pushed r = r
+      shared_as o popped pushed r = r
+
+      caught_as : (rs : List ValueType) (x l : ℕ) → IsCaught (at g ls cs) rs x l → IsCaught (at referring ls cs) rs x l
+      caught_as rs x l k = record {
+        tag = k.tag;
+        tag_named = k.tag_named;
+        carried = k.carried;
+        nullable = k.nullable;
+        left = k.left;
+        label = k.label;
+        fits = k.fits;
+        rest = k.rest;
+        goes_on = k.goes_on;
+        matches = k.matches;
+      }
+
+      switched_as : (rs : List ValueType) (x : ℕ) → IsSwitched (at g ls cs) rs x → IsSwitched (at referring ls cs) rs x
+      switched_as rs x k = record { tag = k.tag; tag_named = k.tag_named; fits = k.fits; back = k.back }
+
+      handled_as : (rs : List ValueType) (hs : List Handle) → EachHandles (at g ls cs) rs hs → EachHandles (at referring ls cs) rs hs
+      handled_as rs [] k = k
+      handled_as rs (handler.OnLabel x l ∷ hs) k = (caught_as rs x l k.0, handled_as rs hs k.1)
+      handled_as rs (handler.OnSwitch x ∷ hs) k = (switched_as rs x k.0, handled_as rs hs k.1)
+
+      bound_as : (x y : ℕ) (t u : TypeTree) (bound : List ValueType) → IsBound (at g ls cs) x y t u bound → IsBound (at referring ls cs) x y t u bound
+      bound_as x y t u bound k = record {
+        old = k.old;
+        old_named = k.old_named;
+        new = k.new;
+        new_named = k.new_named;
+        rest = k.rest;
+        params = k.params;
+        fits = k.fits;
+      }
+
+      switch_as : (x e : ℕ) (t : TypeTree) (carried : List ValueType) (own : Signature) → IsSwitch (at g ls cs) x e t carried own → IsSwitch (at referring ls cs) x e t carried own
+      switch_as x e t carried own k = record {
+        next = k.next;
+        next_named = k.next_named;
+        nullable = k.nullable;
+        left = k.left;
+        params = k.params;
+        goes_on = k.goes_on;
+        tag = k.tag;
+        tag_named = k.tag_named;
+        fits = k.fits;
+        back = k.back;
+      }
+
+      continuation_as : (o : ContinuationTree) (popped pushed : List Operand) → ContinuationRow (at g ls cs) o popped pushed → ContinuationRow (at referring ls cs) o popped pushed
+      continuation_as (op.ContNew x) popped pushed r = r
+      continuation_as (op.ContBind x y) popped pushed r = (r.0, r.1, r.2, bound_as x y r.0 r.1 r.2 r.3, r.4)
+      continuation_as (op.Suspend x) popped pushed r = r
+      continuation_as (op.Resume x hs) popped pushed r = (r.0, r.1, r.2, handled_as r.1.results hs r.3, r.4)
+      continuation_as (op.ResumeThrow x e hs) popped pushed r = (r.0, r.1, r.2, r.3, r.4, handled_as r.1.results hs r.5, r.6)
+      continuation_as (op.ResumeThrowRef x hs) popped pushed r = (r.0, r.1, r.2, handled_as r.1.results hs r.3, r.4)
+      continuation_as (op.Switch x e) popped pushed r = (r.0, r.1, r.2, switch_as x e r.0 r.1 r.2 r.3, r.4)
+
+      work_as : (w : VectorWork) → work_type (at g ls cs) w ≡ work_type (at referring ls cs) w
+      work_as (on_lanes c) = refl
+      work_as (reaches a) = refl
+
+      vector_as : (o : SimdOperator) (popped pushed : List Operand) → TableRow (at g ls cs) (op.Simd o) popped pushed → TableRow (at referring ls cs) (op.Simd o) popped pushed
+      vector_as o popped pushed r = (r.0, subst (λ (q : Option InstructionType). where_vectors (at referring ls cs) q ≡ Some r.0) (work_as (work_of o)) r.1, r.2)
+
       row_as : (set : Initialised) (o : Op) (popped pushed : List Operand) → Row (at g ls cs) set o popped pushed → Row (at referring ls cs) set o popped pushed
       row_as set (op.Control o) popped pushed r = (r.0, control_as o popped pushed r.1)
       row_as set (op.Parametric o) popped pushed r = (r.0, parametric_as o popped pushed r.1)
@@ -113,6 +210,10 @@ module _ (g : Module) (rs : List ℕ) (more_of : (x : ℕ) → x < length g.func
       row_as set (op.Bulk o) popped pushed r = (r.0, bulk_as o popped pushed r.1)
       row_as set (op.Exception o) popped pushed r = (r.0, exception_as o popped pushed r.1)
       row_as set (op.Gc o) popped pushed r = (r.0, gc_as o popped pushed r.1)
+      row_as set (op.Descriptor o) popped pushed r = (r.0, descriptor_as o popped pushed r.1)
+      row_as set (op.Shared o) popped pushed r = (r.0, shared_as o popped pushed r.1)
+      row_as set (op.Continuation o) popped pushed r = (r.0, continuation_as o popped pushed r.1)
+      row_as set (op.Simd o) popped pushed r = (r.0, vector_as o popped pushed r.1)
       row_as set o popped pushed r = r
 
       steps_as : (set : Initialised) (o : Op) (s u : List Operand) → Steps (at g ls cs) set o s u → Steps (at referring ls cs) set o s u

@@ -11,15 +11,24 @@ use Rattle.wasm_operators_enums.specs.declared.bulk.BulkOperator.{BulkOperator}
 use Rattle.wasm_operators_enums.specs.declared.bulk.BulkOperator.TheVariants as bulk
 use Rattle.wasm_operators_enums.specs.declared.gc.GcOperator.{GcOperator}
 use Rattle.wasm_operators_enums.specs.declared.gc.GcOperator.TheVariants as gc
+use Rattle.wasm_operators_enums.specs.declared.gc.DescriptorOperator.{DescriptorOperator}
+use Rattle.wasm_operators_enums.specs.declared.gc.DescriptorOperator.TheVariants as descriptor
+use Rattle.wasm_operators_enums.specs.declared.atomic.SharedOperator.{SharedOperator}
+use Rattle.wasm_operators_enums.specs.declared.atomic.SharedOperator.TheVariants as shared
+use Rattle.wasm_operators_enums.specs.declared.vector.SimdOperator.{SimdOperator}
+use Rattle.wasm_operators_enums.specs.declared.vector.SimdOperator.TheVariants as simd
 use Rattle.wasm_operators_enums.specs.Op as op
 use Rattle.wasm_operators_enums.specs.Op.{Op}
 use Rattle.wasm_operators_encoding.specs.expressions.Code.{Code, close, plain, nested, turn, walk}
 use Rattle.wasm_operator_validator_rules.specs.Operands.{ValueType, Operand}
 use Rattle.wasm_operator_validator_rules.specs.Context.{Module, Context, Initialised, Signature, Frame, inside}
+use Rattle.wasm_operator_validator_rules.specs.Descriptors.{DescriptorRow}
 use Rattle.wasm_operator_validator_rules.specs.Objects.{GcRow}
+use Rattle.wasm_operator_validator_rules.specs.SharedAccesses.{SharedRow}
+use Rattle.wasm_operator_validator_rules.specs.Taken.{TableRow}
 use Rattle.wasm_operator_validator_rules.specs.Row.{Row, MemoryRow, BulkRow, IsReferenceTo, of_type, of_exactly, after}
 use Rattle.wasm_operator_validator_rules.specs.Typed.{Steps, Typed, HasType, block_type_of}
-use Rattle.wasm_operator_validator_rules.specs.constants.Constants.{IsConstantOperator, IsConstantObject, IsConstantMemory, IsConstantReference, AreConstantOperators, constant_context, IsConstant}
+use Rattle.wasm_operator_validator_rules.specs.constants.Constants.{IsConstantOperator, IsConstantObject, IsConstantMemory, IsConstantReference, IsConstantDescribed, IsConstantShared, IsConstantVector, AreConstantOperators, constant_context, IsConstant}
 use Rattle.wasm_module_validator_rules.specs.Spaces.{referred_by, referred_in}
 use Rattle.wasm_module_validator_rules_in_order.specs.contexts.Agreement.{AgreeForConstants, MayReferToEach}
 use Rattle.wasm_module_validator_rules_in_order.specs.contexts.laws.Lists.{each_left, each_right}
@@ -73,6 +82,21 @@ module _ (g h : Module) where
     gc_as gc.ExternConvertAny popped pushed k r = r
     gc_as o popped pushed k r = absurd k
 
+    descriptor_as : (o : DescriptorOperator) (popped pushed : List Operand) → IsConstantDescribed bits o → DescriptorRow (within g) o popped pushed
+        → DescriptorRow (within seen_as) o popped pushed
+    descriptor_as (descriptor.StructNewDesc x) popped pushed k r = (r.0, r.1, record { struct = r.2.struct; descriptor = r.2.descriptor }, r.3)
+    descriptor_as (descriptor.StructNewDefaultDesc x) popped pushed k r = (r.0, r.1, record { struct = r.2.struct; descriptor = r.2.descriptor }, r.3, r.4)
+    descriptor_as o popped pushed k r = absurd k
+
+    shared_as : (o : SharedOperator) (popped pushed : List Operand) → IsConstantShared bits o → SharedRow (within g) o popped pushed → SharedRow (within seen_as) o popped pushed
+    shared_as shared.RefI31Shared popped pushed k r = r
+    shared_as o popped pushed k r = absurd k
+
+    vector_as : (o : SimdOperator) (popped pushed : List Operand) → IsConstantVector o → TableRow (within g) (op.Simd o) popped pushed
+        → TableRow (within seen_as) (op.Simd o) popped pushed
+    vector_as (simd.V128Const v) popped pushed k r = r
+    vector_as o popped pushed k r = absurd k
+
     row_as : (set : Initialised) (o : Op) (popped pushed : List Operand) → IsConstantOperator bits g count o → MayReferToEach seen_as (referred_by o) → Row (within g) set o popped pushed
         → Row (within seen_as) set o popped pushed
     row_as set (op.Const o) popped pushed k m r = r
@@ -80,8 +104,9 @@ module _ (g h : Module) where
     row_as set (op.Memory o) popped pushed k m r = (r.0, memory_as set o popped pushed k r.1)
     row_as set (op.Bulk o) popped pushed k m r = (r.0, bulk_as o popped pushed k m r.1)
     row_as set (op.Gc o) popped pushed k m r = (r.0, gc_as o popped pushed k r.1)
-    row_as set (op.Descriptor o) popped pushed k m r = r
-    row_as set (op.Shared o) popped pushed k m r = r
+    row_as set (op.Descriptor o) popped pushed k m r = (r.0, descriptor_as o popped pushed k r.1)
+    row_as set (op.Shared o) popped pushed k m r = (r.0, shared_as o popped pushed k r.1)
+    row_as set (op.Simd o) popped pushed k m r = (r.0, vector_as o popped pushed k r.1)
     row_as set (op.Control control.End) popped pushed k m r = r
     row_as set o popped pushed k m r = absurd k
 

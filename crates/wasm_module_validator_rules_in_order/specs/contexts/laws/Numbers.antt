@@ -1,6 +1,7 @@
 -- A constant that gives a number names no function: a reference that it made would stay on the stack, or another one that takes it.
 use Rattle.std.proofs.Common.{◌≡◌, ℕ, Bool, true, false, not, ◌&&◌, List, [], ◌∷◌, ◌++◌, reverse, Option, Some, None, slice_get, ◌⊎◌, inl, inr, refl, sym, ap, ◌∙◌, subst, if◌then◌else◌}
-use Rattle.wasm_types.specs.trees.Types.{Number, i32, i64, number, ref}
+use Rattle.wasm_types.specs.settings.Features.{judges_vectors}
+use Rattle.wasm_types.specs.trees.Types.{Number, i32, i64, v128, i31, number, ref, abstract}
 use Rattle.wasm_operators_immediates.specs.declared.frames.FrameKind.{FrameKind}
 use Rattle.wasm_operators_immediates.specs.declared.frames.FrameKind.TheVariants.{Block}
 use Rattle.wasm_operators_enums.specs.declared.control.ControlOperator.TheVariants as control
@@ -12,6 +13,12 @@ use Rattle.wasm_operators_enums.specs.declared.numeric.NumericOperator.{NumericO
 use Rattle.wasm_operators_enums.specs.declared.numeric.NumericOperator.TheVariants as numeric
 use Rattle.wasm_operators_enums.specs.declared.gc.GcOperator.{GcOperator}
 use Rattle.wasm_operators_enums.specs.declared.gc.GcOperator.TheVariants as gc
+use Rattle.wasm_operators_enums.specs.declared.gc.DescriptorOperator.{DescriptorOperator}
+use Rattle.wasm_operators_enums.specs.declared.gc.DescriptorOperator.TheVariants as descriptor
+use Rattle.wasm_operators_enums.specs.declared.atomic.SharedOperator.{SharedOperator}
+use Rattle.wasm_operators_enums.specs.declared.atomic.SharedOperator.TheVariants as shared
+use Rattle.wasm_operators_enums.specs.declared.vector.SimdOperator.{SimdOperator}
+use Rattle.wasm_operators_enums.specs.declared.vector.SimdOperator.TheVariants as simd
 use Rattle.wasm_operators_enums.specs.Op as op
 use Rattle.wasm_operators_enums.specs.Op.{Op}
 use Rattle.wasm_operators_enums.specs.Roles.{role_of, effect}
@@ -23,11 +30,14 @@ use Rattle.wasm_operator_validator_rules.specs.Context.{Module, Global, Context,
 use Rattle.wasm_operator_validator_rules.specs.Numbers.{numbers, class_of, taken_by}
 use Rattle.wasm_operator_validator_rules.specs.Aggregates.{struct_named, array_named}
 use Rattle.wasm_operator_validator_rules.specs.Places.{has_default, have_defaults}
-use Rattle.wasm_operator_validator_rules.specs.InstructionTypes.{InstructionType, ◌⟶◌, named, provided, is_described}
+use Rattle.wasm_operator_validator_rules.specs.InstructionTypes.{InstructionType, ◌⟶◌, named, provided, is_described, allocated}
+use Rattle.wasm_operator_validator_rules.specs.Descriptors.{DescriptorRow}
 use Rattle.wasm_operator_validator_rules.specs.Objects.{GcRow}
+use Rattle.wasm_operator_validator_rules.specs.SharedAccesses.{SharedRow}
+use Rattle.wasm_operator_validator_rules.specs.Taken.{TableRow}
 use Rattle.wasm_operator_validator_rules.specs.Row.{GroupRow, MemoryRow, BulkRow, after}
 use Rattle.wasm_operator_validator_rules.specs.Typed.{Typed}
-use Rattle.wasm_operator_validator_rules.specs.constants.Constants.{IsConstantOperator, IsConstantNumber, IsConstantObject, IsConstantMemory, IsConstantReference, AreConstantOperators, IsConstant}
+use Rattle.wasm_operator_validator_rules.specs.constants.Constants.{IsConstantOperator, IsConstantNumber, IsConstantObject, IsConstantMemory, IsConstantReference, IsConstantDescribed, IsConstantShared, IsConstantVector, AreConstantOperators, IsConstant}
 use Rattle.wasm_module_validator_rules.specs.Spaces.{referred_by, referred_in}
 use Rattle.wasm_module_validator_rules_in_order.specs.contexts.laws.Constants.{opens_none}
 
@@ -151,6 +161,19 @@ module _ (bits : ℕ) (g : Module) (count : ℕ) (c : Context) where
   bulk_takes (bulk.RefFunc x) popped pushed k r = no_operands popped r.6.0
   bulk_takes o popped pushed k r = absurd k
 
+  descriptor_gives : (o : DescriptorOperator) (popped pushed : List Operand) → IsConstantDescribed bits o → DescriptorRow c o popped pushed → GivesReference pushed
+  descriptor_gives (descriptor.StructNewDesc x) popped pushed k r = gives (allocated c r.0.type ∷ []) pushed (inl tt) r.3.1
+  descriptor_gives (descriptor.StructNewDefaultDesc x) popped pushed k r = gives (allocated c r.0.type ∷ []) pushed (inl tt) r.4.1
+  descriptor_gives o popped pushed k r = absurd k
+
+  shared_gives : (o : SharedOperator) (popped pushed : List Operand) → IsConstantShared bits o → SharedRow c o popped pushed → GivesReference pushed
+  shared_gives shared.RefI31Shared popped pushed k r = gives (ref false (abstract true i31) ∷ []) pushed (inl tt) r.1
+  shared_gives o popped pushed k r = absurd k
+
+  vector_takes : (o : SimdOperator) (popped pushed : List Operand) → IsConstantVector o → TableRow c (op.Simd o) popped pushed → AreNumbers popped
+  vector_takes (simd.V128Const v) popped pushed k r = takes_none r.0 popped (chosen_takes (judges_vectors c.bits) (number v128 ∷ []) r.0 r.1) r.2.0
+  vector_takes o popped pushed k r = absurd k
+
   operator_keeps : (set : Initialised) (o : Op) (popped pushed : List Operand) → IsConstantOperator bits g count o → GroupRow c set o popped pushed
       → HasReference (reverse popped) → GivesReference pushed
   operator_keeps set (op.Const o) popped pushed k r h =
@@ -161,8 +184,9 @@ module _ (bits : ℕ) (g : Module) (count : ℕ) (c : Context) where
   operator_keeps set (op.Memory o) popped pushed k r h = absurd (memory_takes set o popped pushed k r h)
   operator_keeps set (op.Bulk o) popped pushed k r h = absurd (bulk_takes o popped pushed k r h)
   operator_keeps set (op.Gc o) popped pushed k r h = object_gives o popped pushed k r
-  operator_keeps set (op.Descriptor o) popped pushed k r h = absurd (none_some r.0 r.1)
-  operator_keeps set (op.Shared o) popped pushed k r h = absurd (none_some r.0 r.1)
+  operator_keeps set (op.Descriptor o) popped pushed k r h = descriptor_gives o popped pushed k r
+  operator_keeps set (op.Shared o) popped pushed k r h = shared_gives o popped pushed k r
+  operator_keeps set (op.Simd o) popped pushed k r h = absurd (vector_takes o popped pushed k r h)
   operator_keeps set (op.Control control.End) popped pushed k r h = absurd (none_some r.0 r.1)
   operator_keeps set o popped pushed k r h = absurd k
 
