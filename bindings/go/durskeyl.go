@@ -1,0 +1,124 @@
+// Package durskeyl validates WebAssembly core modules, by a validator that is proved right.
+//
+//	if err := durskeyl.Validate(module); err != nil {
+//		var fault *durskeyl.Error
+//		if errors.As(err, &fault) && fault.IsVerdict() {
+//			reject(fault.Offset, fault.Message)
+//		}
+//	}
+//
+// It calls the library that ./install-library of the repository installs, which pkg-config finds (PKG_CONFIG_PATH). What is proved is that
+// library, and only if IsProved. Calls keep nothing, and may come from any number of goroutines; nobody may write the bytes meanwhile.
+package durskeyl
+
+/*
+#cgo pkg-config: durskeyl
+#include <durskeyl.h>
+*/
+import "C"
+
+import (
+	"fmt"
+	"strings"
+	"unsafe"
+)
+
+// Version is that of this package.
+const Version = "0.2.0"
+
+// Kind is what kind of fault was found.
+type Kind uint32
+
+// The kinds of faults.
+const (
+	EndOfData      Kind = 1 // the bytes end too early; Detail: at least so many more would be asked for
+	MissingFeature Kind = 2 // invalid under these features; Detail: the bits of a feature that would allow what is there
+	OutOfMemory    Kind = 3 // no verdict: memory was refused
+	Invalid        Kind = 5 // any other fault of the bytes
+	BadSettings    Kind = 6 // no verdict: a feature or a limit that the library does not know, or a limit above its ceiling
+)
+
+// Error is why there is no valid module.
+type Error struct {
+	Kind   Kind
+	Offset uint64 // in the bytes
+	Detail uint64 // see the kinds; else 0
+	// Message is what is wrong, for people, in no stable wording. It may hold a name of the module, with any characters (see Shown).
+	Message string
+}
+
+// IsVerdict says whether the bytes were found invalid. If not, nothing is known of them.
+func (err *Error) IsVerdict() bool {
+	return err.Kind == EndOfData || err.Kind == MissingFeature || err.Kind == Invalid
+}
+
+// Error is the fault in a line.
+func (err *Error) Error() string {
+	switch {
+	case err.IsVerdict():
+		return fmt.Sprintf("invalid at %#x: %s", err.Offset, Shown(err.Message))
+	case err.Kind == OutOfMemory:
+		return "out of memory"
+	case err.Kind == BadSettings:
+		return "bad settings"
+	}
+	return fmt.Sprintf("no verdict: unknown kind %d", err.Kind)
+}
+
+// LibraryVersion is that of the library: three numbers.
+func LibraryVersion() (first, second, third uint8) {
+	version := uint32(C.durskeyl_version())
+	return uint8(version >> 16), uint8(version >> 8), uint8(version)
+}
+
+// IsProved says whether the library was built by the toolchain from what it proved.
+func IsProved() bool {
+	return C.durskeyl_version()&C.DURSKEYL_NOT_PROVED == 0
+}
+
+// first is the first byte of a slice, or nil: cgo lends it for the call.
+func first(bytes []byte) *C.uint8_t {
+	if len(bytes) == 0 {
+		return nil
+	}
+	return (*C.uint8_t)(unsafe.Pointer(&bytes[0]))
+}
+
+// Validate gives nil if the bytes are a valid module by the settings by default; else an *Error.
+func Validate(module []byte) error {
+	return DefaultSettings().Validate(module)
+}
+
+// IsValid says whether the bytes are a valid module by the settings by default. It is false also if there was no memory to tell.
+func IsValid(module []byte) bool {
+	return C.durskeyl_is_valid(first(module), C.size_t(len(module))) == 1
+}
+
+// Validate gives nil if the bytes are a valid module by these settings; else an *Error.
+func (settings *Settings) Validate(module []byte) error {
+	var fault C.durskeyl_fault
+	kind := C.durskeyl_validate(settings.held(), first(module), C.size_t(len(module)), &fault)
+	if kind == C.DURSKEYL_VALID {
+		return nil
+	}
+	err := &Error{Kind: Kind(kind), Offset: uint64(fault.offset), Detail: uint64(fault.detail)}
+	if err.IsVerdict() {
+		err.Message = C.GoStringN(&fault.text[0], C.int(fault.text_length))
+	}
+	return err
+}
+
+// Shown is a text of others, written so that it stays within its line: as wasm-check does, control characters, those that end a line for
+// some readers and those that turn its order are written as \u{N}.
+func Shown(text string) string {
+	var out strings.Builder
+	for _, c := range text {
+		turns := c == 0x61c || c == 0x200e || c == 0x200f || 0x202a <= c && c <= 0x202e || 0x2066 <= c && c <= 0x2069
+		if c < 0x20 || 0x7f <= c && c < 0xa0 || c == 0x2028 || c == 0x2029 || turns {
+			fmt.Fprintf(&out, "\\u{%x}", c)
+		} else {
+			out.WriteRune(c)
+		}
+	}
+	return out.String()
+}
