@@ -12,11 +12,12 @@
  *   toolchain from what it proved; if it was not, durskeyl_version has the bit DURSKEYL_NOT_PROVED.
  *
  * THE CALLER PROMISES, and nothing checks it:
- *   - settings and fault are not null, and aligned; bytes may be null only with length 0; so many bytes as length says
- *     can be read during the whole call (a length above PTRDIFF_MAX is refused, and nothing is read). Nobody writes them meanwhile: no other thread, and no process, so no file mapped as shared.
+ *   - settings and fault are not null, and aligned; bytes may be null only with length 0; so many bytes as length says can be
+ *     read during the whole call (a length above PTRDIFF_MAX is refused, and nothing is read). Nobody writes them meanwhile: no other thread,
+ *     and no process, so no file mapped as shared.
  *   - the fault overlaps neither the bytes nor the settings. rows are so many, apart from the bytes, and aligned; null only with capacity 0.
- *   - malloc, realloc and free belong together and align to 16; there are 64 KiB of stack; no call comes from a signal handler, nor
- *     after fork in the child of a process with threads, before exec.
+ *   - malloc, realloc and free belong together and align to 16; there are 128 KiB of stack, for the library and what the C library
+ *     takes of it in these three; no call comes from a signal handler, nor after fork in the child of a process with threads, before exec.
  * Any number of threads may call at once. */
 #ifndef DURSKEYL_H
 #define DURSKEYL_H

@@ -30,7 +30,7 @@ func kind(err error) Kind {
 	return 0
 }
 
-func want[T comparable](t *testing.T, what string, got, wanted T) {
+func want(t *testing.T, what string, got, wanted any) {
 	t.Helper()
 	if got != wanted {
 		t.Errorf("%s: %v in the place of %v", what, got, wanted)
@@ -47,9 +47,9 @@ func TestVerdicts(t *testing.T) {
 	err := fmt.Errorf("wrapped: %w", Validate(append(append([]byte{}, header...), 0x0f, 0)))
 	want(t, "as", errors.As(err, &fault), true)
 	want(t, "kind", fault.Kind, Invalid)
-	want(t, "offset", fault.Offset, 8)
+	want(t, "offset", fault.Offset, uint64(10))
 	want(t, "verdict", fault.IsVerdict(), true)
-	want(t, "line", strings.HasPrefix(fault.Error(), "invalid at 0x8: "), true)
+	want(t, "line", strings.HasPrefix(fault.Error(), "invalid at 0xa: "), true)
 }
 
 func TestEntries(t *testing.T) {
@@ -102,7 +102,7 @@ func TestBadSettings(t *testing.T) {
 func TestVersion(t *testing.T) {
 	first, second, third := LibraryVersion()
 	want(t, "version", fmt.Sprintf("%d.%d.%d", first, second, third), Version)
-	want(t, "all features", All.Features(), 1<<28-1)
+	want(t, "all features", All.Features(), Features(1<<28-1))
 	want(t, "default", Default.Features(), DefaultSettings().Features)
 }
 

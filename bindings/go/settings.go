@@ -10,34 +10,34 @@ type Features uint64
 
 // The features.
 const (
-	FeatureMutableGlobal Features = 1 << 0
-	FeatureSaturatingFloatToInt Features = 1 << 1
-	FeatureSignExtension Features = 1 << 2
-	FeatureReferenceTypes Features = 1<<3 | 1<<25
-	FeatureMultiValue Features = 1 << 4
-	FeatureBulkMemory Features = 1<<5 | 1<<26
-	FeatureSIMD Features = 1 << 6
-	FeatureRelaxedSIMD Features = 1 << 7
-	FeatureThreads Features = 1 << 8
+	FeatureMutableGlobal           Features = 1 << 0
+	FeatureSaturatingFloatToInt    Features = 1 << 1
+	FeatureSignExtension           Features = 1 << 2
+	FeatureReferenceTypes          Features = 1<<3 | 1<<25
+	FeatureMultiValue              Features = 1 << 4
+	FeatureBulkMemory              Features = 1<<5 | 1<<26
+	FeatureSIMD                    Features = 1 << 6
+	FeatureRelaxedSIMD             Features = 1 << 7
+	FeatureThreads                 Features = 1 << 8
 	FeatureSharedEverythingThreads Features = 1 << 9
-	FeatureTailCall Features = 1 << 10
-	FeatureFloats Features = 1 << 11
-	FeatureMultiMemory Features = 1 << 12
-	FeatureExceptions Features = 1 << 13
-	FeatureMemory64 Features = 1 << 14
-	FeatureExtendedConst Features = 1 << 15
-	FeatureComponentModel Features = 1 << 16
-	FeatureFunctionReferences Features = 1 << 17
-	FeatureMemoryControl Features = 1 << 18
-	FeatureGC Features = 1 << 19
-	FeatureCustomPageSizes Features = 1 << 20
-	FeatureLegacyExceptions Features = 1 << 21
-	FeatureGCTypes Features = 1 << 22
-	FeatureStackSwitching Features = 1 << 23
-	FeatureWideArithmetic Features = 1 << 24
-	FeatureCallIndirectOverlong Features = 1 << 25
-	FeatureBulkMemoryOpt Features = 1 << 26
-	FeatureCustomDescriptors Features = 1 << 27
+	FeatureTailCall                Features = 1 << 10
+	FeatureFloats                  Features = 1 << 11
+	FeatureMultiMemory             Features = 1 << 12
+	FeatureExceptions              Features = 1 << 13
+	FeatureMemory64                Features = 1 << 14
+	FeatureExtendedConst           Features = 1 << 15
+	FeatureComponentModel          Features = 1 << 16
+	FeatureFunctionReferences      Features = 1 << 17
+	FeatureMemoryControl           Features = 1 << 18
+	FeatureGC                      Features = 1 << 19
+	FeatureCustomPageSizes         Features = 1 << 20
+	FeatureLegacyExceptions        Features = 1 << 21
+	FeatureGCTypes                 Features = 1 << 22
+	FeatureStackSwitching          Features = 1 << 23
+	FeatureWideArithmetic          Features = 1 << 24
+	FeatureCallIndirectOverlong    Features = 1 << 25
+	FeatureBulkMemoryOpt           Features = 1 << 26
+	FeatureCustomDescriptors       Features = 1 << 27
 )
 
 // Set is the name of a set of features.

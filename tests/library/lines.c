@@ -1,5 +1,5 @@
 // Says of each file whether it is a valid module, by lines as those of wasm-check. usage: lines FILE.. ; lines --calls ; lines --stack FILE..
-// After --stack each file is judged, and its entries listed, on a stack of 64 KiB, which a page without access ends.
+// After --stack each file is judged, and its entries listed, on a stack of 128 KiB, which a page without access ends.
 #define _GNU_SOURCE
 #include <durskeyl.h>
 #include <pthread.h>
@@ -173,7 +173,7 @@ static void calls(void) {
     }
 }
 
-enum { STACK = 64 << 10, PAGE = 4 << 10 };
+enum { STACK = 128 << 10, PAGE = 4 << 10 };
 
 struct work {
     durskeyl_settings settings;
@@ -193,7 +193,7 @@ static void *judge(void *held) {
     return NULL;
 }
 
-// The stack is filled, so that what was never written tells how far it was used: at each end some of it is the thread's own.
+// The stack is filled, so that what was never written tells how far it was used: at its high end some of it is the thread's own.
 static size_t on_small_stack(struct work *work) {
     uint8_t *low = mmap(NULL, STACK + PAGE, PROT_NONE, MAP_PRIVATE | MAP_ANONYMOUS, -1, 0);
     pthread_attr_t how;

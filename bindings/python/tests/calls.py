@@ -29,8 +29,8 @@ class Calls(unittest.TestCase):
         with self.assertRaises(InvalidModule) as caught:
             durskeyl.validate(HEADER + b"\x0f\0")
         fault = caught.exception
-        self.assertEqual((fault.kind, fault.offset), (Kind.INVALID, 8))
-        self.assertTrue(fault.message and str(fault).startswith("invalid at 0x8: "))
+        self.assertEqual((fault.kind, fault.offset), (Kind.INVALID, 10))
+        self.assertTrue(fault.message and str(fault).startswith("invalid at 0xa: "))
         with self.assertRaises(InvalidModule) as caught:
             durskeyl.validate(HEADER[:7])
         self.assertEqual(caught.exception.kind, Kind.END_OF_DATA)

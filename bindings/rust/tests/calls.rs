@@ -28,8 +28,8 @@ fn verdicts() {
     let error = validate(&HEADER[..7]).unwrap_err();
     assert!(matches!(error.kind(), ErrorKind::EndOfData { .. }) && error.is_verdict());
     let error = validate(b"\0asm\x01\0\0\0\x0f\0").unwrap_err();
-    assert_eq!((error.kind(), error.offset()), (ErrorKind::Invalid, 8));
-    assert!(error.to_string().starts_with("invalid at 0x8: "));
+    assert_eq!((error.kind(), error.offset()), (ErrorKind::Invalid, 10));
+    assert!(error.to_string().starts_with("invalid at 0xa: "));
 }
 
 #[test]
