@@ -2,7 +2,9 @@
  *
  * PROVED, of the library's source: durskeyl_validate answers DURSKEYL_VALID only if the bytes spell a module that is valid by the written
  * rules under the settings (docs/SPECIFICATION.md names them), and a kind that is a verdict only if they do not; fault->kind is that
- * answer; the text ends in a 0. durskeyl_is_valid answers 1 only if durskeyl_validate may answer DURSKEYL_VALID by the settings by default,
+ * answer; the text ends in a 0. A module that is accepted runs soundly: if the features are those of the standard, so without
+ * DURSKEYL_SHARED_EVERYTHING_THREADS, DURSKEYL_STACK_SWITCHING and DURSKEYL_CUSTOM_DESCRIPTORS, no run of it is stuck, whatever its host
+ * and its memory answer; docs/SOUNDNESS.md says which checks a compiler may leave out. durskeyl_is_valid answers 1 only if durskeyl_validate may answer DURSKEYL_VALID by the settings by default,
  * and else 0. durskeyl_imports and durskeyl_exports, of bytes that durskeyl_validate accepted by whatever settings: how
  * many there are, and in each row the names, the kind and the index that the module has, in its order; of any other bytes, that the names of
  * all rows that were written lie in the bytes, unless the answer is DURSKEYL_NO_MODULE. All calls end on all bytes, read only
@@ -41,7 +43,7 @@ enum durskeyl_kind {
     DURSKEYL_OUT_OF_MEMORY = 3,   /* NO VERDICT: malloc refused. Never take it for invalid */
     DURSKEYL_FAILED = 4,          /* not answered by durskeyl_validate today */
     DURSKEYL_INVALID = 5,         /* invalid: any other fault */
-    DURSKEYL_BAD_SETTINGS = 6     /* NO VERDICT: a bit that is no feature's, a limit above its ceiling, a number other than 0 at a place
+    DURSKEYL_BAD_SETTINGS = 6     /* NO VERDICT: an unknown bit among the features, a limit above its ceiling, a number other than 0 at a place
                                    * that is kept for later, or a length above PTRDIFF_MAX */
 };
 
@@ -76,6 +78,10 @@ enum durskeyl_feature {
     DURSKEYL_BULK_MEMORY_OPT = 1 << 26,
     DURSKEYL_CUSTOM_DESCRIPTORS = 1 << 27
 };
+
+/* A bit beside those of features, which no named set has: with it operators on vectors are judged like all others, and are valid if
+ * the features of their proposals allow them; without it each of them is refused. */
+#define DURSKEYL_VECTORS (UINT64_C(1) << 28)
 
 /* The places in limits: the most that a module may have of each. The last three are kept for later, and hold 0. */
 enum durskeyl_limit {
@@ -139,7 +145,7 @@ enum durskeyl_set {
 };
 
 typedef struct {
-    uint64_t features;            /* bits of enum durskeyl_feature */
+    uint64_t features;            /* bits of enum durskeyl_feature, and DURSKEYL_VECTORS */
     uint32_t limits[DURSKEYL_LIMITS]; /* by enum durskeyl_limit */
 } durskeyl_settings;
 

@@ -40,6 +40,9 @@ const (
 	FeatureCustomDescriptors       Features = 1 << 27
 )
 
+// Vectors is no feature, and in no named set: operators on vectors are judged like all others.
+const Vectors Features = 1 << 28
+
 // Set is the name of a set of features.
 type Set uint32
 

@@ -69,6 +69,8 @@ class Features(enum.IntFlag):
     CALL_INDIRECT_OVERLONG = 1 << 25
     BULK_MEMORY_OPT = 1 << 26
     CUSTOM_DESCRIPTORS = 1 << 27
+    #: no feature, and in no named set: operators on vectors are judged like all others
+    VECTORS = 1 << 28
 
 class External(enum.IntEnum):
     """What is imported or exported."""

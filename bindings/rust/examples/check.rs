@@ -1,15 +1,19 @@
-//! Says of each file whether it is a valid WebAssembly module, by lines as those of `wasm-check`; after `--entries` what each imports and
-//! exports. Ends with 0 if all are valid, 1 if some file is not, and 2 if there is no verdict on some file.
+//! Says of each file whether it is a valid WebAssembly module, by lines as those of `wasm-check`; with `--vectors` operators on vectors
+//! are judged like all others, and after `--entries` it says what each imports and exports. Ends with 0 if all are valid, 1 if some file is not, and 2 if there is no verdict on some file.
 
-use durskeyl::{External, Module, Settings, Shown};
+use durskeyl::{External, Features, Module, Settings, Shown};
 use std::io::{self, Write};
 use std::process::ExitCode;
 
 fn main() -> ExitCode {
-    let words: Vec<_> = std::env::args_os().skip(1).collect();
+    let mut words: Vec<_> = std::env::args_os().skip(1).collect();
+    let mut settings = Settings::new();
+    if words.first().is_some_and(|it| it == "--vectors") {
+        words.remove(0);
+        settings = Settings::new().with_features(Features::default() | Features::VECTORS);
+    }
     let lists = words.first().is_some_and(|it| it == "--entries");
     let out = &mut io::stdout().lock();
-    let settings = Settings::new();
     let mut status = 0;
     for name in &words[usize::from(lists)..] {
         let shown = name.to_string_lossy();

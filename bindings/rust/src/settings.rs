@@ -39,6 +39,9 @@ impl Features {
     pub const BULK_MEMORY_OPT: Features = Features(1 << 26);
     pub const CUSTOM_DESCRIPTORS: Features = Features(1 << 27);
 
+    /// No feature, and in no named set: operators on vectors are judged like all others.
+    pub const VECTORS: Features = Features(1 << 28);
+
     /// No features.
     pub const NONE: Features = Features(0);
 

@@ -52,8 +52,9 @@ pub record LeavesLater (ns : List ℕ) : Type 0 where
   pub second : slice_index_or ns 22 0 ≡ 0
   pub third : slice_index_or ns 23 0 ≡ 0
 
--- only known features are allowed, no limit is above its ceiling, and none is there that this library does not know
+-- only known features are allowed, and operators on vectors judged or not; no limit is above its ceiling, and none is there that this
+-- library does not know
 pub record AreSettings (s : DurskeylSettings) : Type 0 where
-  pub features : s.features < 2 ^ 28
+  pub features : s.features < 2 ^ 29
   pub limits : IsWithinCeilings (limits_in s.limits)
   pub later : LeavesLater s.limits

@@ -1,5 +1,5 @@
-// Says of each file whether it is a valid WebAssembly module, by lines as those of wasm-check; after --entries what each imports and
-// exports. Ends with 0 if all are valid, 1 if some file is not, and 2 if there is no verdict on some file.
+// Says of each file whether it is a valid WebAssembly module, by lines as those of wasm-check; with --vectors operators on vectors are
+// judged like all others, and after --entries it says what each imports and exports. Ends with 0 if all are valid, 1 if some file is not, and 2 if there is no verdict on some file.
 package main
 
 import (
@@ -21,12 +21,12 @@ func hex(name string) string {
 }
 
 // list writes what a module imports and exports.
-func list(out io.Writer, module []byte) error {
-	imports, err := durskeyl.Imports(module)
+func list(out io.Writer, settings *durskeyl.Settings, module []byte) error {
+	imports, err := settings.Imports(module)
 	if err != nil {
 		return err
 	}
-	exports, err := durskeyl.Exports(module)
+	exports, err := settings.Exports(module)
 	if err != nil {
 		return err
 	}
@@ -40,15 +40,15 @@ func list(out io.Writer, module []byte) error {
 }
 
 // check writes the lines of a file, and gives its status.
-func check(out io.Writer, name string, lists bool) int {
+func check(out io.Writer, settings *durskeyl.Settings, name string, lists bool) int {
 	shown := durskeyl.Shown(name)
 	module, err := os.ReadFile(name)
 	switch {
 	case err != nil:
 	case lists:
-		err = list(out, module)
+		err = list(out, settings, module)
 	default:
-		err = durskeyl.Validate(module)
+		err = settings.Validate(module)
 	}
 	var fault *durskeyl.Error
 	switch {
@@ -67,6 +67,11 @@ func check(out io.Writer, name string, lists bool) int {
 
 func main() {
 	words := os.Args[1:]
+	settings := durskeyl.DefaultSettings()
+	if len(words) > 0 && words[0] == "--vectors" {
+		words = words[1:]
+		settings.Features |= durskeyl.Vectors
+	}
 	lists := len(words) > 0 && words[0] == "--entries"
 	if lists {
 		words = words[1:]
@@ -74,7 +79,7 @@ func main() {
 	out := bufio.NewWriter(os.Stdout)
 	status := 0
 	for _, name := range words {
-		if found := check(out, name, lists); found > status {
+		if found := check(out, settings, name, lists); found > status {
 			status = found
 		}
 	}
