@@ -1,23 +1,25 @@
-/* durskeyl.h: a validator of WebAssembly core modules that is proved right. Interface 1.2. The library needs the C library alone.
+/* durskeyl.h: a validator of WebAssembly core modules that is proved right. Version 0.2.0. The library needs the C library alone.
  *
  * PROVED, of the library's source: durskeyl_validate answers DURSKEYL_VALID only if the bytes spell a module that is valid by the written
  * rules under the settings (docs/SPECIFICATION.md names them), and a kind that is a verdict only if they do not; fault->kind is that
- * answer; the text ends in a 0. A module that is accepted runs soundly: if the features are those of the standard, so without bits 9, 23
- * and 27 (shared everything, stack switching, custom descriptors), no run of it is stuck, whatever its host and its memory answer;
- * docs/SOUNDNESS.md says which checks a compiler may leave out. durskeyl_imports and durskeyl_exports, of bytes that durskeyl_validate
- * accepted by whatever settings: how many there are, and in each row the names, the kind and the index that the module has, in its order;
- * of any other bytes, that the names of all rows that were written lie in the bytes, unless the answer is DURSKEYL_NO_MODULE. All calls
- * end on all bytes, read only what they are given, and write only the fault or the rows. No call depends on an earlier one, keeps
- * anything, or leaves anything to free.
+ * answer; the text ends in a 0. A module that is accepted runs soundly: if the features are those of the standard, so without
+ * DURSKEYL_SHARED_EVERYTHING_THREADS, DURSKEYL_STACK_SWITCHING and DURSKEYL_CUSTOM_DESCRIPTORS, no run of it is stuck, whatever its host
+ * and its memory answer; docs/SOUNDNESS.md says which checks a compiler may leave out. durskeyl_is_valid answers 1 only if durskeyl_validate may answer DURSKEYL_VALID by the settings by default,
+ * and else 0. durskeyl_imports and durskeyl_exports, of bytes that durskeyl_validate accepted by whatever settings: how
+ * many there are, and in each row the names, the kind and the index that the module has, in its order; of any other bytes, that the names of
+ * all rows that were written lie in the bytes, unless the answer is DURSKEYL_NO_MODULE. All calls end on all bytes, read only
+ * what they are given, and write only the fault or the rows. No call depends on an earlier one, keeps anything, or leaves anything to free.
  * NOT PROVED: which of several faults is told, its kind, offset and text; time, memory and stack; this header; the kit's
- *   functions of memory; the C library.
+ *   functions of memory; the C library. The file PROVED, which is installed beside LICENSE, says whether the archive was built by the
+ *   toolchain from what it proved; if it was not, durskeyl_version has the bit DURSKEYL_NOT_PROVED.
  *
  * THE CALLER PROMISES, and nothing checks it:
- *   - settings and fault are not null, and aligned; bytes may be null only with length 0; length is at most PTRDIFF_MAX, and so many
- *     bytes can be read during the whole call. Nobody writes them meanwhile: no other thread, and no process, so no file mapped as shared.
+ *   - settings and fault are not null, and aligned; bytes may be null only with length 0; so many bytes as length says can be
+ *     read during the whole call (a length above PTRDIFF_MAX is refused, and nothing is read). Nobody writes them meanwhile: no other thread,
+ *     and no process, so no file mapped as shared.
  *   - the fault overlaps neither the bytes nor the settings. rows are so many, apart from the bytes, and aligned; null only with capacity 0.
- *   - malloc, realloc and free belong together and align to 16; there are 64 KiB of stack; no call comes from a signal handler, nor
- *     after fork in the child of a process with threads, before exec.
+ *   - malloc, realloc and free belong together and align to 16; there are 128 KiB of stack, for the library and what the C library
+ *     takes of it in these three; no call comes from a signal handler, nor after fork in the child of a process with threads, before exec.
  * Any number of threads may call at once. */
 #ifndef DURSKEYL_H
 #define DURSKEYL_H
@@ -27,8 +29,12 @@
 extern "C" {
 #endif
 
-/* The first number times 2^16, and the second: a new second number only adds functions, features or limits. */
-#define DURSKEYL_VERSION UINT32_C(0x10002)
+/* The version, 8 bits a number: 0.2.0. Before 1.0.0 a new second number may change what there is, a new third one changes no call;
+ * from then on a new second number only adds functions, features or limits. */
+#define DURSKEYL_VERSION UINT32_C(0x000200)
+
+/* The bit of durskeyl_version by which a library says that it was built without its proof (install-library --unproved). */
+#define DURSKEYL_NOT_PROVED UINT32_C(0x80000000)
 
 enum durskeyl_kind {
     DURSKEYL_VALID = 0,
@@ -37,10 +43,47 @@ enum durskeyl_kind {
     DURSKEYL_OUT_OF_MEMORY = 3,   /* NO VERDICT: malloc refused. Never take it for invalid */
     DURSKEYL_FAILED = 4,          /* not answered by durskeyl_validate today */
     DURSKEYL_INVALID = 5,         /* invalid: any other fault */
-    DURSKEYL_BAD_SETTINGS = 6     /* NO VERDICT: an unknown bit among the features, or a limit above its ceiling */
+    DURSKEYL_BAD_SETTINGS = 6     /* NO VERDICT: an unknown bit among the features, a limit above its ceiling, a number other than 0 at a place
+                                   * that is kept for later, or a length above PTRDIFF_MAX */
 };
 
-/* The places in limits: the most that a module may have of each. The last three are kept for later. */
+/* The features, as bits of durskeyl_settings.features: the names and bits of wasmparser's WasmFeatures. */
+enum durskeyl_feature {
+    DURSKEYL_MUTABLE_GLOBAL = 1 << 0,
+    DURSKEYL_SATURATING_FLOAT_TO_INT = 1 << 1,
+    DURSKEYL_SIGN_EXTENSION = 1 << 2,
+    DURSKEYL_REFERENCE_TYPES = 1 << 3 | 1 << 25, /* and CALL_INDIRECT_OVERLONG */
+    DURSKEYL_MULTI_VALUE = 1 << 4,
+    DURSKEYL_BULK_MEMORY = 1 << 5 | 1 << 26, /* and BULK_MEMORY_OPT */
+    DURSKEYL_SIMD = 1 << 6,
+    DURSKEYL_RELAXED_SIMD = 1 << 7,
+    DURSKEYL_THREADS = 1 << 8,
+    DURSKEYL_SHARED_EVERYTHING_THREADS = 1 << 9,
+    DURSKEYL_TAIL_CALL = 1 << 10,
+    DURSKEYL_FLOATS = 1 << 11,
+    DURSKEYL_MULTI_MEMORY = 1 << 12,
+    DURSKEYL_EXCEPTIONS = 1 << 13,
+    DURSKEYL_MEMORY64 = 1 << 14,
+    DURSKEYL_EXTENDED_CONST = 1 << 15,
+    DURSKEYL_COMPONENT_MODEL = 1 << 16,
+    DURSKEYL_FUNCTION_REFERENCES = 1 << 17,
+    DURSKEYL_MEMORY_CONTROL = 1 << 18,
+    DURSKEYL_GC = 1 << 19,
+    DURSKEYL_CUSTOM_PAGE_SIZES = 1 << 20,
+    DURSKEYL_LEGACY_EXCEPTIONS = 1 << 21,
+    DURSKEYL_GC_TYPES = 1 << 22,
+    DURSKEYL_STACK_SWITCHING = 1 << 23,
+    DURSKEYL_WIDE_ARITHMETIC = 1 << 24,
+    DURSKEYL_CALL_INDIRECT_OVERLONG = 1 << 25,
+    DURSKEYL_BULK_MEMORY_OPT = 1 << 26,
+    DURSKEYL_CUSTOM_DESCRIPTORS = 1 << 27
+};
+
+/* A bit beside those of features, which no named set has: with it operators on vectors are judged like all others, and are valid if
+ * the features of their proposals allow them; without it each of them is refused. */
+#define DURSKEYL_VECTORS (UINT64_C(1) << 28)
+
+/* The places in limits: the most that a module may have of each. The last three are kept for later, and hold 0. */
 enum durskeyl_limit {
     DURSKEYL_TYPES,
     DURSKEYL_PARAMS,
@@ -66,7 +109,31 @@ enum durskeyl_limit {
     DURSKEYL_LIMITS = 24
 };
 
-/* Named sets of features, for durskeyl_features; any other number gives the set by default, WebAssembly 3.0 with threads. */
+/* The limits in their order, each with its default and its ceiling: X(NAME, DEFAULT, CEILING). */
+#define DURSKEYL_LIMIT_TABLE(X) \
+    X(TYPES, 1000000, 1048576) \
+    X(PARAMS, 1000, 1000) \
+    X(RESULTS, 1000, 1000) \
+    X(FIELDS, 10000, 1000000) \
+    X(STRING_BYTES, 100000, 1000000) \
+    X(IMPORTS, 1000000, 1000000) \
+    X(EXPORTS, 1000000, 1000000) \
+    X(FUNCTIONS, 1000000, 1000000) \
+    X(GLOBALS, 1000000, 1000000) \
+    X(TAGS, 1000000, 1000000) \
+    X(TABLES, 100, 100000) \
+    X(MEMORIES, 100, 100000) \
+    X(ELEMENT_SEGMENTS, 100000, 1000000) \
+    X(DATA_SEGMENTS, 100000, 1000000) \
+    X(SEGMENT_ITEMS, 10000000, 10000000) \
+    X(BODY_BYTES, 7654321, 7654321) \
+    X(SELECT_TYPES, 10, 1000) \
+    X(LOCALS, 50000, 1000000) \
+    X(CATCHES, 10000, 100000) \
+    X(SUBTYPING_DEPTH, 63, 254) \
+    X(TYPE_SIZE, 1000000, 16777215)
+
+/* Named sets of features, for durskeyl_features, which answers UINT64_MAX, a set that no call takes, for any other number. */
 enum durskeyl_set {
     DURSKEYL_ALL = 0,             /* all that this library knows, proposals too */
     DURSKEYL_MVP = 1,
@@ -74,16 +141,12 @@ enum durskeyl_set {
     DURSKEYL_WASM2 = 3,
     DURSKEYL_WASM3 = 4,
     DURSKEYL_LIME1 = 5,
-    DURSKEYL_DEFAULT = 6
+    DURSKEYL_DEFAULT = 6          /* WebAssembly 3.0 with threads, and the component model's */
 };
 
-/* A bit beside those of features, which no named set has: with it operators on vectors are judged like all others, and are valid if
- * the features of their proposals allow them; without it each of them is refused. */
-#define DURSKEYL_VECTORS (UINT64_C(1) << 28)
-
 typedef struct {
-    uint64_t features;            /* a bit for each feature, as in wasmparser's WasmFeatures, and DURSKEYL_VECTORS */
-    uint32_t limits[DURSKEYL_LIMITS];
+    uint64_t features;            /* bits of enum durskeyl_feature, and DURSKEYL_VECTORS */
+    uint32_t limits[DURSKEYL_LIMITS]; /* by enum durskeyl_limit */
 } durskeyl_settings;
 
 typedef struct {
@@ -129,6 +192,9 @@ uint32_t durskeyl_version(void);
 uint64_t durskeyl_features(uint32_t set);
 void durskeyl_settings_default(durskeyl_settings *settings);
 uint32_t durskeyl_validate(const durskeyl_settings *settings, const uint8_t *bytes, size_t length, durskeyl_fault *fault);
+
+/* 1 if the bytes are a valid module by the settings by default; else 0, also if there was no memory. */
+uint32_t durskeyl_is_valid(const uint8_t *bytes, size_t length);
 
 /* Of bytes that were accepted, all of them: answers how many imports (exports) the module has, and writes the first of them, as many as
  * capacity. With capacity 0 it only counts. Of other bytes the answer and the rows mean nothing. */

@@ -1,23 +1,82 @@
-// Durskeyl from Go: says of each file whether it is a valid WebAssembly module, and after --entries what it imports and exports.
-// After --vectors operators on vectors are judged like all others.
-package main
+// Package durskeyl validates WebAssembly core modules, by a validator that is proved right.
+//
+//	if err := durskeyl.Validate(module); err != nil {
+//		var fault *durskeyl.Error
+//		if errors.As(err, &fault) && fault.IsVerdict() {
+//			reject(fault.Offset, fault.Message)
+//		}
+//	}
+//
+// It calls the library that ./install-library of the repository installs, which pkg-config finds (PKG_CONFIG_PATH). What is proved is that
+// library, and only if IsProved. Calls keep nothing, and may come from any number of goroutines; nobody may write the bytes meanwhile.
+package durskeyl
 
 /*
-#cgo LDFLAGS: -ldurskeyl
+#cgo pkg-config: durskeyl
 #include <durskeyl.h>
 */
 import "C"
 
 import (
 	"fmt"
-	"os"
+	"strings"
 	"unsafe"
 )
 
-// Vectors is a bit of the features that no named set has: operators on vectors are judged like all others.
-const Vectors = C.DURSKEYL_VECTORS
+// Version is that of this package.
+const Version = "0.2.0"
 
-// The first byte of a slice, or nil: cgo lends it for the call.
+// Kind is what kind of fault was found.
+type Kind uint32
+
+// The kinds of faults.
+const (
+	EndOfData      Kind = 1 // the bytes end too early; Detail: at least so many more would be asked for
+	MissingFeature Kind = 2 // invalid under these features; Detail: the bits of a feature that would allow what is there
+	OutOfMemory    Kind = 3 // no verdict: memory was refused
+	Invalid        Kind = 5 // any other fault of the bytes
+	BadSettings    Kind = 6 // no verdict: a feature or a limit that the library does not know, or a limit above its ceiling
+)
+
+// Error is why there is no valid module.
+type Error struct {
+	Kind   Kind
+	Offset uint64 // in the bytes
+	Detail uint64 // see the kinds; else 0
+	// Message is what is wrong, for people, in no stable wording. It may hold a name of the module, with any characters (see Shown).
+	Message string
+}
+
+// IsVerdict says whether the bytes were found invalid. If not, nothing is known of them.
+func (err *Error) IsVerdict() bool {
+	return err.Kind == EndOfData || err.Kind == MissingFeature || err.Kind == Invalid
+}
+
+// Error is the fault in a line.
+func (err *Error) Error() string {
+	switch {
+	case err.IsVerdict():
+		return fmt.Sprintf("invalid at %#x: %s", err.Offset, Shown(err.Message))
+	case err.Kind == OutOfMemory:
+		return "out of memory"
+	case err.Kind == BadSettings:
+		return "bad settings"
+	}
+	return fmt.Sprintf("no verdict: unknown kind %d", err.Kind)
+}
+
+// LibraryVersion is that of the library: three numbers.
+func LibraryVersion() (first, second, third uint8) {
+	version := uint32(C.durskeyl_version())
+	return uint8(version >> 16), uint8(version >> 8), uint8(version)
+}
+
+// IsProved says whether the library was built by the toolchain from what it proved.
+func IsProved() bool {
+	return C.durskeyl_version()&C.DURSKEYL_NOT_PROVED == 0
+}
+
+// first is the first byte of a slice, or nil: cgo lends it for the call.
 func first(bytes []byte) *C.uint8_t {
 	if len(bytes) == 0 {
 		return nil
@@ -25,77 +84,41 @@ func first(bytes []byte) *C.uint8_t {
 	return (*C.uint8_t)(unsafe.Pointer(&bytes[0]))
 }
 
-// Validate gives "" if the bytes are a valid module, and whether there is a verdict at all: no memory and bad settings are none.
-func Validate(settings *C.durskeyl_settings, bytes []byte) (fault string, verdict bool) {
-	var it C.durskeyl_fault
-	switch C.durskeyl_validate(settings, first(bytes), C.size_t(len(bytes)), &it) {
-	case C.DURSKEYL_VALID:
-		return "", true
-	case C.DURSKEYL_OUT_OF_MEMORY, C.DURSKEYL_BAD_SETTINGS:
-		return "no verdict", false
+// Validate gives nil if the bytes are a valid module by the settings by default; else an *Error.
+func Validate(module []byte) error {
+	return DefaultSettings().Validate(module)
+}
+
+// IsValid says whether the bytes are a valid module by the settings by default. It is false also if there was no memory to tell.
+func IsValid(module []byte) bool {
+	return C.durskeyl_is_valid(first(module), C.size_t(len(module))) == 1
+}
+
+// Validate gives nil if the bytes are a valid module by these settings; else an *Error.
+func (settings *Settings) Validate(module []byte) error {
+	var fault C.durskeyl_fault
+	kind := C.durskeyl_validate(settings.held(), first(module), C.size_t(len(module)), &fault)
+	if kind == C.DURSKEYL_VALID {
+		return nil
 	}
-	return fmt.Sprintf("invalid at %#x: %s", uint64(it.offset), C.GoStringN(&it.text[0], C.int(it.text_length))), true
-}
-
-// Imports are those of bytes that were accepted.
-func Imports(bytes []byte) []C.durskeyl_import {
-	count := C.durskeyl_imports(first(bytes), C.size_t(len(bytes)), nil, 0)
-	rows := make([]C.durskeyl_import, count+1)
-	C.durskeyl_imports(first(bytes), C.size_t(len(bytes)), &rows[0], C.size_t(count))
-	return rows[:count]
-}
-
-// Exports are those of bytes that were accepted.
-func Exports(bytes []byte) []C.durskeyl_export {
-	count := C.durskeyl_exports(first(bytes), C.size_t(len(bytes)), nil, 0)
-	rows := make([]C.durskeyl_export, count+1)
-	C.durskeyl_exports(first(bytes), C.size_t(len(bytes)), &rows[0], C.size_t(count))
-	return rows[:count]
-}
-
-// A name as the lines of tests/library/entries.c have it.
-func hex(bytes []byte, offset C.uint64_t, length C.uint32_t) string {
-	if length == 0 {
-		return "-"
+	err := &Error{Kind: Kind(kind), Offset: uint64(fault.offset), Detail: uint64(fault.detail)}
+	if err.IsVerdict() {
+		err.Message = C.GoStringN(&fault.text[0], C.int(fault.text_length))
 	}
-	return fmt.Sprintf("%x", bytes[offset:][:length])
+	return err
 }
 
-func list(bytes []byte) {
-	for _, it := range Imports(bytes) {
-		fmt.Println("import", hex(bytes, it.module_offset, it.module_length), hex(bytes, it.name_offset, it.name_length), it.kind, it.index)
-	}
-	for _, it := range Exports(bytes) {
-		fmt.Println("export", hex(bytes, it.name_offset, it.name_length), it.kind, it.index)
-	}
-}
-
-func main() {
-	var settings C.durskeyl_settings
-	C.durskeyl_settings_default(&settings)
-	lists := false
-	for _, name := range os.Args[1:] {
-		if name == "--entries" {
-			lists = true
-			continue
-		}
-		if name == "--vectors" {
-			settings.features |= Vectors
-			continue
-		}
-		bytes, err := os.ReadFile(name)
-		if err != nil {
-			fmt.Fprintln(os.Stderr, err)
-			os.Exit(2)
-		}
-		fault, _ := Validate(&settings, bytes)
-		switch {
-		case fault != "":
-			fmt.Printf("%s: %s\n", name, fault)
-		case lists:
-			list(bytes)
-		default:
-			fmt.Printf("%s: valid\n", name)
+// Shown is a text of others, written so that it stays within its line: as wasm-check does, control characters, those that end a line for
+// some readers and those that turn its order are written as \u{N}.
+func Shown(text string) string {
+	var out strings.Builder
+	for _, c := range text {
+		turns := c == 0x61c || c == 0x200e || c == 0x200f || 0x202a <= c && c <= 0x202e || 0x2066 <= c && c <= 0x2069
+		if c < 0x20 || 0x7f <= c && c < 0xa0 || c == 0x2028 || c == 0x2029 || turns {
+			fmt.Fprintf(&out, "\\u{%x}", c)
+		} else {
+			out.WriteRune(c)
 		}
 	}
+	return out.String()
 }

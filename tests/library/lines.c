@@ -1,9 +1,12 @@
-// Says of each file whether it is a valid module, by lines as those of wasm-check. usage: lines FILE.. ; lines --calls
+// Says of each file whether it is a valid module, by lines as those of wasm-check. usage: lines FILE.. ; lines --calls ; lines --stack FILE..
+// After --stack each file is judged, and its entries listed, on a stack of 128 KiB, which a page without access ends.
+#define _GNU_SOURCE
 #include <durskeyl.h>
 #include <pthread.h>
 #include <stdio.h>
 #include <stdlib.h>
 #include <string.h>
+#include <sys/mman.h>
 
 static const uint8_t header[] = {0, 'a', 's', 'm', 1, 0, 0, 0};
 static int wrong;
@@ -50,9 +53,9 @@ static void say(const durskeyl_settings *settings, const char *name) {
     free(bytes);
 }
 
-static void want(const char *what, uint32_t got, uint32_t wanted) {
+static void want(const char *what, uint64_t got, uint64_t wanted) {
     if (got != wanted) {
-        printf("%s: kind %u in the place of %u\n", what, got, wanted);
+        printf("%s: %llu in the place of %llu\n", what, (unsigned long long)got, (unsigned long long)wanted);
         wrong++;
     }
 }
@@ -65,6 +68,48 @@ static void *many(void *settings) {
         bad += durskeyl_validate(settings, header, 7, &fault) != DURSKEYL_END_OF_DATA;
     }
     return (void *)bad;
+}
+
+// Each limit has its default and its ceiling by the table of the header.
+static void limits(const durskeyl_settings *settings) {
+    static const struct { enum durskeyl_limit limit; const char *name; uint32_t by_default, ceiling; } table[] = {
+#define ROW(NAME, DEFAULT, CEILING) {DURSKEYL_##NAME, #NAME, DEFAULT, CEILING},
+        DURSKEYL_LIMIT_TABLE(ROW)
+#undef ROW
+    };
+    durskeyl_fault fault;
+    want("limits", sizeof table / sizeof *table, DURSKEYL_TYPE_SIZE + 1);
+    for (size_t i = 0; i < sizeof table / sizeof *table; i++) {
+        durskeyl_settings other = *settings;
+        want(table[i].name, table[i].limit, i);
+        want(table[i].name, settings->limits[i], table[i].by_default);
+        other.limits[i] = table[i].ceiling;
+        want(table[i].name, durskeyl_validate(&other, header, 8, &fault), DURSKEYL_VALID);
+        other.limits[i]++;
+        want(table[i].name, durskeyl_validate(&other, header, 8, &fault), DURSKEYL_BAD_SETTINGS);
+    }
+}
+
+// A feature by its name: the bit that a module asks for which needs it.
+static void features(const durskeyl_settings *settings) {
+    const uint8_t multi[] = {0, 'a', 's', 'm', 1, 0, 0, 0, 5, 5, 2, 0, 0, 0, 0};
+    const uint8_t shared[] = {0, 'a', 's', 'm', 1, 0, 0, 0, 5, 4, 1, 3, 0, 1};
+    const uint8_t wide[] = {0, 'a', 's', 'm', 1, 0, 0, 0, 5, 3, 1, 4, 0};
+    const uint8_t tag[] = {0, 'a', 's', 'm', 1, 0, 0, 0, 1, 4, 1, 0x60, 0, 0, 13, 3, 1, 0, 0};
+    const struct { uint64_t bits; const uint8_t *bytes; size_t length; } table[] = {
+        {DURSKEYL_MULTI_MEMORY, multi, sizeof multi}, {DURSKEYL_THREADS, shared, sizeof shared},
+        {DURSKEYL_MEMORY64, wide, sizeof wide}, {DURSKEYL_EXCEPTIONS, tag, sizeof tag},
+    };
+    durskeyl_fault fault;
+    for (size_t i = 0; i < sizeof table / sizeof *table; i++) {
+        durskeyl_settings other = *settings;
+        want("with its feature", durskeyl_validate(&other, table[i].bytes, table[i].length, &fault), DURSKEYL_VALID);
+        other.features &= ~table[i].bits;
+        want("without its feature", durskeyl_validate(&other, table[i].bytes, table[i].length, &fault) != DURSKEYL_VALID, 1);
+    }
+    want("bits of two", DURSKEYL_REFERENCE_TYPES, DURSKEYL_CALL_INDIRECT_OVERLONG | 8);
+    want("bits of two", DURSKEYL_BULK_MEMORY, DURSKEYL_BULK_MEMORY_OPT | 32);
+    want("the last", DURSKEYL_CUSTOM_DESCRIPTORS, 1 << 27);
 }
 
 static void calls(void) {
@@ -105,9 +150,30 @@ static void calls(void) {
     vectors[41] = 0x1a;
     other.features = durskeyl_features(DURSKEYL_WASM1) | DURSKEYL_VECTORS;
     want("vectors without their feature", durskeyl_validate(&other, vectors, 43, &fault), DURSKEYL_MISSING_FEATURE);
-    want("version", durskeyl_version(), DURSKEYL_VERSION);
-    want("all features", durskeyl_features(DURSKEYL_ALL) == (UINT64_C(1) << 28) - 1, 1);
-    want("default features", durskeyl_features(DURSKEYL_DEFAULT) == settings.features, 1);
+    want("version", durskeyl_version() & ~DURSKEYL_NOT_PROVED, DURSKEYL_VERSION);
+    want("features of an unknown set", durskeyl_features(7), UINT64_MAX);
+    other = settings;
+    other.features = durskeyl_features(99);
+    want("features of an unknown set", durskeyl_validate(&other, header, 8, &fault), DURSKEYL_BAD_SETTINGS);
+    for (int i = DURSKEYL_TYPE_SIZE + 1; i < DURSKEYL_LIMITS; i++) {
+        other = settings;
+        other.limits[i] = 1;
+        want("a limit that is not known", durskeyl_validate(&other, header, 8, &fault), DURSKEYL_BAD_SETTINGS);
+    }
+    limits(&settings);
+    features(&settings);
+    want("header is valid", durskeyl_is_valid(header, 8), 1);
+    want("cut off is valid", durskeyl_is_valid(header, 7), 0);
+    want("nothing is valid", durskeyl_is_valid(NULL, 0), 0);
+    // lengths that no object has
+    const size_t lengths[] = {(size_t)PTRDIFF_MAX + 1, (size_t)PTRDIFF_MAX + 9, SIZE_MAX};
+    for (int i = 0; i < 3; i++) {
+        want("too long", durskeyl_validate(&settings, header, lengths[i], &fault), DURSKEYL_BAD_SETTINGS);
+        want("too long", fault.kind, DURSKEYL_BAD_SETTINGS);
+        want("too long is valid", durskeyl_is_valid(header, lengths[i]), 0);
+        want("imports of too long", durskeyl_imports(header, lengths[i], NULL, 0), DURSKEYL_NO_MODULE);
+        want("exports of too long", durskeyl_exports(header, lengths[i], NULL, 0), DURSKEYL_NO_MODULE);
+    }
     pthread_t threads[4];
     for (int i = 0; i < 4; i++)
         pthread_create(&threads[i], NULL, many, &settings);
@@ -118,9 +184,66 @@ static void calls(void) {
     }
 }
 
+enum { STACK = 128 << 10, PAGE = 4 << 10 };
+
+struct work {
+    durskeyl_settings settings;
+    const uint8_t *bytes;
+    size_t length;
+    uint32_t kind;
+};
+
+static void *judge(void *held) {
+    struct work *work = held;
+    durskeyl_fault fault;
+    durskeyl_import in;
+    durskeyl_export out;
+    work->kind = durskeyl_validate(&work->settings, work->bytes, work->length, &fault);
+    durskeyl_imports(work->bytes, work->length, &in, 1);
+    durskeyl_exports(work->bytes, work->length, &out, 1);
+    return NULL;
+}
+
+// The stack is filled, so that what was never written tells how far it was used: at its high end some of it is the thread's own.
+static size_t on_small_stack(struct work *work) {
+    uint8_t *low = mmap(NULL, STACK + PAGE, PROT_NONE, MAP_PRIVATE | MAP_ANONYMOUS, -1, 0);
+    pthread_attr_t how;
+    pthread_t thread;
+    size_t left = 0;
+    if (low == MAP_FAILED || mprotect(low + PAGE, STACK, PROT_READ | PROT_WRITE))
+        exit(2);
+    memset(low + PAGE, 0xa5, STACK);
+    pthread_attr_init(&how);
+    if (pthread_attr_setstack(&how, low + PAGE, STACK) || pthread_create(&thread, &how, judge, work))
+        exit(2);
+    pthread_join(thread, NULL);
+    pthread_attr_destroy(&how);
+    while (left < STACK && low[PAGE + left] == 0xa5)
+        left++;
+    munmap(low, STACK + PAGE);
+    return STACK - left;
+}
+
+static void measure(int count, char **names) {
+    struct work work;
+    size_t most = 0, most_allowed = 0;
+    durskeyl_settings_default(&work.settings);
+    for (int i = 0; i < count; i++) {
+        uint8_t *bytes = read_file(names[i], &work.length);
+        work.bytes = bytes;
+        size_t used = on_small_stack(&work);
+        most = used > most ? used : most;
+        most_allowed += work.kind == DURSKEYL_VALID;
+        free(bytes);
+    }
+    printf("at most %zu bytes of a stack of %d, %zu modules valid\n", most, STACK, most_allowed);
+}
+
 int main(int count, char **words) {
     if (count == 2 && !strcmp(words[1], "--calls")) {
         calls();
+    } else if (count > 2 && !strcmp(words[1], "--stack")) {
+        measure(count - 2, words + 2);
     } else {
         durskeyl_settings settings;
         durskeyl_settings_default(&settings);

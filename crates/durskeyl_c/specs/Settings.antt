@@ -1,8 +1,8 @@
 -- What C hands over to judge by: features as the bits of a number, and limits by their places in an array.
-use Rattle.std.specs.Prelude.{◌<◌, ◌^◌, ◌-◌, ◌==◌, if◌then◌else◌, ℕ, List, slice_index_or}
+use Rattle.std.specs.Prelude.{◌≡◌, ◌<◌, ◌^◌, ◌-◌, ◌==◌, if◌then◌else◌, ℕ, List, slice_index_or}
 use Rattle.wasm_types.specs.settings.Sets.{bits_of, default_features, mvp, wasm1, wasm2, wasm3, lime1}
 use Rattle.wasm_types.specs.settings.declared.Limits.{Limits}
-use Rattle.wasm_types.specs.settings.Limits.{IsWithinCeilings}
+use Rattle.wasm_types.specs.settings.Limits.{default_limits, IsWithinCeilings}
 use Rattle.wasm_types.specs.settings.Settings.{Settings}
 use Rattle.durskeyl_c.specs.declared.settings.DurskeylSettings.{DurskeylSettings}
 
@@ -32,17 +32,29 @@ limits_in ns = record {
   type_size = slice_index_or ns 20 0;
 }
 
--- the bits of the features of a named set, by its number
+-- the bits of the features of a named set, by its number; of any other number, bits that no settings have
 abbrev pub named_bits : ℕ → ℕ
 named_bits set =
     if set == 0 then 2 ^ 28 - 1 else if set == 1 then bits_of mvp else if set == 2 then bits_of wasm1 else if set == 3 then bits_of wasm2
-    else if set == 4 then bits_of wasm3 else if set == 5 then bits_of lime1 else bits_of default_features
+    else if set == 4 then bits_of wasm3 else if set == 5 then bits_of lime1 else if set == 6 then bits_of default_features else 2 ^ 64 - 1
 
 -- features and limits as the rules take them
 abbrev pub settings_in : DurskeylSettings → Settings
 settings_in s = record { features = s.features; limits = limits_in s.limits }
 
--- only known features are allowed, and operators on vectors judged or not; and no limit is above its ceiling
+-- those that hold if none are chosen
+abbrev pub default_settings : Settings
+default_settings = record { features = bits_of default_features; limits = default_limits }
+
+-- the places that are kept for later limits hold 0
+pub record LeavesLater (ns : List ℕ) : Type 0 where
+  pub first : slice_index_or ns 21 0 ≡ 0
+  pub second : slice_index_or ns 22 0 ≡ 0
+  pub third : slice_index_or ns 23 0 ≡ 0
+
+-- only known features are allowed, and operators on vectors judged or not; no limit is above its ceiling, and none is there that this
+-- library does not know
 pub record AreSettings (s : DurskeylSettings) : Type 0 where
   pub features : s.features < 2 ^ 29
   pub limits : IsWithinCeilings (limits_in s.limits)
+  pub later : LeavesLater s.limits

@@ -13,4 +13,4 @@ mod validate;
 pub use fault::DurskeylFault;
 pub use listing::{durskeyl_exports, durskeyl_imports};
 pub use settings::{DurskeylSettings, durskeyl_features, durskeyl_settings_default};
-pub use validate::{durskeyl_validate, durskeyl_version};
+pub use validate::{durskeyl_is_valid, durskeyl_validate, durskeyl_version};

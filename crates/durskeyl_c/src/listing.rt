@@ -2,6 +2,7 @@
 
 ghost use Rattle.durskeyl_c.specs.Listed.{TellsImports, TellsExports, ImportsWithin, ExportsWithin};
 
+use crate::validate::MOST_BYTES;
 use std::alloc::Global;
 use wasm_module_validator_import_export_places::{
     ExportRow, ImportRow, list_exports, list_imports,
@@ -17,6 +18,9 @@ pub extern "C" fn durskeyl_imports(alloc: Global, bytes: &[u8], rows: &mut [Impo
     ensures listed { TellsImports result bytes.now rows.new }
     ensures within { ImportsWithin result bytes.now rows.new }
 {
+    if bytes.len() > MOST_BYTES {
+        return NO_MODULE;
+    }
     match list_imports(alloc, bytes, rows) {
         Some(count) => count as u64,
         None => NO_MODULE,
@@ -29,6 +33,9 @@ pub extern "C" fn durskeyl_exports(alloc: Global, bytes: &[u8], rows: &mut [Expo
     ensures listed { TellsExports result bytes.now rows.new }
     ensures within { ExportsWithin result bytes.now rows.new }
 {
+    if bytes.len() > MOST_BYTES {
+        return NO_MODULE;
+    }
     match list_exports(alloc, bytes, rows) {
         Some(count) => count as u64,
         None => NO_MODULE,

@@ -1,15 +1,18 @@
 //! Features and limits, as C hands them over.
 
-ghost use Rattle.std.specs.Prelude.{◌≡◌, ◌<◌, ◌≤◌, ◌^◌, MatchOption};
+ghost use Rattle.std.specs.Prelude.{◌≡◌, ◌<◌, ◌≤◌, ◌^◌, ◌↔◌, IsTrue, MatchOption};
 ghost use Rattle.wasm_types.specs.settings.Sets.{bits_of, default_features};
 ghost use Rattle.wasm_types.specs.settings.Limits.{default_limits};
-ghost use Rattle.durskeyl_c.specs.Settings.{limits_in, named_bits, AreSettings};
+ghost use Rattle.durskeyl_c.specs.Settings.{limits_in, named_bits, AreSettings, LeavesLater};
 
 use bitflags::Flags;
 use wasm_types::{Limits, WasmFeatures};
 
-/// How many places `limits` has: one for each limit, and three that are kept for later.
+/// How many places `limits` has: one for each limit, and three that are kept for later and hold 0.
 const PLACES: usize = 24;
+
+/// The first place that is kept for later.
+const LATER: usize = 21;
 
 /// The bits of all features.
 const ALL_FEATURES: u64 = (1 << 28) - 1;
@@ -67,8 +70,8 @@ pub extern "C" fn durskeyl_settings_default(settings: &mut DurskeylSettings)
 }
 
 /// The features of a named set, as bits: 1 the first release, 2 WebAssembly 1.0, 3 WebAssembly 2.0, 4 WebAssembly 3.0 and threads,
-/// 5 Lime1; 0 all that this library knows; any other number gives the features by default. No set judges operators on vectors: who wants
-/// that adds 2^28.
+/// 5 Lime1, 6 those by default; 0 all that this library knows. Any other number gives bits that no call takes, all of them.
+/// No set judges operators on vectors: who wants that adds 2^28.
 #[unsafe(no_mangle)]
 pub extern "C" fn durskeyl_features(set: u32) -> u64
     ensures { result ≡ named_bits set }
@@ -80,7 +83,8 @@ pub extern "C" fn durskeyl_features(set: u32) -> u64
         3 => WasmFeatures::WASM2,
         4 => WasmFeatures::WASM3,
         5 => WasmFeatures::LIME1,
-        _ => WasmFeatures::default(),
+        6 => WasmFeatures::default(),
+        _ => return u64::MAX,
     };
     features.bits() as u64
 }
@@ -112,6 +116,13 @@ pub(crate) fn limits_of(places: &[u32; PLACES]) -> Limits
         subtyping_depth: places[19],
         type_size: places[20],
     }
+}
+
+/// Whether the places that are kept for later hold 0: what a later header says there is not passed over.
+pub(crate) fn leaves_later(places: &[u32; PLACES]) -> bool
+    ensures { IsTrue result ↔ LeavesLater places.now }
+{
+    places[LATER] == 0 && places[LATER + 1] == 0 && places[LATER + 2] == 0
 }
 
 /// The set of features of these bits, if each bit is a feature's or the one by which operators on vectors are judged.

@@ -1,0 +1,91 @@
+// Says of each file whether it is a valid WebAssembly module, by lines as those of wasm-check; with --vectors operators on vectors are
+// judged like all others, and after --entries it says what each imports and exports. Ends with 0 if all are valid, 1 if some file is not, and 2 if there is no verdict on some file.
+package main
+
+import (
+	"bufio"
+	"errors"
+	"fmt"
+	"io"
+	"os"
+
+	"durskeyl"
+)
+
+// hex is a name as the lines of tests/library/entries.c have it.
+func hex(name string) string {
+	if name == "" {
+		return "-"
+	}
+	return fmt.Sprintf("%x", name)
+}
+
+// list writes what a module imports and exports.
+func list(out io.Writer, settings *durskeyl.Settings, module []byte) error {
+	imports, err := settings.Imports(module)
+	if err != nil {
+		return err
+	}
+	exports, err := settings.Exports(module)
+	if err != nil {
+		return err
+	}
+	for _, it := range imports {
+		fmt.Fprintln(out, "import", hex(it.Module), hex(it.Name), it.Kind, it.Index)
+	}
+	for _, it := range exports {
+		fmt.Fprintln(out, "export", hex(it.Name), it.Kind, it.Index)
+	}
+	return nil
+}
+
+// check writes the lines of a file, and gives its status.
+func check(out io.Writer, settings *durskeyl.Settings, name string, lists bool) int {
+	shown := durskeyl.Shown(name)
+	module, err := os.ReadFile(name)
+	switch {
+	case err != nil:
+	case lists:
+		err = list(out, settings, module)
+	default:
+		err = settings.Validate(module)
+	}
+	var fault *durskeyl.Error
+	switch {
+	case err == nil:
+		if !lists {
+			fmt.Fprintf(out, "%s: valid\n", shown)
+		}
+		return 0
+	case errors.As(err, &fault) && fault.IsVerdict():
+		fmt.Fprintf(out, "%s: %v\n", shown, fault)
+		return 1
+	}
+	fmt.Fprintf(os.Stderr, "check: %s: %s\n", shown, durskeyl.Shown(err.Error()))
+	return 2
+}
+
+func main() {
+	words := os.Args[1:]
+	settings := durskeyl.DefaultSettings()
+	if len(words) > 0 && words[0] == "--vectors" {
+		words = words[1:]
+		settings.Features |= durskeyl.Vectors
+	}
+	lists := len(words) > 0 && words[0] == "--entries"
+	if lists {
+		words = words[1:]
+	}
+	out := bufio.NewWriter(os.Stdout)
+	status := 0
+	for _, name := range words {
+		if found := check(out, settings, name, lists); found > status {
+			status = found
+		}
+	}
+	if err := out.Flush(); err != nil {
+		fmt.Fprintln(os.Stderr, "check: cannot write:", err)
+		status = 2
+	}
+	os.Exit(status)
+}

@@ -1,0 +1,3 @@
+module durskeyl
+
+go 1.19

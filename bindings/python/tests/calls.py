@@ -1,0 +1,95 @@
+"""What the calls answer, over small modules. usage: python3 calls.py"""
+import array
+import threading
+import unittest
+
+import durskeyl
+from durskeyl import Export, External, Features, Import, InvalidModule, Kind
+
+HEADER = b"\0asm\1\0\0\0"
+# Two functions from "a" and a memory between them; an export of each name's length from 0 to 2.
+MODULE = HEADER + b"\1\4\1\x60\0\0" + b"\2\x14\3\1a\1f\0\0\1a\1m\2\0\0\1a\1g\0\0" + b"\7\x0d\3\0\0\1\1x\0\0\2yz\2\0"
+MEMORIES = HEADER + b"\5\5\2\0\0\0\0"
+
+
+def with_locals(count):
+    return HEADER + b"\1\4\1\x60\0\0\3\2\1\0\x0a\6\1\4\1" + bytes([count]) + b"\x7f\x0b"
+
+
+class Calls(unittest.TestCase):
+    def test_verdicts(self):
+        self.assertIsNone(durskeyl.validate(HEADER))
+        self.assertIs(durskeyl.is_valid(HEADER), True)
+        for data in b"", HEADER[:7], b"\0asm\2\0\0\0", HEADER + b"\x0f\0":
+            self.assertIs(durskeyl.is_valid(data), False)
+            with self.assertRaises(InvalidModule):
+                durskeyl.validate(data)
+
+    def test_fault(self):
+        with self.assertRaises(InvalidModule) as caught:
+            durskeyl.validate(HEADER + b"\x0f\0")
+        fault = caught.exception
+        self.assertEqual((fault.kind, fault.offset), (Kind.INVALID, 10))
+        self.assertTrue(fault.message and str(fault).startswith("invalid at 0xa: "))
+        with self.assertRaises(InvalidModule) as caught:
+            durskeyl.validate(HEADER[:7])
+        self.assertEqual(caught.exception.kind, Kind.END_OF_DATA)
+        self.assertNotIsInstance(fault, (ValueError, MemoryError))
+
+    def test_buffers(self):
+        held = bytearray(MODULE)
+        for data in held, memoryview(held), memoryview(held).toreadonly(), memoryview(MODULE), array.array("B", MODULE):
+            self.assertTrue(durskeyl.is_valid(data))
+            self.assertEqual(len(durskeyl.imports(data)), 3)
+        every_second = memoryview(bytes(b for byte in MODULE for b in (byte, 0)))[::2]
+        self.assertTrue(durskeyl.is_valid(every_second))
+        for data in "text", 8, None, [0, 97]:
+            with self.assertRaises(TypeError):
+                durskeyl.is_valid(data)
+
+    def test_entries(self):
+        wanted = [Import("a", "f", External.FUNCTION, 0), Import("a", "m", External.MEMORY, 0), Import("a", "g", External.FUNCTION, 1)]
+        self.assertEqual(durskeyl.imports(MODULE), wanted)
+        names = [(it.name, it.kind) for it in durskeyl.exports(MODULE)]
+        self.assertEqual(names, [("", External.FUNCTION), ("x", External.FUNCTION), ("yz", External.MEMORY)])
+        self.assertEqual(durskeyl.exports(MODULE)[2], Export("yz", External.MEMORY, 0))
+        with self.assertRaises(InvalidModule):
+            durskeyl.imports(MODULE[:-1])
+
+    def test_settings(self):
+        self.assertTrue(durskeyl.is_valid(with_locals(10), limits={"locals": 10}))
+        self.assertFalse(durskeyl.is_valid(with_locals(11), limits={"locals": 10}))
+        self.assertTrue(durskeyl.is_valid(MEMORIES))
+        self.assertFalse(durskeyl.is_valid(MEMORIES, features="wasm2"))
+        self.assertTrue(durskeyl.is_valid(MEMORIES, features=durskeyl.named_features("wasm2") | Features.MULTI_MEMORY))
+        self.assertFalse(durskeyl.is_valid(MEMORIES, features=0))
+
+    def test_wrong_settings(self):
+        for wrong in {"locals": 1000001}, {"locals": 2**32}, {"locals": -1}, {"nothing": 1}:
+            with self.assertRaises(ValueError):
+                durskeyl.validate(HEADER, limits=wrong)
+        for wrong in 1 << 40, 1 << 64, -1, "wasm9":
+            with self.assertRaises(ValueError):
+                durskeyl.is_valid(HEADER, features=wrong)
+
+    def test_version(self):
+        self.assertEqual(".".join(map(str, durskeyl.version())), durskeyl.__version__)
+        self.assertIsInstance(durskeyl.is_proved(), bool)
+        self.assertEqual(durskeyl.named_features("all"), 2**28 - 1)
+
+    def test_shown(self):
+        self.assertEqual(durskeyl.shown("a\x1b[0m\u202e\x85é\\\udcff"), r"a\u{1b}[0m\u{202e}\u{85}é\\u{dcff}")
+
+    def test_threads(self):
+        wrong = []
+        many = lambda: [wrong.append(i) for i in range(300) if not durskeyl.is_valid(MODULE) or durskeyl.is_valid(MODULE[:-1])]
+        threads = [threading.Thread(target=many) for _ in range(4)]
+        for it in threads:
+            it.start()
+        for it in threads:
+            it.join()
+        self.assertEqual(wrong, [])
+
+
+if __name__ == "__main__":
+    unittest.main()

@@ -1,0 +1,104 @@
+//! Why there is no valid module.
+
+use crate::settings::Features;
+use crate::sys;
+use std::fmt;
+
+/// What kind of fault was found.
+#[derive(Clone, Copy, Debug, PartialEq, Eq, Hash)]
+#[non_exhaustive]
+pub enum ErrorKind {
+    /// The bytes end too early; at least so many more would be asked for.
+    EndOfData { needed: u64 },
+    /// Invalid under these features; a feature that would allow what is there.
+    MissingFeature(Features),
+    /// Any other fault of the bytes.
+    Invalid,
+    /// No verdict: memory was refused.
+    OutOfMemory,
+    /// No verdict: a feature or a limit that the library does not know, or a limit above its ceiling.
+    BadSettings,
+    /// No verdict: a number that this crate does not know.
+    Unknown(u32),
+}
+
+/// Why there is no valid module: the bytes are none, or there is no verdict ([`Error::is_verdict`]).
+#[derive(Clone, Debug, PartialEq, Eq)]
+pub struct Error {
+    kind: ErrorKind,
+    offset: u64,
+    message: Box<str>,
+}
+
+impl Error {
+    pub(crate) fn new(fault: &sys::Fault) -> Error {
+        let kind = match fault.kind {
+            1 => ErrorKind::EndOfData { needed: fault.detail },
+            2 => ErrorKind::MissingFeature(Features::from_bits(fault.detail)),
+            3 => ErrorKind::OutOfMemory,
+            5 => ErrorKind::Invalid,
+            6 => ErrorKind::BadSettings,
+            kind => ErrorKind::Unknown(kind),
+        };
+        let text = fault.text.get(..fault.text_length as usize).unwrap_or_default();
+        let message = if Error::tells(kind) { String::from_utf8_lossy(text).into() } else { "".into() };
+        Error { kind, offset: fault.offset, message }
+    }
+
+    fn tells(kind: ErrorKind) -> bool {
+        matches!(kind, ErrorKind::EndOfData { .. } | ErrorKind::MissingFeature(_) | ErrorKind::Invalid)
+    }
+
+    /// What kind of fault it is.
+    pub fn kind(&self) -> ErrorKind {
+        self.kind
+    }
+
+    /// Where it was found, in the bytes.
+    pub fn offset(&self) -> u64 {
+        self.offset
+    }
+
+    /// What is wrong, for people, in no stable wording. It may hold a name of the module, with any characters: `Display` escapes those
+    /// that could forge a line or hide one.
+    pub fn message(&self) -> &str {
+        &self.message
+    }
+
+    /// Whether the bytes were found invalid. If not, nothing is known of them.
+    pub fn is_verdict(&self) -> bool {
+        Error::tells(self.kind)
+    }
+}
+
+impl fmt::Display for Error {
+    fn fmt(&self, f: &mut fmt::Formatter<'_>) -> fmt::Result {
+        match self.kind {
+            ErrorKind::OutOfMemory => f.write_str("out of memory"),
+            ErrorKind::BadSettings => f.write_str("bad settings"),
+            ErrorKind::Unknown(kind) => write!(f, "no verdict: unknown kind {kind}"),
+            _ => write!(f, "invalid at {:#x}: {}", self.offset, Shown(&self.message)),
+        }
+    }
+}
+
+impl std::error::Error for Error {}
+
+/// A text of others, written so that it stays within its line: control characters, those that end a line for some readers and those that
+/// turn its order are written as `\u{N}`, as `wasm-check` does.
+#[derive(Clone, Copy, Debug)]
+pub struct Shown<'a>(pub &'a str);
+
+impl fmt::Display for Shown<'_> {
+    fn fmt(&self, f: &mut fmt::Formatter<'_>) -> fmt::Result {
+        for c in self.0.chars() {
+            let turns = matches!(c, '\u{61c}' | '\u{200e}' | '\u{200f}' | '\u{202a}'..='\u{202e}' | '\u{2066}'..='\u{2069}');
+            if c.is_control() || turns || matches!(c, '\u{2028}' | '\u{2029}') {
+                write!(f, "\\u{{{:x}}}", c as u32)?;
+            } else {
+                write!(f, "{c}")?;
+            }
+        }
+        Ok(())
+    }
+}

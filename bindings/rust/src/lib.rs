@@ -1,0 +1,64 @@
+//! Durskeyl from Rust: a validator of WebAssembly core modules that is proved right.
+//!
+//! ```no_run
+//! let bytes = std::fs::read("module.wasm")?;
+//! let module = durskeyl::validate(&bytes)?;
+//! for import in module.imports() {
+//!     println!("{}.{}", import.module, import.name);
+//! }
+//! # Ok::<(), Box<dyn std::error::Error>>(())
+//! ```
+//!
+//! What is proved is the library that this crate links, and only if [`is_proved`]; this crate is neither proved nor part of the proof.
+//! Calls keep nothing, and may come from any number of threads.
+
+mod error;
+mod module;
+mod settings;
+pub mod sys;
+
+pub use error::{Error, ErrorKind, Shown};
+pub use module::{Export, Exports, External, Import, Imports, Module};
+pub use settings::{Features, Limit, Settings};
+
+/// The module that these bytes are, if they are a valid one by the settings by default.
+///
+/// # Errors
+///
+/// If they are not valid; or if there is no verdict, for the lack of memory ([`Error::is_verdict`]).
+pub fn validate(bytes: &[u8]) -> Result<Module<'_>, Error> {
+    Settings::new().validate(bytes)
+}
+
+/// Whether these bytes are a valid module by the settings by default. `false` also if there was no memory to tell.
+pub fn is_valid(bytes: &[u8]) -> bool {
+    // SAFETY: a slice has the length that it says, and is lent for the call.
+    unsafe { sys::durskeyl_is_valid(bytes.as_ptr(), bytes.len()) == 1 }
+}
+
+/// Whether the library was built by the toolchain from what it proved.
+pub fn is_proved() -> bool {
+    sys::durskeyl_version() >> 31 == 0
+}
+
+/// The version of the library: three numbers.
+pub fn version() -> (u8, u8, u8) {
+    let [_, first, second, third] = sys::durskeyl_version().to_be_bytes();
+    (first, second, third)
+}
+
+impl Settings {
+    /// The module that these bytes are, if they are a valid one by these settings.
+    ///
+    /// # Errors
+    ///
+    /// If they are not valid; or if there is no verdict, for the lack of memory or for the settings ([`Error::is_verdict`]).
+    pub fn validate<'a>(&self, bytes: &'a [u8]) -> Result<Module<'a>, Error> {
+        let mut fault = sys::Fault { kind: 0, text_length: 0, offset: 0, detail: 0, text: [0; 264] };
+        // SAFETY: a slice is never null, has the length that it says, and is lent for the call; the fault is apart from it.
+        match unsafe { sys::durskeyl_validate(&self.0, bytes.as_ptr(), bytes.len(), &mut fault) } {
+            0 => Ok(Module::new(bytes)),
+            kind => Err(Error::new(&sys::Fault { kind, ..fault })),
+        }
+    }
+}

@@ -1,0 +1,55 @@
+//! The calls of `durskeyl.h` as they are. What a caller promises is said there.
+
+/// How many places the limits have.
+pub const LIMITS: usize = 24;
+
+/// `durskeyl_settings`.
+#[repr(C)]
+#[derive(Clone, Copy, Debug)]
+pub struct Settings {
+    pub features: u64,
+    pub limits: [u32; LIMITS],
+}
+
+/// `durskeyl_fault`.
+#[repr(C)]
+pub struct Fault {
+    pub kind: u32,
+    pub text_length: u32,
+    pub offset: u64,
+    pub detail: u64,
+    pub text: [u8; 264],
+}
+
+/// `durskeyl_import`.
+#[repr(C)]
+#[derive(Clone, Copy, Debug, Default)]
+pub struct ImportRow {
+    pub module_offset: u64,
+    pub name_offset: u64,
+    pub module_length: u32,
+    pub name_length: u32,
+    pub kind: u32,
+    pub index: u32,
+}
+
+/// `durskeyl_export`.
+#[repr(C)]
+#[derive(Clone, Copy, Debug, Default)]
+pub struct ExportRow {
+    pub name_offset: u64,
+    pub name_length: u32,
+    pub kind: u32,
+    pub index: u32,
+    pub later: u32,
+}
+
+unsafe extern "C" {
+    pub safe fn durskeyl_version() -> u32;
+    pub safe fn durskeyl_features(set: u32) -> u64;
+    pub fn durskeyl_settings_default(settings: *mut Settings);
+    pub fn durskeyl_validate(settings: *const Settings, bytes: *const u8, length: usize, fault: *mut Fault) -> u32;
+    pub fn durskeyl_is_valid(bytes: *const u8, length: usize) -> u32;
+    pub fn durskeyl_imports(bytes: *const u8, length: usize, rows: *mut ImportRow, capacity: usize) -> u64;
+    pub fn durskeyl_exports(bytes: *const u8, length: usize, rows: *mut ExportRow, capacity: usize) -> u64;
+}
