@@ -30,7 +30,7 @@ use std::rt::Files;
 use wasm_types::{Limits, WasmFeatures};
 
 /// The version that `--version` prints.
-pub const VERSION: &str = "0.2.0";
+pub const VERSION: &str = "0.1.0";
 
 /// The most bytes that a piece may have.
 const MAX_PIECE: u64 = 0x10_0000;
