@@ -1,6 +1,8 @@
 //! The visitor that tests each operator of a constant before it tells the validator.
 
 ghost use Rattle.std.proofs.Common.{◌≡◌, ap};
+ghost use Rattle.std.specs.Prelude.{true};
+ghost use Rattle.wasm_types.specs.decoding.declared.error.ErrorKind.TheVariants.{Other};
 ghost use Rattle.wasm_operator_validator_constants.specs.Refusals.{kind_of_constant, refused_constant};
 ghost use Rattle.wasm_operator_validator_constants.specs.Checked.{VisitsConstant};
 ghost use Rattle.wasm_operator_validator_constants.specs.laws.Driven.{same_around};
@@ -88,7 +90,10 @@ impl<'a, 'v, 'r, R: WasmModuleResources> TellSimdOperator<'a> for ConstantWalk<'
         );
         if let Err(refusal) = tested {
             self.walk.visitor.inner.fail();
-            return Err(told_refusal(refusal, judged));
+            if !judged && is_not_listed(&refusal) {
+                return Err(ConstantRefusal::Invalid(Refusal::Because(Reason::Vectors)));
+            }
+            return Err(refusal);
         }
         if let Err(refused) = self.walk.tell_simd(op) {
             return Err(ConstantRefusal::Invalid(refused));
@@ -97,19 +102,11 @@ impl<'a, 'v, 'r, R: WasmModuleResources> TellSimdOperator<'a> for ConstantWalk<'
     }
 }
 
-/// Why an operator is refused that is not constant. One that is not judged at all is refused for that, as in bodies.
-fn told_refusal(refusal: ConstantRefusal, judged: bool) -> ConstantRefusal
-    ensures { kind_of_constant result ≡ kind_of_constant refusal }
+/// Whether an operator is refused since no constant has it. One on vectors that is not judged at all is refused for that, as in bodies.
+fn is_not_listed(refusal: &ConstantRefusal) -> bool
+    ensures { result ≡ true → kind_of_constant refusal.now ≡ Other }
 {
-    if judged {
-        return refusal;
-    }
-    match refusal {
-        ConstantRefusal::NonConstant { .. } => {
-            ConstantRefusal::Invalid(Refusal::Because(Reason::Vectors))
-        }
-        _ => refusal,
-    }
+    matches!(refusal, ConstantRefusal::NonConstant { .. })
 }
 
 impl<'a, 'v, 'r, R: WasmModuleResources> TellPlain<'a, ConstantRefusal>
