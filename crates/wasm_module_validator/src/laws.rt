@@ -38,7 +38,6 @@ pub const fn ids_stay()
 {}
 
 /// By no set of the 28 features alone a module is accepted that has an operator on vectors, in a body or in a constant.
-#[tactic(auto, using(crate::specs::laws::Unasked::vectors_are_asked_for))]
 pub const fn vectors_are_asked_for()
     ensures { VectorsAreAskedFor }
 {}
