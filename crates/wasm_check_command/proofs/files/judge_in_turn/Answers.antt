@@ -2,7 +2,7 @@ use Rattle.std.proofs.Common.{◌∙◌, ap, subst, sym, take, arith}
 use Rattle.std.proofs.lemmas.List.{length-map}
 use Rattle.wasm_check_command.specs.Modes.{ruling_of}
 use Rattle.wasm_check_command.specs.Files.{texts, ReportsFiles}
-use Rattle.wasm_check_command.proofs.FileReports.{reports_next, reports_all, stops_at}
+use Rattle.wasm_check_command.proofs.FileReports.{reports_next, ends_all, ends_enough, ends_first, ends_whole, stops_at}
 use Rattle.wasm_check_command.proofs.files.judge_in_turn.Goals as goal
 
 pub returns-in-Err-clause-err : goal.returns-in-Err-clause-err
@@ -27,6 +27,11 @@ loop-place-preserved g c =
 
 pub returns-clause-ok : goal.returns-clause-ok
 returns-clause-ok g c =
-    reports_all (ruling_of g.J.Judge.accepts c.args.chosen) (texts c.args.names.now) c.loop-place.place (g.W.Write.contents c.args.out.now)
+    ends_all (ruling_of g.J.Judge.accepts c.args.chosen) (texts c.args.names.now) c.loop-place.place (g.W.Write.contents c.args.out.now)
     (g.W.Write.contents c.loop-place.out) c.loop-place.status c.loop-place.invariant
     (omega (arith, length-map c.args.names.now (λ n. n.now), c.loop-place-test.false))
+
+pub returns-then-is_enough-clause-ok : goal.returns-then-is_enough-clause-ok
+returns-then-is_enough-clause-ok g c =
+    ends_enough (ruling_of g.J.Judge.accepts c.args.chosen) (texts c.args.names.now) c.loop-place.place (g.W.Write.contents c.args.out.now)
+    (g.W.Write.contents c.loop-place.out) c.loop-place.status c.loop-place.invariant (search rules)
