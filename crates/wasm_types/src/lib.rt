@@ -1,21 +1,18 @@
-//! The lowest layer of the validator: bytes, numbers, texts and faults, the features of WebAssembly, and core types.
+//! The lowest layer of the validator: bytes, numbers and faults, the features of WebAssembly, and core types.
 //!
-//! This crate has no code of its own. It has its parts under one name, and their rules too (`specs/Lib.antt`):
+//! Its parts are passed on here under one name, and so are their rules (`specs/Lib.antt`):
 //!
-//! - `wasm_types_reader` and `wasm_types_decoding`: the reader of bytes, errors, and the trait of all that is read;
-//! - `wasm_types_settings` and `wasm_types_settings`: the features and their sets; the limits, and both as settings;
-//! - `wasm_types_trees` and `wasm_types_values`: indices of types, heap types, reference types, value types and what
-//!   fields store;
-//! - `wasm_types_externs`: the types of tables, memories, globals and tags;
-//! - `wasm_types_fields` and `wasm_types`: fields, functions, arrays, structs and continuations, and the subtypes and
-//!   recursion groups that are made of them;
-//! - `wasm_types_decoding` and `wasm_types_trees`, which are definitions alone: decoders and grammars, and the rules of types.
+//! - `wasm_types_settings`: features and limits, and both as the settings by which all is judged;
+//! - `wasm_types_decoding`, `wasm_types_reader`: decoders and grammars, errors; the reader of bytes, and the trait of all
+//!   that is read;
+//! - `wasm_types_trees`: types as plain trees with their rules, and packed indices of types;
+//! - `wasm_types_values`, `wasm_types_fields`, `wasm_types_externs`: heap types, references and values; fields, functions,
+//!   arrays, structs and continuations; the types of tables, memories, globals and tags.
 //!
-//! The types that a module defines: composite types, subtypes and recursion groups.
-//!
-//! `specs/Entries.antt` gives each the plain tree that the rules of types speak of, which does not show where it lies in
-//! memory. `specs/Spells.antt` defines which bytes spell each tree; a type is read exactly there. A [`RecGroup`] also
-//! keeps the offset of each of its types (`specs/Places.antt`); equality, order and hash leave the offsets out.
+//! This crate itself has what a module's type section is made of: composite types, subtypes and recursion groups.
+//! `specs/Entries.antt` gives each the plain tree of which the rules of types speak, and `specs/Spells.antt` says which
+//! bytes spell a tree: a type is read exactly from those. A [`RecGroup`] also keeps the offset of each of its types
+//! (`specs/Places.antt`); equality, order and hash leave the offsets out.
 #![tactic(auto)]
 
 mod composite;

@@ -1,26 +1,19 @@
-//! Decoders of bytes, as definitions.
+//! How bytes are read: decoders and grammars as definitions, numbers in LEB128 over a slice, and the error of every layer.
 //!
-//! A decoder is a function from where a reader stands to what it answers. The laws of decoders are that a value and a
-//! fault stay whatever bytes follow, that the hint of an end of data is exact, and that a value is read exactly where a
-//! grammar spells it. Readers of other crates state their contracts by these definitions; `docs/decoding.md` explains
-//! them in plain words.
+//! A decoder is a function from the place of a reader to its answer. Three laws hold of each: a value and a fault stay
+//! whatever bytes follow, the hint at an end of data is exact, and a value is read exactly if a grammar spells it. Readers
+//! of the crates above state their contracts by these definitions; `docs/decoding.md` explains them in plain words.
 //!
-//! Numbers in LEB128 (WebAssembly 3.0, binary format, values, integers), read from the bytes of a slice at an offset in it:
-//! groups of seven bits, the lowest first, in a byte each, whose highest bit says that more follow.
-//!
-//! No reader moves here: each function takes the bytes and an offset, and gives the value with the offset behind it. So
-//! hot code keeps its position in a register, and a refusal leaves nothing to put back. Numbers of one and two bytes are
-//! taken at once (`short_..`), the longer ones by two loops, one for unsigned numbers of any width and one for signed
-//! ones, out of the way (`long_..`).
-//!
-//! Contracts are by the decoders of `wasm_types_decoding`, wherever in an input the slice stands.
-//!
-//! Why bytes are refused: the error of every layer.
+//! Numbers (WebAssembly 3.0, binary format, values, integers) are groups of seven bits, the lowest first, in a byte each,
+//! whose highest bit says that more follow: 300 is `ac 02`. No reader moves here: each function takes the bytes and an
+//! offset, and gives the value with the offset after it. So hot code keeps its position in a register, and a refusal
+//! leaves nothing to put back. Numbers of one and two bytes are taken at once (`short_..`), the longer ones by two loops,
+//! one for unsigned numbers of any width and one for signed ones (`long_..`).
 //!
 //! An [`Error`] has a kind (one of five, [`ErrorKind`]), the offset in the input at which something is wrong, and a
 //! message for people. Making one takes no memory: the message has a fixed room, and a longer text is cut.
-//! `specs/ErrorText.antt` defines what an error tells, and `specs/Denials.antt` what a refusal denies: nothing where
-//! memory ran out, and otherwise the fact that was asked for.
+//! `specs/ErrorText.antt` defines what an error tells, and `specs/Denials.antt` what a refusal denies: nothing if memory
+//! ran out, and otherwise the fact that was asked for.
 #![tactic(auto)]
 
 ghost use Rattle.wasm_types_decoding.specs.Rows.{UnsignedRows, SignedRows, ByteRows, WordRows, ListRows, NameRows, PartRows};

@@ -1,14 +1,13 @@
-//! The features of WebAssembly that a validator may allow.
+//! What a module is judged by: features of WebAssembly that are allowed, and limits that hold.
 //!
-//! [`WasmFeatures`] is a set of features, and [`WasmFeaturesInflated`] is the same set as one `bool` for each.
-//! `specs/Features.antt` has the bits of each feature, once: rules speak of `has Gc bits`. `specs/Sets.antt` has the
-//! named sets, such as the features of a release.
+//! [`WasmFeatures`] is a set of features, one bit each, and [`WasmFeaturesInflated`] the same set as one `bool` for each.
+//! `specs/Features.antt` is the one table of the bits: rules speak of `has Gc bits`, and each accessor answers just that.
+//! `specs/Sets.antt` has the named sets, such as the features of a release. One bit more is no feature: it asks that
+//! operators on vectors be judged ([`WasmFeatures::VECTOR_OPERATORS`]).
 //!
-//! Limits of an implementation, as values (WebAssembly 3.0, appendix, implementation limitations).
-//!
-//! A module past a limit is refused although the format allows it. [`Limits`] has one number for each; a caller may choose
-//! any that [`Limits::is_within_ceilings`]. `specs/Limits.antt` has the numbers, once; `specs/Settings.antt` joins limits and
-//! features to what a module is judged by.
+//! [`Limits`] has one number for each thing that an implementation may limit (WebAssembly 3.0, appendix, implementation
+//! limitations). A module past a limit is refused although the format allows it. `specs/Limits.antt` has the defaults and
+//! the ceilings, once; `specs/Settings.antt` joins features and limits to one value, by which all layers above judge.
 #![tactic(auto)]
 
 ghost use Rattle.std.specs.Prelude.{◌≡◌, ◌≤◌, ◌↔◌, IsTrue};
