@@ -16,7 +16,7 @@ use Rattle.wasm_check_command.specs.declared.judging.Status.{Status}
 use Rattle.wasm_check_command.specs.declared.judging.Status.TheVariants.{AllValid, SomeInvalid}
 use Rattle.wasm_types.specs.settings.Settings.{Settings}
 use Rattle.wasm_check_command.specs.Settings.{Asked, asked_by}
-use Rattle.wasm_check_command.specs.Files.{texts, code_of, code_of_ended, ReportsBy, ReportsEnd, StopsBy, Reports, HasNoStatus, IsUnshown, EndsRun}
+use Rattle.wasm_check_command.specs.Files.{texts, lists_in, code_of, code_of_ended, ReportsBy, ReportsEnd, StopsBy, Reports, HasNoStatus, IsUnshown, EndsRun}
 use Rattle.wasm_check_command.specs.declared.files.Ended.{Ended}
 use Rattle.wasm_check_lines.specs.declared.forms.Form.{Form}
 use Rattle.wasm_check_command.specs.declared.command.Fault.TheVariants as faults
@@ -56,19 +56,12 @@ pub listed_by : (name : List ℕ) (words : List (List ℕ)) (m : ArgMatches) (o 
     → option_map (λ s. s.now) o ≡ first_value (found_of m) name → option_map (λ s. s.now) o ≡ first_of name (matches_on words)
 listed_by name words m o r g = g ∙ first_value-rows (found_of m) name ∙ ap (first_of name) r
 
--- the lists that they have, where there are some
-pub lists_by : (name : List ℕ) (words : List (List ℕ)) (m : ArgMatches) (o : Option (Bor (List (Bor (List ℕ))))) (lists : Bor (List (Bor (List ℕ)))) → rows_of (found_of m) ≡ matches_on words
-    → option_map (λ s. map (λ v. v.now) s.now) o ≡ option_map raw_values (matched_of (found_of m) name) → o ≡ Some lists
-    → texts lists.now ≡ unwrap_or (all_of name (matches_on words)) []
-lists_by name words m o lists r g e = ap (λ (x : Option (List (List ℕ))). unwrap_or x [])
-    (ap (option_map (λ (s : Bor (List (Bor (List ℕ)))). map (λ v. v.now) s.now)) (sym e) ∙ g ∙ raw_values-rows (found_of m) name ∙ ap (all_of name) r)
-
--- and where there are none
-pub no_lists_by : (name : List ℕ) (words : List (List ℕ)) (m : ArgMatches) (o : Option (Bor (List (Bor (List ℕ))))) → rows_of (found_of m) ≡ matches_on words
-    → option_map (λ s. map (λ v. v.now) s.now) o ≡ option_map raw_values (matched_of (found_of m) name) → o ≡ None
-    → [] ≡ unwrap_or (all_of name (matches_on words)) []
-no_lists_by name words m o r g e = ap (λ (x : Option (List (List ℕ))). unwrap_or x [])
-    (ap (option_map (λ (s : Bor (List (Bor (List ℕ)))). map (λ v. v.now) s.now)) (sym e) ∙ g ∙ raw_values-rows (found_of m) name ∙ ap (all_of name) r)
+-- the lists that they have
+pub lists_by : (name : List ℕ) (words : List (List ℕ)) (m : ArgMatches) (o : Option (Bor (List (Bor (List ℕ))))) → rows_of (found_of m) ≡ matches_on words
+    → option_map (λ s. map (λ v. v.now) s.now) o ≡ option_map raw_values (matched_of (found_of m) name)
+    → lists_in o ≡ unwrap_or (all_of name (matches_on words)) []
+lists_by name words m None r g = ap (λ (x : Option (List (List ℕ))). unwrap_or x []) (g ∙ raw_values-rows (found_of m) name ∙ ap (all_of name) r)
+lists_by name words m (Some lists) r g = ap (λ (x : Option (List (List ℕ))). unwrap_or x []) (g ∙ raw_values-rows (found_of m) name ∙ ap (all_of name) r)
 
 -- what the options ask for, part by part
 pub asks_alike : {f g l k : List (List ℕ)} {n o : Option (List ℕ)} {v w : Bool} {m p : Form} {x y : Bool} {q r : Bool}

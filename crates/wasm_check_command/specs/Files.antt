@@ -277,11 +277,16 @@ abbrev pub code_of : Result Ended Fault → ℕ
 code_of (Ok e) = code_of_ended e.lost e.status
 code_of (Err fault) = 2
 
+-- the lists of an option, none if it is not there
+abbrev pub lists_in : Option (Bor (List (Bor (List ℕ)))) → List (List ℕ)
+lists_in None = []
+lists_in (Some lists) = texts lists.now
+
 -- the values of the options, as contracts see them
 abbrev pub asked_of : Options → Asked
 asked_of o = record {
-  features = texts o.features.now;
-  limits = texts o.limits.now;
+  features = lists_in o.features;
+  limits = lists_in o.limits;
   pieces = option_map (λ n. n.now) o.pieces;
   vectors = o.vectors;
   form = o.form;

@@ -12,7 +12,7 @@ ghost use Rattle.wasm_types.specs.settings.Limits.{IsWithinCeilings};
 ghost use Rattle.wasm_check_command.specs.Modes.{CanJudge, HasPieces, manner_of, ruling_of};
 ghost use Rattle.wasm_check_command.specs.Settings.{IsGiven, asked_by, features_by, form_by, limits_by, manner_by, mode_by, pieces_of, settings_of, with_vectors};
 ghost use Rattle.std.specs.Fmt.{WritesOnOk};
-ghost use Rattle.wasm_check_command.specs.Files.{texts, unopened_text, code_of, code_of_ended, Reports, Grows, ShowsHelp, HasNoStatus, IsUnshown, EndsRun};
+ghost use Rattle.wasm_check_command.specs.Files.{texts, lists_in, unopened_text, code_of, code_of_ended, Reports, Grows, ShowsHelp, HasNoStatus, IsUnshown, EndsRun};
 ghost use Rattle.wasm_check_command.specs.Files.{asked_of, RefusesPieces, RefusesFeatures, RefusesLimits, StopsEarly, ReportsEnd, StopsBy};
 ghost use Rattle.wasm_check_command.specs.Files.{EndsBy, StopsFiles, StopsGoingBy};
 
@@ -46,9 +46,9 @@ const MAX_PIECE: u64 = 0x10_0000;
 #[derive(Debug, Drop)]
 struct Options<'m, 'a> {
     /// The lists of `--features`, in order.
-    features: &'m [&'a str],
+    features: Option<&'m [&'a str]>,
     /// The lists of `--limits`, in order.
-    limits: &'m [&'a str],
+    limits: Option<&'m [&'a str]>,
     /// The number of `--pieces`, if it is there.
     pieces: Option<&'a str>,
     /// Whether `--vectors` is there.
@@ -258,7 +258,7 @@ fn parse<'a, S: AsStr>(alloc: Global, words: &'a [S]) -> Result<ArgMatches<'a>, 
 }
 
 /// The features by these lists, which are applied in order to those by default.
-fn read_features<'a>(lists: &[&'a str]) -> Result<WasmFeatures, Fault<'a>>
+fn join_features<'a>(lists: &[&'a str]) -> Result<WasmFeatures, Fault<'a>>
     ensures ok { IfOk result (λ f. features_by (texts lists.now) ≡ Ok f.0) }
     ensures err { IfErr result (RefusesFeatures (texts lists.now)) }
 {
@@ -273,7 +273,7 @@ fn read_features<'a>(lists: &[&'a str]) -> Result<WasmFeatures, Fault<'a>>
 }
 
 /// The limits by these lists, which are applied in order to those by default.
-fn read_limits<'a>(lists: &[&'a str]) -> Result<Limits, Fault<'a>>
+fn join_limits<'a>(lists: &[&'a str]) -> Result<Limits, Fault<'a>>
     ensures ok { IfOk result (λ l. limits_by (texts lists.now) ≡ Ok l) }
     ensures within { IfOk result IsWithinCeilings }
     ensures err { IfErr result (RefusesLimits (texts lists.now)) }
@@ -288,6 +288,31 @@ fn read_limits<'a>(lists: &[&'a str]) -> Result<Limits, Fault<'a>>
     Ok(limits)
 }
 
+/// The features by the lists of `--features`, or those by default.
+#[tactic(auto, unfolding(crate::specs::Lists::through_lists))]
+fn read_features<'a>(lists: Option<&[&'a str]>) -> Result<WasmFeatures, Fault<'a>>
+    ensures ok { IfOk result (λ f. features_by (lists_in lists.entry) ≡ Ok f.0) }
+    ensures err { IfErr result (RefusesFeatures (lists_in lists.entry)) }
+{
+    match lists {
+        Some(lists) => join_features(lists),
+        None => Ok(WasmFeatures::default()),
+    }
+}
+
+/// The limits by the lists of `--limits`, or those by default.
+#[tactic(auto, unfolding(crate::specs::Lists::through_lists))]
+fn read_limits<'a>(lists: Option<&[&'a str]>) -> Result<Limits, Fault<'a>>
+    ensures ok { IfOk result (λ l. limits_by (lists_in lists.entry) ≡ Ok l) }
+    ensures within { IfOk result IsWithinCeilings }
+    ensures err { IfErr result (RefusesLimits (lists_in lists.entry)) }
+{
+    match lists {
+        Some(lists) => join_limits(lists),
+        None => Ok(default_limits()),
+    }
+}
+
 /// These features, with the switch for operators on vectors if it is asked for.
 fn with_vectors(vectors: bool, features: WasmFeatures) -> WasmFeatures
     ensures { result.0 ≡ with_vectors vectors features.0 }
@@ -300,7 +325,7 @@ fn with_vectors(vectors: bool, features: WasmFeatures) -> WasmFeatures
 
 /// Whether a flag is there, by its value.
 fn is_set(value: Option<&str>) -> bool
-    ensures { result ≡ is_set (option_map (λ v. v.now) value) }
+    ensures { result ≡ is_set (option_map (λ v. v.now) value.entry) }
 {
     match value {
         Some(text) => text == "true",
@@ -560,15 +585,12 @@ fn conclude<E: Write>(alloc: Global, judged: &Result<Ended, Fault<'_>>, err: &mu
     }
 }
 
-/// The lists of an option, in order.
-fn lists_of<'m, 'a>(matches: &'m ArgMatches<'a>, name: &str) -> &'m [&'a str]
+/// The lists of an option, in order, if there are any.
+fn lists_of<'m, 'a>(matches: &'m ArgMatches<'a>, name: &str) -> Option<&'m [&'a str]>
     ensures { (words : List (List ℕ)) → rows_of (found_of matches.now) ≡ matches_on words
-        → texts result.now ≡ unwrap_or (all_of name.now (matches_on words)) [] }
+        → lists_in result ≡ unwrap_or (all_of name.now (matches_on words)) [] }
 {
-    match matches.get_strs(name) {
-        Some(lists) => lists,
-        None => &[],
-    }
+    matches.get_strs(name)
 }
 
 /// Whether a flag is there.

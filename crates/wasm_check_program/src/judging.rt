@@ -6,8 +6,9 @@ ghost use Rattle.wasm_check_command.specs.Modes.{HasPieces, ruling_by};
 ghost use Rattle.wasm_check_command.specs.Reports.{sources_of, IsReported, Stops};
 ghost use Rattle.wasm_check_program.specs.Faults.{unjudged};
 
-use std::alloc::Global;
+use std::alloc::{AllocError, Global};
 use std::io::{Read, Write};
+use wasm_check_explanation::explain;
 use wasm_check_command::{CheckError, Input, Judge, MAX_BYTES, Mode, Status, Unjudged, check_by};
 use wasm_module_validator::{Validator, ValidatorId};
 use wasm_module_validator_streaming::{ReadError, WatchedReader, validate_reader_limited};
@@ -52,6 +53,17 @@ impl Judge for Validating {
             Ok(_types) => Ok(()),
             Err(fault) => Err(unjudged(fault)),
         }
+    }
+
+    fn explain(
+        &self,
+        alloc: Global,
+        features: WasmFeatures,
+        limits: Limits,
+        bytes: &[u8],
+        error: &Error,
+    ) -> Result<Vec<String>, AllocError> {
+        explain(alloc, features, limits, bytes, error)
     }
 }
 

@@ -5,7 +5,7 @@ use Rattle.wasm_check_command.specs.Settings.{limits_by}
 use Rattle.wasm_check_command.specs.Lists.{through_lists}
 use Rattle.wasm_check_command.specs.LimitLists.{limits_along}
 use Rattle.wasm_check_command.specs.Files.{texts}
-use Rattle.wasm_check_command.proofs.command.read_limits.Given as goal
+use Rattle.wasm_check_command.proofs.command.join_limits.Given as goal
 
 abbrev pub invariant-loop-place : goal.invariant-loop-place
 invariant-loop-place l = (limits_by (texts l.lists) ≡ through_lists limits_along (drop l.place (texts l.lists)) l.limits) × IsWithinCeilings l.limits

@@ -4,7 +4,7 @@ use Rattle.wasm_check_command.specs.FeatureLists.{features_along}
 use Rattle.wasm_check_command.specs.Lists.{through_lists}
 use Rattle.wasm_check_command.specs.Files.{texts}
 use Rattle.wasm_check_command.proofs.ListLemmas.{list_taken, list_fault, list_there, lists_end}
-use Rattle.wasm_check_command.proofs.command.read_features.Goals as goal
+use Rattle.wasm_check_command.proofs.command.join_features.Goals as goal
 
 pub loop-place-init : goal.loop-place-init
 loop-place-init c = ap (through_lists features_along (texts c.args.lists.now)) (sym c.default-features.ensures)
