@@ -1,6 +1,6 @@
 //! The validator for callers in C, C++, Rust, Go and Python: a static library.
 //!
-//! Whole bytes go in; a number and a fault come out (`include/durskeyl.h` says the same in C's words). No call keeps anything, none
+//! Whole bytes go in; a number and a fault come out (`bindings/c/durskeyl.h` says the same in C's words). No call keeps anything, none
 //! depends on an earlier one, and nothing has to be freed, so any number of threads may call at once. `specs/Told.antt` says what
 //! the number tells, and `specs/Listed.antt` what the rows of imports and exports do.
 #![tactic(auto)]

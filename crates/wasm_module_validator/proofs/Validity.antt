@@ -1,5 +1,6 @@
 -- A valid module is a valid program.
-use Rattle.std.proofs.Common.{◌≡◌, ◌<◌, ℕ, zero, suc, List, [], ◌∷◌, ◌++◌, length, map, Option, Some, None, Bool, true, false, refl, sym, ap, subst, ◌∙◌, slice_get, unwrap_or, replicate, inl, inr, true≢false}
+use Rattle.std.proofs.Common.{◌≡◌, ◌<◌, ℕ, zero, suc, List, [], ◌∷◌, ◌++◌, length, map, Option, Some, None, Bool, true, false, refl, sym, ap, subst, ◌∙◌, slice_get, replicate, inl, inr, true≢false}
+use Rattle.std.proofs.lemmas.Option.{same_Some}
 use Rattle.std.specs.Prelude.{All, Contains, filter_map, take}
 use Rattle.std.specs.List.{AllZip, cons_option}
 use Rattle.std.proofs.lemmas.Option.{slice_get_within, slice_get-get_or, get_or_from_slice_get}
@@ -60,25 +61,22 @@ none_is_some : {A : Type 0} (x : A) → None ≡ Some x → ⊥
 unfolding IsNothing
 none_is_some {A} x e = subst (λ (o : Option A). IsNothing o) e tt
 
-some_same : {A : Type 0} (x y : A) → Some x ≡ Some y → x ≡ y
-some_same x y e = ap (λ o. unwrap_or o x) e
-
 -- what a mapped list has at a place
 map_at : {A B : Type 0} (f : A → B) (xs : List A) (i : ℕ) (y : B) → slice_get (map f xs) i ≡ Some y → (x : A) × (slice_get xs i ≡ Some x) × (f x ≡ y)
 map_at f [] i y e = absurd (none_is_some y e)
-map_at f (x ∷ xs) zero y e = (x, refl, some_same (f x) y e)
+map_at f (x ∷ xs) zero y e = (x, refl, same_Some (f x) y e)
 map_at f (x ∷ xs) (suc i) y e = map_at f xs i y e
 
 map_there : {A B : Type 0} (f : A → B) (xs : List A) (i : ℕ) (x : A) → slice_get xs i ≡ Some x → slice_get (map f xs) i ≡ Some (f x)
 map_there f [] i x e = absurd (none_is_some x e)
-map_there f (y ∷ xs) zero x e = ap Some (ap f (some_same y x e))
+map_there f (y ∷ xs) zero x e = ap Some (ap f (same_Some y x e))
 map_there f (y ∷ xs) (suc i) x e = map_there f xs i x e
 
 -- places of two lists that go together
 zip_left : {A B : Type 0} (R : A → B → Type 0) (xs : List A) (ys : List B) (i : ℕ) (x : A) → AllZip R xs ys → slice_get xs i ≡ Some x → (y : B) × (slice_get ys i ≡ Some y) × R x y
 zip_left R [] ys i x z e = absurd (none_is_some x e)
 zip_left R (a ∷ xs) [] i x z e = absurd z
-zip_left R (a ∷ xs) (y ∷ ys) zero x z e = (y, refl, subst (λ b. R b y) (some_same a x e) z.0)
+zip_left R (a ∷ xs) (y ∷ ys) zero x z e = (y, refl, subst (λ b. R b y) (same_Some a x e) z.0)
 zip_left R (a ∷ xs) (y ∷ ys) (suc i) x z e = zip_left R xs ys i x z.1 e
 
 zip_right : {A B : Type 0} (R : A → B → Type 0) (xs : List A) (ys : List B) (i : ℕ) (y : B) → AllZip R xs ys → slice_get ys i ≡ Some y → (x : A) × (slice_get xs i ≡ Some x)
@@ -96,7 +94,7 @@ zip_joined R (x ∷ xs) us (y ∷ ys) vs z w = (z.0, zip_joined R xs us ys vs z.
 
 each_at : {A : Type 0} (P : A → Type 0) (xs : List A) (i : ℕ) (x : A) → Each P xs → slice_get xs i ≡ Some x → P x
 each_at P [] i x h e = absurd (none_is_some x e)
-each_at P (y ∷ xs) zero x h e = subst (λ b. P b) (some_same y x e) h.0
+each_at P (y ∷ xs) zero x h e = subst (λ b. P b) (same_Some y x e) h.0
 each_at P (y ∷ xs) (suc i) x h e = each_at P xs i x h.1 e
 
 each_joined : {A : Type 0} (P : A → Type 0) (xs ys : List A) → Each P xs → Each P ys → Each P (xs ++ ys)

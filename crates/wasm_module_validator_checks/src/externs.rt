@@ -11,7 +11,7 @@ mod table;
 mod tag;
 mod values;
 
-pub use crate::limits::{Settings, check_max, combine_type_sizes};
+pub use crate::limits::{Settings, check_max, combine_type_sizes, too_many};
 pub use functions::func_type_at;
 pub use memory::check_memory_type;
 pub use sizes::{check_limits, require};

@@ -6,5 +6,5 @@
 mod counts;
 mod settings;
 
-pub use counts::{check_max, combine_type_sizes};
+pub use counts::{check_max, combine_type_sizes, too_many};
 pub use settings::Settings;

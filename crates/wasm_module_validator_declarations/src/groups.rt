@@ -18,18 +18,10 @@ ghost use Rattle.wasm_module_validator_section_order.specs.rules_in_order.Texts.
 ghost use Rattle.wasm_module_validator_state.specs.invariant.Standing.{AddsItem, GrowsWith, IsReading};
 ghost use Rattle.wasm_module_validator_declarations.specs.Total.{HasGroupNext, IsPastTotal};
 
+use wasm_module_validator_checks::limits::too_many;
 use wasm_module_validator_state::invariant::ModuleState;
 use wasm_module_validator_type_list::{MAX_TYPES, TypeList};
 use wasm_types::{Error, RecGroup, Result};
-
-// The refusal of more groups than the limit of types.
-#[cold]
-fn too_many(most: u32, offset: u64) -> Error
-    ensures kind { result.kind ≡ Other }
-    ensures at { result.offset ≡ offset }
-{
-    Error::fmt(format_args!("types count exceeds limit of {most}"), offset)
-}
 
 // Refuses a group of so many types behind as many groups as the limit of types, and one with which there are more types.
 fn check_fit(state: &ModuleState, groups: u32, further: usize, offset: u64) -> Result<()>
@@ -40,7 +32,7 @@ fn check_fit(state: &ModuleState, groups: u32, further: usize, offset: u64) -> R
     let most = state.settings().limits().types;
     let before = state.module().type_ids().len();
     if groups >= most || before > most as usize || further > most as usize - before {
-        return Err(too_many(most, offset));
+        return Err(too_many(most, "types", offset));
     }
     Ok(())
 }

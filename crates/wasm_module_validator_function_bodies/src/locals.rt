@@ -14,6 +14,7 @@ ghost use Rattle.wasm_module_validator_function_bodies.specs.Locals.{judged_by, 
 use crate::FuncValidator;
 use std::alloc::Global;
 use wasm_operator_validator_driver::WasmModuleResources;
+use wasm_operator_validator_locals::too_many_locals;
 use wasm_types::{BinaryReader, Error, Result, ValType};
 
 impl<R: WasmModuleResources> FuncValidator<R> {
@@ -160,15 +161,6 @@ fn read_again(reader: &BinaryReader<'_>) -> Error
         Ok(_) => unreachable!(),
         Err(error) => error,
     }
-}
-
-/// The refusal of more locals than the limit.
-#[cold]
-fn too_many_locals(offset: u64) -> Error
-    ensures kind { result.kind ≡ Other }
-    ensures offset { result.offset ≡ offset }
-{
-    Error::new("too many locals: locals exceed maximum", offset)
 }
 
 /// The refusal of a call behind one that was refused.

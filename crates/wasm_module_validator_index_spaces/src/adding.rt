@@ -12,20 +12,9 @@ ghost use Rattle.wasm_module_validator_index_spaces.specs.Spaces.{id_at, own_fun
 
 use crate::{Function, Module};
 use wasm_module_validator_canonical_types::InternRecGroup;
+use wasm_module_validator_checks::limits::too_many;
 use wasm_module_validator_type_list::TypeList;
-use wasm_types::{Error, GlobalType, MemoryType, RecGroup, RefType, Result, TableType};
-
-// The refusal of more things than the limit.
-#[cold]
-fn too_many(most: u32, name: &str, offset: u64) -> Error
-    ensures kind { result.kind ≡ Other }
-    ensures at { result.offset ≡ offset }
-{
-    if most == 1 {
-        return Error::fmt(format_args!("multiple {name}"), offset);
-    }
-    Error::fmt(format_args!("{name} count exceeds limit of {most}"), offset)
-}
+use wasm_types::{GlobalType, MemoryType, RecGroup, RefType, Result, TableType};
 
 // One thing more, where there are fewer than this many.
 fn push_within<X: Copy>(

@@ -7,20 +7,8 @@ ghost use Rattle.wasm_types.specs.decoding.declared.error.ErrorKind.TheVariants.
 ghost use Rattle.wasm_module_validator_checks.specs.rules.Valid.{most_tables, most_memories};
 
 use crate::ModuleState;
-use wasm_module_validator_checks::externs::check_max;
-use wasm_types::{Error, Result};
-
-// The refusal of more things than the limit.
-#[cold]
-fn too_many(most: u32, name: &str, offset: u64) -> Error
-    ensures kind { result.kind ≡ Other }
-    ensures at { result.offset ≡ offset }
-{
-    if most == 1 {
-        return Error::fmt(format_args!("multiple {name}"), offset);
-    }
-    Error::fmt(format_args!("{name} count exceeds limit of {most}"), offset)
-}
+use wasm_module_validator_checks::externs::{check_max, too_many};
+use wasm_types::Result;
 
 impl ModuleState {
     /// Refuses more groups of types than there is room for beside the types that are there.

@@ -9,6 +9,7 @@ use Rattle.wasm_types.specs.trees.declared.index.CoreTypeId.{CoreTypeId}
 use Rattle.wasm_types.specs.settings.Limits.{IsWithinCeilings}
 use Rattle.wasm_types.specs.settings.Settings.{Settings}
 use Rattle.wasm_types.specs.reader.Reading.{IsNotMemory}
+use Rattle.wasm_module_validator_section_order.specs.items.AddingLaws.{denies_each}
 use Rattle.wasm_module_validator_section_order.specs.declared.items.bodies.Body.{Body}
 use Rattle.wasm_module_validator_rules.specs.Accepts.{AcceptsUnder, Judges}
 use Rattle.wasm_module_validator_rules.specs.Spaces.{types_behind}
@@ -28,14 +29,6 @@ use Rattle.wasm_module_validator.specs.declared.validator.State.{State}
 use Rattle.wasm_module_validator.specs.declared.validator.State.TheVariants as states
 use Rattle.wasm_module_validator.specs.Lists.{TakesNoMore}
 use Rattle.wasm_module_validator.specs.States.{IsLeft, Leaves}
-
--- what implies one of many things, each of which is denied, is denied
-pub denies_each : {X : Type 0} (k : ErrorKind) (P : X → Type 0) (Q : Type 0) → (Q → (x : X) × P x) → ((x : X) → Denies k (P x)) → Denies k Q
-denies_each (EndOfData h) P Q f d = λ q. let a = f q in d a.0 a.1
-denies_each (MissingFeature h) P Q f d = λ q. let a = f q in d a.0 a.1
-denies_each OutOfMemory P Q f d = tt
-denies_each Failed P Q f d = λ q. let a = f q in d a.0 a.1
-denies_each Other P Q f d = λ q. let a = f q in d a.0 a.1
 
 -- what is not for memory tells it
 pub denied : (k : ErrorKind) (P : Type 0) → IsNotMemory k → Denies k P → P → ⊥

@@ -15,16 +15,16 @@ pub fn check_max(cur_len: usize, amt_added: u32, max: u32, desc: &str, offset: u
     ensures answer { Tells result (cur_len + amt_added ≤ max) }
     ensures refused { IfErr result (λ e. (e.kind ≡ Other) × (e.offset ≡ offset)) }
 {
-    let max = max as usize;
-    if cur_len <= max && amt_added as usize <= max - cur_len {
+    let most = max as usize;
+    if cur_len <= most && amt_added as usize <= most - cur_len {
         return Ok(());
     }
     Err(too_many(max, desc, offset))
 }
 
-// The refusal of more things than the limit.
+/// The refusal of more things than the limit.
 #[cold]
-fn too_many(max: usize, desc: &str, offset: u64) -> Error
+pub fn too_many(max: u32, desc: &str, offset: u64) -> Error
     ensures kind { result.kind ≡ Other }
     ensures at { result.offset ≡ offset }
 {

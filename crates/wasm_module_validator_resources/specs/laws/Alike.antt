@@ -1,5 +1,6 @@
 -- Types without references unroll to one type exactly where their groups are stored alike, and they have the same place there.
 use Rattle.std.proofs.Common.{◌≡◌, ◌∙◌, ◌↔◌, ℕ, ◌+◌, ◌-◌, ◌<◌, ◌≤◌, false, List, [], ◌∷◌, length, map, get_or, refl, ap, sym, subst, Option, Some, arith}
+use Rattle.std.proofs.lemmas.Option.{same_Some}
 use Rattle.std.specs.Prelude.{slice_get, unwrap_or}
 use Rattle.std.proofs.lemmas.List.{length-map, get_or-map, same_lists}
 use Rattle.wasm_types.specs.settings.Features.{needs_canonical_types}
@@ -21,9 +22,6 @@ use Rattle.wasm_module_validator_resources.specs.laws.Stored.{shapes, plain_alik
 
 -- ---- the ids of the group of a type
 
-some_same : {A : Type 0} (x y : A) → Some x ≡ Some y → x ≡ y
-some_same x y e = ap (λ (o : Option _). unwrap_or o x) e
-
 -- they begin at or before the type's own, and end behind it
 pub record IsAround (groups : List Group) (id first end : ℕ) : Type 0 where
   pub begins : first ≤ id
@@ -32,7 +30,7 @@ pub record IsAround (groups : List Group) (id first end : ℕ) : Type 0 where
 
 module _ (groups : List Group) (id k : ℕ) (h : Home groups id) (e : slice_get (group_numbers groups) id ≡ Some k) where
   same_number : h.number ≡ k
-  same_number = some_same h.number k (sym h.numbered ∙ e)
+  same_number = same_Some h.number k (sym h.numbered ∙ e)
 
   pub number_known : k < length groups
   number_known = subst (λ (n : ℕ). n < length groups) same_number h.is.old

@@ -25,7 +25,7 @@ unread Failed p o P f to = λ q. f
 unread Other p o P f to = λ q. let e = (to q).2 in cc
 
 -- what implies one of many things, each of which is denied, is denied
-denies_each : {X : Type 0} (k : ErrorKind) (P : X → Type 0) (Q : Type 0) → (Q → (x : X) × P x) → ((x : X) → Denies k (P x)) → Denies k Q
+pub denies_each : {X : Type 0} (k : ErrorKind) (P : X → Type 0) (Q : Type 0) → (Q → (x : X) × P x) → ((x : X) → Denies k (P x)) → Denies k Q
 denies_each (EndOfData h) P Q f d = λ q. let a = f q in d a.0 a.1
 denies_each (MissingFeature h) P Q f d = λ q. let a = f q in d a.0 a.1
 denies_each OutOfMemory P Q f d = tt

@@ -59,7 +59,8 @@ use Rattle.wasm_module_validator.specs.Accepts.{IsShown}
 use Rattle.wasm_module_validator.specs.Methods.{learned, TakesBody}
 use Rattle.wasm_module_validator.specs.Payloads.{TakesPayload}
 use Rattle.wasm_module_validator.specs.Shown.{Learned}
-use Rattle.wasm_module_validator.specs.laws.Verdict.{denies_each, as_many_bodies, accepted_is_read, read_is_accepted}
+use Rattle.wasm_module_validator_section_order.specs.items.AddingLaws.{denies_each}
+use Rattle.wasm_module_validator.specs.laws.Verdict.{as_many_bodies, accepted_is_read, read_is_accepted}
 use Rattle.wasm_module_validator_streaming.specs.Bodies.{AreFirst, IsJudgedSoFar}
 use Rattle.wasm_module_validator_streaming.specs.laws.Bodies.{body_less, shapes_less, all_bodies, first_bodies}
 use Rattle.wasm_module_validator_streaming.specs.laws.Payloads.{Next, IsNoHeader, denied, taken, body_taken, by_module, handed_out, end_is_told, end_learned, passes_before_end, header_denied, header_taken, late_header, limits_are, read_so, is_body}

@@ -15,6 +15,7 @@ use Rattle.wasm_sections_parser.specs.runs.calls.Calls.{Calls, shapes_of}
 use Rattle.wasm_sections.specs.declared.payload.Payload.{Payload}
 use Rattle.wasm_sections.specs.Payloads.{IsPayloadOf}
 use Rattle.wasm_sections.specs.Walking.{Standing, NextPayload}
+use Rattle.wasm_module_validator_section_order.specs.items.AddingLaws.{denies_each}
 use Rattle.wasm_module_validator_section_order.specs.declared.items.bodies.Body.{Body}
 use Rattle.wasm_module_validator_section_order.specs.rules_in_order.Steps.{SoFar, nothing, JudgesShape, JudgesShapes}
 use Rattle.wasm_module_validator_section_order.specs.rules_in_order.laws.Judged.{nothing_is_judged, judged_joined}
@@ -26,14 +27,6 @@ use Rattle.wasm_module_validator_section_order.specs.frames.JudgedLaws.{judged_m
 use Rattle.wasm_module_validator_type_storage.specs.trees.Groups.{Group}
 use Rattle.wasm_module_validator_payloads.specs.Progress.{HasGroup, Progress, IsAt, nothing_over}
 use Rattle.wasm_module_validator_drivers.specs.reading.Reading.{HasGroupIn, IsReadAs, first_parser}
-
--- what implies one of many things, each of which is denied, is denied
-denies_each : {X : Type 0} (k : ErrorKind) (P : X → Type 0) (Q : Type 0) → (Q → (x : X) × P x) → ((x : X) → Denies k (P x)) → Denies k Q
-denies_each (EndOfData h) P Q f d = λ q. let a = f q in d a.0 a.1
-denies_each (MissingFeature h) P Q f d = λ q. let a = f q in d a.0 a.1
-denies_each OutOfMemory P Q f d = tt
-denies_each Failed P Q f d = λ q. let a = f q in d a.0 a.1
-denies_each Other P Q f d = λ q. let a = f q in d a.0 a.1
 
 -- before the first frame
 pub nothing_is_at : (groups : List Group) (z : Settings) → IsAt z (nothing_over groups z) [] nothing
