@@ -172,7 +172,7 @@ unset_lost (true ∷ flags) = unset_lost flags
 unset_lost (false ∷ flags) = refl
 
 -- so many flags that are set
-all_set : ℕ → List Bool
+abbrev pub all_set : ℕ → List Bool
 all_set zero = []
 all_set (suc n) = true ∷ all_set n
 

@@ -72,14 +72,14 @@ pub record EndsFiles (ruling : Ruling) (names : List (List ℕ)) (old new : Opti
   pub whole : (length names ≤ judged) ⊎ IsEnough ruling status
 
 -- those of some names whose flag is set
-pub select : List Bool → List (List ℕ) → List (List ℕ)
+abbrev pub select : List Bool → List (List ℕ) → List (List ℕ)
 select [] names = []
 select (b ∷ flags) [] = []
 select (true ∷ flags) (name ∷ names) = name ∷ select flags names
 select (false ∷ flags) (name ∷ names) = select flags names
 
 -- some flag is not set
-pub has_unset : List Bool → Bool
+abbrev pub has_unset : List Bool → Bool
 has_unset [] = false
 has_unset (true ∷ flags) = has_unset flags
 has_unset (false ∷ flags) = true
