@@ -15,8 +15,10 @@ use Rattle.wasm_check_command.specs.declared.command.Fault.{Fault}
 use Rattle.wasm_check_command.specs.declared.judging.Status.{Status}
 use Rattle.wasm_check_command.specs.declared.judging.Status.TheVariants.{AllValid, SomeInvalid}
 use Rattle.wasm_types.specs.settings.Settings.{Settings}
-use Rattle.wasm_check_command.specs.Settings.{Asked, asked_by}
-use Rattle.wasm_check_command.specs.Files.{texts, lists_in, code_of, code_of_ended, ReportsBy, ReportsEnd, StopsBy, Reports, HasNoStatus, IsUnshown, EndsRun}
+use Rattle.wasm_check_command.specs.Settings.{Asked, IsGiven, asked_by, manner_by, settings_of}
+use Rattle.wasm_check_command.specs.Modes.{manner_of, ruled, ruling_of}
+use Rattle.wasm_check_command.specs.declared.judging.Chosen.{Chosen}
+use Rattle.wasm_check_command.specs.Files.{texts, lists_in, code_of, code_of_ended, ReportsBy, ReportsEnd, StopsBy, Reports, HasNoStatus, IsUnshown, EndsRun, EndsBy, GoesOn, StopsFiles, StopsGoingBy}
 use Rattle.wasm_check_command.specs.declared.files.Ended.{Ended}
 use Rattle.wasm_check_lines.specs.declared.forms.Form.{Form}
 use Rattle.wasm_check_command.specs.declared.command.Fault.TheVariants as faults
@@ -151,3 +153,35 @@ ends_nameless accepts words old new kept none = (lit≤ tt, λ z. absurd (omega 
 -- a run that was answered by the help, and by what a fault leaves
 pub asks_table : (words : List (List ℕ)) → AsksForTable (codes "features") words ⊎ AsksForTable (codes "limits") words → AsksForHelp words
 asks_table words h = inr h
+
+-- ---- what the options ask for
+module _ (accepts : Settings → List ℕ → Type 0) (asked : Asked) (c : Chosen) (names : List (List ℕ)) (old new : Option (List ℕ)) (r : Result Ended Fault)
+    (given : IsGiven asked (settings_of c) c.mode) (same : manner_of c ≡ manner_by asked) where
+  pub judged_by : IfOk r (λ e. EndsBy (ruling_of accepts c) names old new e × ((e.lost ≡ false) ⊎ (asked.goes_on ≡ true))) → IfOk r (ReportsEnd accepts asked names old new)
+  judged_by = at r
+    where
+      at : (r : Result Ended Fault) → IfOk r (λ e. EndsBy (ruling_of accepts c) names old new e × ((e.lost ≡ false) ⊎ (asked.goes_on ≡ true)))
+          → IfOk r (ReportsEnd accepts asked names old new)
+      at (Ok e) h = record {
+        settings = settings_of c;
+        mode = c.mode;
+        given = given;
+        reported = subst (λ m. GoesOn (ruled m c.mode (accepts (settings_of c))) names old new e.status e.lost) same h.0;
+        allowed = h.1;
+      }
+      at (Err f) h = tt
+
+  pub stopped_by : IfErr r (λ f. StopsFiles (ruling_of accepts c) names old new f ⊎ ((asked.goes_on ≡ true) × StopsGoingBy (ruling_of accepts c) names old new f))
+      → IfErr r (StopsBy accepts asked names old new)
+  stopped_by = at r
+    where
+      at : (r : Result Ended Fault) → IfErr r (λ f. StopsFiles (ruling_of accepts c) names old new f ⊎ ((asked.goes_on ≡ true) × StopsGoingBy (ruling_of accepts c) names old new f))
+          → IfErr r (StopsBy accepts asked names old new)
+      at (Ok e) h = tt
+      at (Err f) h = inr (settings_of c, c.mode, given,
+          subst (λ m. StopsFiles (ruled m c.mode (accepts (settings_of c))) names old new f ⊎ ((asked.goes_on ≡ true) × StopsGoingBy (ruled m c.mode (accepts (settings_of c))) names old new f)) same h)
+
+-- what is told of a fault, more weakly
+pub err_weaker : {T E : Type 0} (r : Result T E) (P Q : E → Type 0) → ((e : E) → P e → Q e) → IfErr r P → IfErr r Q
+err_weaker (Ok x) P Q f h = tt
+err_weaker (Err e) P Q f h = f e h

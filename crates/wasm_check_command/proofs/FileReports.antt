@@ -20,7 +20,7 @@ use Rattle.wasm_check_command.specs.declared.command.Fault.TheVariants as faults
 use Rattle.wasm_check_command.specs.Modes.{Ruling}
 use Rattle.wasm_check_command.specs.Verdict.{FailsAt}
 use Rattle.wasm_check_command.specs.Reports.{Source}
-use Rattle.wasm_check_command.specs.Files.{texts, joined, IsNamed, CannotOpen, FailsOpening, JudgesFile, FailsFile, FailsAgain, ReportsFiles, EndsFiles, IsEnough, is_enough, StopsChecking, StopsFiles, select, has_unset, GoesOn, LosesFile, StopsGoing, StopsGoingBy, EndsBy, is_unwritten}
+use Rattle.wasm_check_command.specs.Files.{texts, joined, IsNamed, CannotOpen, FailsOpening, JudgesFile, FailsFile, FailsAgain, ReportsFiles, EndsFiles, IsEnough, is_enough, StopsChecking, StopsFiles, select, has_unset, GoesOn, GoesSoFar, LosesFile, StopsGoing, StopsGoingBy, EndsBy, is_unwritten}
 use Rattle.wasm_check_command.proofs.ReportLemmas.{IsReported-none, IsReported-valid, IsReported-invalid, Stops-after, Stops-kept, flush_failed}
 
 -- a file as a contract sees it
@@ -188,13 +188,6 @@ select_all : (n : ℕ) (all : List (List ℕ)) → n ≤ length all → select (
 select_all zero all h = refl
 select_all (suc n) [] h = refl
 select_all (suc n) (x ∷ all) h = ap (λ ns. x ∷ ns) (select_all n all (omega (arith, h)))
-
--- files so far, of which some came to no verdict
-pub record GoingSo (ruling : Ruling) (all : List (List ℕ)) (place : ℕ) (old new : Option (List ℕ)) (status : Status) (lost : Bool) : Type 0 where
-  pub flags : List Bool
-  pub counted : length flags ≡ place
-  pub reported : ReportsFiles ruling (select flags all) old new status
-  pub told : lost ≡ has_unset flags
 
 -- ---- over any judge of bytes
 module _ (ruling : Ruling) where
@@ -403,13 +396,13 @@ module _ (ruling : Ruling) where
 
   -- ---- files of which some come to no verdict
   -- nothing was judged yet
-  pub goes_none : (all : List (List ℕ)) (old : Option (List ℕ)) → GoingSo ruling all 0 old old AllValid false
+  pub goes_none : (all : List (List ℕ)) (old : Option (List ℕ)) → GoesSoFar ruling all 0 old old AllValid false
   goes_none all old = record { flags = []; counted = refl; reported = reports_none old; told = refl }
 
   -- one file more was judged
   pub goes_more : (all : List (List ℕ)) (name : List ℕ) (place : ℕ) (old mid new : Option (List ℕ)) (status next : Status) (lost valid : Bool)
-      → GoingSo ruling all place old mid status lost → slice_get all place ≡ Some name → JudgesFile ruling name mid new valid → next ≡ joined status valid
-      → GoingSo ruling all (place + 1) old new next lost
+      → GoesSoFar ruling all place old mid status lost → slice_get all place ≡ Some name → JudgesFile ruling name mid new valid → next ≡ joined status valid
+      → GoesSoFar ruling all (place + 1) old new next lost
   goes_more all name place old mid new status next lost valid g found j same = record {
     flags = g.flags ++ true ∷ [];
     counted = length_push g.flags true ∙ ap (λ n. n + 1) g.counted;
@@ -420,7 +413,7 @@ module _ (ruling : Ruling) where
 
   -- one file more came to no verdict
   pub goes_lost : (all : List (List ℕ)) (place : ℕ) (old mid new : Option (List ℕ)) (status : Status) (lost : Bool)
-      → GoingSo ruling all place old mid status lost → Keeps mid new → GoingSo ruling all (place + 1) old new status true
+      → GoesSoFar ruling all place old mid status lost → Keeps mid new → GoesSoFar ruling all (place + 1) old new status true
   goes_lost all place old mid new status lost g kept = record {
     flags = g.flags ++ false ∷ [];
     counted = length_push g.flags false ∙ ap (λ n. n + 1) g.counted;
@@ -430,7 +423,7 @@ module _ (ruling : Ruling) where
 
   -- then it ended
   pub goes_ended : (all : List (List ℕ)) (place : ℕ) (old new : Option (List ℕ)) (status : Status) (lost : Bool)
-      → GoingSo ruling all place old new status lost → place ≤ length all → (length all ≤ place) ⊎ IsEnough ruling status → GoesOn ruling all old new status lost
+      → GoesSoFar ruling all place old new status lost → place ≤ length all → (length all ≤ place) ⊎ IsEnough ruling status → GoesOn ruling all old new status lost
   goes_ended all place old new status lost g inside whole = record {
     flags = g.flags;
     counted = omega (arith, g.counted, inside);
@@ -445,7 +438,7 @@ module _ (ruling : Ruling) where
 
   -- a line could not be written
   pub goes_unwritten : (all : List (List ℕ)) (name : List ℕ) (place : ℕ) (old mid new : Option (List ℕ)) (status : Status) (lost : Bool) (f : Fault)
-      → GoingSo ruling all place old mid status lost → place ≤ length all → LosesFile ruling name mid new f → is_unwritten f ≡ true
+      → GoesSoFar ruling all place old mid status lost → place ≤ length all → LosesFile ruling name mid new f → is_unwritten f ≡ true
       → StopsGoingBy ruling all old new f
   goes_unwritten all name place old mid new status lost (faults.CannotOpen told reason) g inside h w = absurd cc
   goes_unwritten all name place old mid new status lost (faults.Stopped (Read i) told reason) g inside h w = absurd cc

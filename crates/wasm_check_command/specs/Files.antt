@@ -84,6 +84,14 @@ has_unset [] = false
 has_unset (true ∷ flags) = has_unset flags
 has_unset (false ∷ flags) = true
 
+-- So many files from the first on were judged, except for those that came to no verdict: a flag for each says whether it was. `lost` says
+-- whether one was not.
+pub record GoesSoFar (ruling : Ruling) (names : List (List ℕ)) (place : ℕ) (old new : Option (List ℕ)) (status : Status) (lost : Bool) : Type 0 where
+  pub flags : List Bool
+  pub counted : length flags ≡ place
+  pub reported : ReportsFiles ruling (select flags names) old new status
+  pub told : lost ≡ has_unset flags
+
 -- These files were judged in order, all of them or as many as it takes to say the status, except for those that came to no verdict: a flag for
 -- each says whether it was judged. `lost` says whether one was not.
 pub record GoesOn (ruling : Ruling) (names : List (List ℕ)) (old new : Option (List ℕ)) (status : Status) (lost : Bool) : Type 0 where

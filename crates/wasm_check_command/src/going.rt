@@ -1,8 +1,8 @@
 //! Files that are judged one after another, and those that come to no verdict are told and left behind.
-ghost use Rattle.std.specs.Prelude.{◌≡◌, false, IfOk, IfErr};
+ghost use Rattle.std.specs.Prelude.{◌≡◌, ◌+◌, ◌<◌, ℕ, false, List, Option, length, IfOk, IfErr};
 ghost use Rattle.std.specs.Io.KnownBytes.{Keeps};
 ghost use Rattle.wasm_check_command.specs.Modes.{CanJudge, ruling_of};
-ghost use Rattle.wasm_check_command.specs.Files.{texts, is_unwritten, EndsBy, JudgesFile, LosesFile, StopsGoingBy};
+ghost use Rattle.wasm_check_command.specs.Files.{texts, is_unwritten, EndsBy, GoesSoFar, JudgesFile, LosesFile, StopsGoingBy};
 
 use crate::command::{Fault, tell};
 use crate::error::CheckError;
@@ -72,6 +72,47 @@ fn is_unwritten(fault: &Fault<'_>) -> bool
     }
 }
 
+/// Judges the file at this place, after those before it ended so. If it comes to no verdict, its fault is told on `err`.
+fn judge_next<'a, J: Judge, F: Files + Standard, W: Write, E: Write>(
+    judge: &J,
+    alloc: Global,
+    rt: &F,
+    names: &[&'a str],
+    place: usize,
+    chosen: Chosen,
+    before: Ended,
+    buffer: &mut Vec<u8>,
+    out: &mut W,
+    err: &mut E,
+) -> Result<Ended, Fault<'a>>
+    requires within { CanJudge chosen }
+    requires inside { place < length names.now }
+    ensures ok { (first : Option (List ℕ)) → GoesSoFar (ruling_of J.accepts chosen) (texts names.now) place first (W.contents out.old)
+        before.status before.lost → IfOk result (λ e. GoesSoFar (ruling_of J.accepts chosen) (texts names.now) (place + 1) first
+        (W.contents out.new) e.status e.lost) }
+    ensures err { (first : Option (List ℕ)) → GoesSoFar (ruling_of J.accepts chosen) (texts names.now) place first (W.contents out.old)
+        before.status before.lost → IfErr result (StopsGoingBy (ruling_of J.accepts chosen) (texts names.now) first (W.contents out.new)) }
+    ensures quiet { IfOk result (λ e. e.lost ≡ false → (before.lost ≡ false) × Keeps (E.contents err.old) (E.contents err.new)) }
+{
+    let name = name_at(names, place);
+    match judge_one(judge, alloc, rt, chosen, place, name, buffer, out) {
+        Ok(is_valid) => Ok(Ended {
+            status: joined(before.status, is_valid),
+            lost: before.lost,
+        }),
+        Err(fault) => {
+            if is_unwritten(&fault) {
+                return Err(fault);
+            }
+            tell(alloc, &fault, err);
+            Ok(Ended {
+                status: before.status,
+                lost: true,
+            })
+        }
+    }
+}
+
 /// Judges each file in order. Of one that comes to no verdict the fault is told on `err`, and the others are judged all the same.
 fn judge_each<'a, J: Judge, F: Files + Standard, W: Write, E: Write>(
     judge: &J,
@@ -90,25 +131,20 @@ fn judge_each<'a, J: Judge, F: Files + Standard, W: Write, E: Write>(
     ensures quiet { IfOk result (λ e. e.lost ≡ false → Keeps (E.contents err.old) (E.contents err.new)) }
 {
     let mut buffer = Vec::new(alloc);
-    let mut status = Status::AllValid;
-    let mut lost = false;
+    let mut ended = Ended {
+        status: Status::AllValid,
+        lost: false,
+    };
     for place in 0..names.len() {
-        if is_enough(chosen.form, status) {
-            return Ok(Ended { status, lost });
+        if is_enough(chosen.form, ended.status) {
+            return Ok(ended);
         }
-        let name = name_at(names, place);
-        match judge_one(judge, alloc, rt, chosen, place, name, &mut buffer, out) {
-            Ok(is_valid) => status = joined(status, is_valid),
-            Err(fault) => {
-                if is_unwritten(&fault) {
-                    return Err(fault);
-                }
-                tell(alloc, &fault, err);
-                lost = true;
-            }
+        match judge_next(judge, alloc, rt, names, place, chosen, ended, &mut buffer, out, err) {
+            Ok(next) => ended = next,
+            Err(fault) => return Err(fault),
         }
     }
-    Ok(Ended { status, lost })
+    Ok(ended)
 }
 
 /// Judges each file, and flushes what was written.

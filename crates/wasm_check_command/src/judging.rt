@@ -99,13 +99,14 @@ pub trait Judge {
     fn explain(
         &self,
         alloc: Global,
-        _features: WasmFeatures,
-        _limits: Limits,
-        _bytes: &[u8],
-        _error: &Error,
+        features: WasmFeatures,
+        limits: Limits,
+        bytes: &[u8],
+        error: &Error,
     ) -> Result<Vec<String>, AllocError>
-        requires within { IsWithinCeilings _limits }
+        requires within { IsWithinCeilings limits }
     {
+        let _given = (features, limits, bytes.len(), error.offset());
         Ok(Vec::new(alloc))
     }
 }

@@ -97,7 +97,7 @@ pub(crate) fn part_of(payload: &Payload<'_>) -> (Part, Range<u64>) {
             count: _,
             unchecked_range,
             size: _,
-        } => (Part::Code, unchecked_range.start..range.end),
+        } => (Part::Code, unchecked_range.start..unchecked_range.end),
         Payload::CodeSectionEntry(body) => (Part::Code, body.range()),
         Payload::CustomSection(section) => (Part::Custom, section.range()),
         Payload::UnknownSection {
