@@ -11,3 +11,4 @@ pub mod Chains
 pub mod Alone
 pub mod References
 pub mod WorkedProofs
+mod Ancestry

@@ -6,6 +6,7 @@ ghost use Rattle.wasm_module_validator_type_list.specs.Lists.{SameItems, HasRoom
 use crate::RecGroupId;
 use std::alloc::{AllocError, Global};
 use std::ops::Range;
+use wasm_module_validator_type_storage::displays::Displays;
 use wasm_module_validator_type_storage::snapshots::SnapshotList;
 use wasm_types::{CoreTypeId, SubType};
 
@@ -26,7 +27,8 @@ pub(crate) fn set_depth(depths: &mut Vec<Option<u8>>, id: CoreTypeId, depth: u8)
     depths[id.number() as usize] = Some(depth);
 }
 
-/// For each group whether it is in canonical form, and its ids; for each id its type, its group, its supertype and its depth.
+/// For each group whether it is in canonical form, and its ids; for each id its type, its group, its supertype with all ancestors, and
+/// its depth.
 ///
 /// A group is not kept beside its types over ids: they tell what it was (`specs/Rolled.antt`). Depths are set and never shared, so a committed list holds none.
 #[derive(Drop)]
@@ -34,7 +36,7 @@ pub(crate) struct Lists {
     pub forms: SnapshotList<bool>,
     pub types: SnapshotList<SubType>,
     pub homes: SnapshotList<RecGroupId>,
-    pub supertypes: SnapshotList<Option<CoreTypeId>>,
+    pub supertypes: Displays,
     pub elements: SnapshotList<Range<CoreTypeId>>,
     pub depths: Vec<Option<u8>>,
 }
@@ -52,7 +54,7 @@ impl Lists {
             forms: SnapshotList::new(alloc),
             types: SnapshotList::new(alloc),
             homes: SnapshotList::new(alloc),
-            supertypes: SnapshotList::new(alloc),
+            supertypes: Displays::new(alloc),
             elements: SnapshotList::new(alloc),
             depths: Vec::new(alloc),
         }

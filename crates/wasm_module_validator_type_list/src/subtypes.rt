@@ -1,13 +1,28 @@
-//! Subtype tests by the chain of declared supertypes.
+//! Subtype tests by the ancestors that each type keeps, and by the chain of declared supertypes where one keeps none.
 
-ghost use Rattle.std.specs.Prelude.{◌≡◌, ◌↔◌, ◌<◌, IsTrue};
-ghost use Rattle.wasm_module_validator_type_storage.specs.trees.Groups.{count};
+ghost use Rattle.std.specs.Prelude.{◌≡◌, ◌↔◌, ◌<◌, IsTrue, IfSome};
+ghost use Rattle.wasm_module_validator_type_storage.specs.trees.Groups.{count, supertype_ids};
+ghost use Rattle.wasm_module_validator_type_storage.specs.displays.Chains.{HasDepth};
 ghost use Rattle.wasm_module_validator_type_storage.specs.trees.ByIds.{IdBelow};
 
 use crate::TypeList;
 use wasm_types::CoreTypeId;
 
 impl TypeList {
+    // The same, where it can be told by the ancestors of the first id, which most types keep.
+    fn is_below_at_once(&self, a: CoreTypeId, b: CoreTypeId) -> Option<bool>
+        ensures { IfSome result (λ is_below. IsTrue is_below ↔ IdBelow self.now.groups a b) }
+    {
+        self.lists.supertypes.is_below(a, b)
+    }
+
+    /// How many types are declared above the type of an id, where the type keeps its ancestors: up to 255, if there was memory.
+    pub fn count_above(&self, id: CoreTypeId) -> Option<u32>
+        ensures { IfSome result (HasDepth (supertype_ids self.now.groups) id) }
+    {
+        self.lists.supertypes.depth(id)
+    }
+
     /// Whether the first id is the second, or was declared below it by supertypes, in any number of steps (WebAssembly 3.0,
     /// validation, matching, defined types). Where all groups are in canonical form, that is whether its type is below the
     /// other's by declaration (`ids_speak_of_types` of `wasm_module_validator_type_storage::trees`).
@@ -19,6 +34,9 @@ impl TypeList {
         'chain: loop {
             if at == b {
                 return true;
+            }
+            if let Some(is_below) = self.is_below_at_once(at, b) {
+                return is_below;
             }
             match self.supertype_of(at) {
                 Some(above) => at = above,
