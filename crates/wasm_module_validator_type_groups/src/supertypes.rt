@@ -27,7 +27,7 @@ pub(crate) fn check_subtyping(features: WasmFeatures, ty: &SubType, offset: u64)
     )
 }
 
-// Whether at most so many types are declared one above the other, from this one on.
+// Whether at most so many types are declared one above the other, from this one on. Most types tell at once how many are above them.
 fn is_within_depth(types: &TypeList, above: Option<CoreTypeId>, most: u32) -> bool
     requires { IfSome above (λ u. u.0 < count types.now.groups) }
     ensures { IsTrue result ↔ IsDepthWithin types.now.groups most above }
@@ -40,6 +40,9 @@ fn is_within_depth(types: &TypeList, above: Option<CoreTypeId>, most: u32) -> bo
         };
         if left == 0 {
             return false;
+        }
+        if let Some(count) = types.count_above(up) {
+            return count < left;
         }
         left -= 1;
         at = types.supertype_of(up);
