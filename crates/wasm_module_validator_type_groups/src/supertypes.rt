@@ -27,8 +27,8 @@ pub(crate) fn check_subtyping(features: WasmFeatures, ty: &SubType, offset: u64)
     )
 }
 
-// Whether at most so many types are declared one above the other, from this one on. Most types tell at once how many are above them.
-fn is_within_depth(types: &TypeList, above: Option<CoreTypeId>, most: u32) -> bool
+// Whether at most so many types are declared one above the other, from this one on, by the chain of supertypes.
+fn is_within_depth_by_chain(types: &TypeList, above: Option<CoreTypeId>, most: u32) -> bool
     requires { IfSome above (λ u. u.0 < count types.now.groups) }
     ensures { IsTrue result ↔ IsDepthWithin types.now.groups most above }
 {
@@ -41,11 +41,20 @@ fn is_within_depth(types: &TypeList, above: Option<CoreTypeId>, most: u32) -> bo
         if left == 0 {
             return false;
         }
-        if let Some(count) = types.count_above(up) {
-            return count < left;
-        }
         left -= 1;
         at = types.supertype_of(up);
+    }
+}
+
+// The same from this type on. Most types tell how many are above them.
+#[tactic(auto, using(crate::proofs::Deep::depth_within))]
+fn is_within_depth(types: &TypeList, above: CoreTypeId, most: u32) -> bool
+    requires { above.0 < count types.now.groups }
+    ensures { IsTrue result ↔ IsDepthWithin types.now.groups most (Some above) }
+{
+    match types.count_above(above) {
+        Some(count) => count < most,
+        None => is_within_depth_by_chain(types, Some(above), most),
     }
 }
 
@@ -86,7 +95,7 @@ pub(crate) fn check_supertype(
     if !types_match(types, id, above) {
         return Err(Error::new("sub type must match super type", offset));
     }
-    if !is_within_depth(types, Some(above), most) {
+    if !is_within_depth(types, above, most) {
         return Err(too_deep(most, offset));
     }
     Ok(())

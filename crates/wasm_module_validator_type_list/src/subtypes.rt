@@ -9,7 +9,7 @@ use crate::TypeList;
 use wasm_types::CoreTypeId;
 
 impl TypeList {
-    // The same, where it can be told by the ancestors of the first id, which most types keep.
+    // Whether the first id is the second or below it, where that can be told by the ancestors which types keep.
     fn is_below_at_once(&self, a: CoreTypeId, b: CoreTypeId) -> Option<bool>
         ensures { IfSome result (λ is_below. IsTrue is_below ↔ IdBelow self.now.groups a b) }
     {
@@ -23,10 +23,8 @@ impl TypeList {
         self.lists.supertypes.depth(id)
     }
 
-    /// Whether the first id is the second, or was declared below it by supertypes, in any number of steps (WebAssembly 3.0,
-    /// validation, matching, defined types). Where all groups are in canonical form, that is whether its type is below the
-    /// other's by declaration (`ids_speak_of_types` of `wasm_module_validator_type_storage::trees`).
-    pub fn id_is_subtype(&self, a: CoreTypeId, b: CoreTypeId) -> bool
+    // The same, by the chain of supertypes.
+    fn is_below_by_chain(&self, a: CoreTypeId, b: CoreTypeId) -> bool
         requires { a.0 < count self.now.groups }
         ensures { IsTrue result ↔ IdBelow self.now.groups a b }
     {
@@ -35,13 +33,23 @@ impl TypeList {
             if at == b {
                 return true;
             }
-            if let Some(is_below) = self.is_below_at_once(at, b) {
-                return is_below;
-            }
             match self.supertype_of(at) {
                 Some(above) => at = above,
                 None => return false,
             }
+        }
+    }
+
+    /// Whether the first id is the second, or was declared below it by supertypes, in any number of steps (WebAssembly 3.0,
+    /// validation, matching, defined types). Where all groups are in canonical form, that is whether its type is below the
+    /// other's by declaration (`ids_speak_of_types` of `wasm_module_validator_type_storage::trees`).
+    pub fn id_is_subtype(&self, a: CoreTypeId, b: CoreTypeId) -> bool
+        requires { a.0 < count self.now.groups }
+        ensures { IsTrue result ↔ IdBelow self.now.groups a b }
+    {
+        match self.is_below_at_once(a, b) {
+            Some(is_below) => is_below,
+            None => self.is_below_by_chain(a, b),
         }
     }
 }

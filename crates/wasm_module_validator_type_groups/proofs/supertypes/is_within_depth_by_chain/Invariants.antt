@@ -2,7 +2,7 @@ use Rattle.std.proofs.Common.{◌↔◌, ◌<◌}
 use Rattle.std.specs.Prelude.{IfSome}
 use Rattle.wasm_module_validator_type_storage.specs.trees.Groups.{count}
 use Rattle.wasm_module_validator_type_groups.specs.ValidTypes.{IsDepthWithin}
-use Rattle.wasm_module_validator_type_groups.proofs.supertypes.is_within_depth.Given as goal
+use Rattle.wasm_module_validator_type_groups.proofs.supertypes.is_within_depth_by_chain.Given as goal
 
 abbrev pub invariant-chain : goal.invariant-chain
 invariant-chain l =

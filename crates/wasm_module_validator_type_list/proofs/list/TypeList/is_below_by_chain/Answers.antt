@@ -4,7 +4,7 @@ use Rattle.std.proofs.lemmas.Bool.{eqb-true, eq-eqb}
 use Rattle.wasm_types.specs.trees.declared.index.CoreTypeId.{CoreTypeId}
 use Rattle.wasm_module_validator_type_storage.specs.trees.ByIds.{IdBelow, itself, declared}
 use Rattle.wasm_module_validator_type_list.proofs.Finding.{below_next}
-use Rattle.wasm_module_validator_type_list.proofs.list.TypeList.id_is_subtype.Goals as goal
+use Rattle.wasm_module_validator_type_list.proofs.list.TypeList.is_below_by_chain.Goals as goal
 
 pub returns-then-eq : goal.returns-then-eq
 returns-then-eq c =
