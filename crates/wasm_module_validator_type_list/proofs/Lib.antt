@@ -12,3 +12,4 @@ pub mod Alone
 pub mod References
 pub mod WorkedProofs
 mod Ancestry
+mod Likeness
