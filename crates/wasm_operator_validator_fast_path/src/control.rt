@@ -1,6 +1,10 @@
 //! Branches, calls, and operators that take any operand.
 
 ghost use Rattle.std.specs.Prelude.{◌≡◌, ◌<◌, ◌≤◌, ◌∷◌, ℕ, List, length, [], IfSome};
+ghost use Rattle.wasm_types.specs.decoding.Numbers.{GivesAt};
+ghost use Rattle.wasm_operators_immediates.specs.Kinds.{Tables as TableSpace};
+ghost use Rattle.wasm_operators_encoding.specs.immediates.Bytes.{index_or_zero};
+ghost use Rattle.wasm_operators_encoding.specs.immediates.Immediates.{may_index};
 ghost use Rattle.wasm_operators_frequent.specs.Short.{Begins};
 ghost use Rattle.wasm_operator_validator_fast_path.specs.Loop.{Leads, all};
 
@@ -9,6 +13,7 @@ use crate::lookups::{frame_at, label, part};
 use crate::stack::Stack;
 use crate::tables::{Opens, Tables};
 use wasm_operators_frequent::zero_at;
+use wasm_types::WasmFeatures;
 use wasm_types_decoding::short_u32_at;
 
 /// Nothing.
@@ -307,6 +312,27 @@ pub(crate) fn call(
     Some(end)
 }
 
+// The offset behind the index 0 of a table. Linkers write it in five bytes, which the features may allow.
+#[inline(always)]
+fn first_table_at(bytes: &[u8], at: usize, features: WasmFeatures) -> Option<usize>
+    requires { at ≤ length bytes.now }
+    ensures { IfSome result (λ end. GivesAt (index_or_zero (may_index features.0 TableSpace)) bytes.now at 0 end) }
+{
+    if let Some((_table, end)) = zero_at(bytes, at) {
+        return Some(end);
+    }
+    if !features.call_indirect_overlong() {
+        return None;
+    }
+    let Some((table, end)) = short_u32_at(bytes, at) else {
+        return None;
+    };
+    if table != 0 {
+        return None;
+    }
+    Some(end)
+}
+
 /// A call through table 0.
 #[inline(always)]
 pub(crate) fn call_indirect(
@@ -326,7 +352,7 @@ pub(crate) fn call_indirect(
     let Some((index, middle)) = short_u32_at(bytes, at + 1) else {
         return None;
     };
-    let Some((_table, end)) = zero_at(bytes, middle) else {
+    let Some(end) = first_table_at(bytes, middle, tables.features) else {
         return None;
     };
     let index = index as usize;
