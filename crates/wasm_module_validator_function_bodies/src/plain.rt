@@ -8,7 +8,7 @@ ghost use Rattle.wasm_module_validator_function_bodies.specs.Plain.{IsNumberByte
 
 use std::alloc::Global;
 use wasm_operator_validator_driver::WasmModuleResources;
-use wasm_operator_validator_fast_path::{Known, Room, Sig, Tables, known_of, part};
+use wasm_operator_validator_fast_path::{Effects, Known, Room, Sig, Tables, known_of, part};
 use wasm_operators_bodies::FunctionBody;
 use wasm_types::{Limits, WasmFeatures};
 use wasm_types_decoding::short_u32_at;
@@ -97,6 +97,7 @@ fn first_tables(alloc: Global, known: Known, features: WasmFeatures) -> Tables
             result_count: 0,
         },
         features,
+        effects: Effects::new(),
     }
 }
 

@@ -6,3 +6,5 @@ pub mod Rows
 pub mod Frames
 pub mod Coded
 pub mod Knowing
+pub mod Indexed
+pub mod Filled

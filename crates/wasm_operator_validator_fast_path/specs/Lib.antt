@@ -1,8 +1,9 @@
 -- Rules: operands as codes, what packed tables say, what operators do by their codes, and what a loop over them promises.
 pub mod Stacks
 pub mod Values
-pub mod Tables
+pub mod Allowed
 pub mod Shapes
+pub mod Tables
 pub mod Labels
 pub mod Known
 pub mod Loop

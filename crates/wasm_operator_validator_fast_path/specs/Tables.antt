@@ -2,11 +2,9 @@
 use Rattle.std.specs.Prelude.{◌≡◌, ◌≤◌, ◌<◌, ℕ, Bool, true, false, List, [], ◌∷◌, length, get_or, slice_get, Some}
 use Rattle.wasm_types.specs.settings.Settings.{Settings}
 use Rattle.wasm_types.specs.externs.declared.memory.MemoryType.{MemoryType}
-use Rattle.wasm_types.specs.settings.Features.{Floats, MultiValue, SignExtension, SaturatingFloatToInt, BulkMemoryOpt}
 use Rattle.wasm_types.specs.trees.Types.{ref, abstract, func}
 use Rattle.wasm_types.specs.trees.Trees.{TypeTree}
 use Rattle.wasm_types.specs.trees.Below.{Below}
-use Rattle.wasm_types.specs.trees.Gates.{Has}
 use Rattle.wasm_operators_immediates.specs.declared.frames.FrameKind.{FrameKind}
 use Rattle.wasm_operators_immediates.specs.declared.frames.FrameKind.TheVariants as frames
 use Rattle.wasm_operator_validator_rules.specs.Context.{Module, Context, Table, Global, Signature, IsFunctionType}
@@ -15,6 +13,7 @@ use Rattle.wasm_operator_validator_fast_path.specs.declared.tables.Held.{Held}
 use Rattle.wasm_operator_validator_fast_path.specs.declared.tables.Known.{Known}
 use Rattle.wasm_operator_validator_fast_path.specs.declared.tables.Tables.{Tables}
 use Rattle.wasm_operator_validator_fast_path.specs.Stacks.{part}
+pub use Rattle.wasm_operator_validator_fast_path.specs.Allowed.{Allows}
 use Rattle.wasm_operator_validator_fast_path.specs.Values.{type_of, types}
 
 -- ---- signatures
@@ -66,14 +65,6 @@ pub record Knows (m : Module) (k : Known) : Type 0 where
   pub table : k.table ≡ true → HasTable m
 
 -- ---- bodies
-
--- the features that the operators of the loop ask
-pub record Allows (bits : ℕ) : Type 0 where
-  pub floats : Has bits Floats
-  pub values : Has bits MultiValue
-  pub sign : Has bits SignExtension
-  pub saturating : Has bits SaturatingFloatToInt
-  pub bulk : Has bits BulkMemoryOpt
 
 -- tables stand for what they name of the context of a body with these bytes
 pub record Fits (z : Settings) (text : List ℕ) (t : Tables) (g : Context) : Type 0 where

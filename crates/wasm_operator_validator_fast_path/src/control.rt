@@ -8,6 +8,7 @@ ghost use Rattle.wasm_operators_encoding.specs.immediates.Immediates.{may_index}
 ghost use Rattle.wasm_operators_frequent.specs.Short.{Begins};
 ghost use Rattle.wasm_operator_validator_fast_path.specs.Loop.{Leads, all};
 
+use crate::indices::index_at;
 use crate::labels::labels_at;
 use crate::lookups::{frame_at, label, part};
 use crate::stack::Stack;
@@ -285,7 +286,7 @@ pub(crate) fn call(
     ensures inside { IfSome result (λ end. end ≤ length bytes.now) }
 {
     let _opens = opens;
-    let Some((index, end)) = short_u32_at(bytes, at + 1) else {
+    let Some((index, end)) = index_at(bytes, at + 1) else {
         return None;
     };
     let index = index as usize;
@@ -324,7 +325,7 @@ fn first_table_at(bytes: &[u8], at: usize, features: WasmFeatures) -> Option<usi
     if !features.call_indirect_overlong() {
         return None;
     }
-    let Some((table, end)) = short_u32_at(bytes, at) else {
+    let Some((table, end)) = index_at(bytes, at) else {
         return None;
     };
     if table != 0 {
@@ -349,7 +350,7 @@ pub(crate) fn call_indirect(
     ensures inside { IfSome result (λ end. end ≤ length bytes.now) }
 {
     let _opens = opens;
-    let Some((index, middle)) = short_u32_at(bytes, at + 1) else {
+    let Some((index, middle)) = index_at(bytes, at + 1) else {
         return None;
     };
     let Some(end) = first_table_at(bytes, middle, tables.features) else {

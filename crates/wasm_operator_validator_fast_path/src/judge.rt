@@ -15,14 +15,15 @@ use crate::constants::{f32_const, f64_const, i32_const, i64_const};
 use crate::control::{
     br, br_if, br_table, call, call_indirect, drop_top, nop, return_all, select, unreachable,
 };
-use crate::memory::{load, memory_copy, memory_fill, memory_grow, memory_size, store};
-use crate::numbers::{change, change_prefixed, combine};
+use crate::memory::{access, memory_copy, memory_fill, memory_grow, memory_size};
+use crate::numbers::{change_prefixed, number};
 use crate::pile::Pile;
-use crate::shape::{Shape, saturating_of, shape_of};
+use crate::shape::saturating_of;
 use crate::stack::Stack;
 use crate::tables::{Open, Opens, Sig, Tables};
 use crate::variables::{global_get, global_set, local_get, local_set, local_tee};
 use std::alloc::Global;
+use std::mem;
 use wasm_operator_validator_state::FrameKind;
 use wasm_types_decoding::short_u32_at;
 
@@ -63,45 +64,16 @@ fn next(
         0x22 => local_tee(tables, bytes, at, stack, opens),
         0x23 => global_get(tables, bytes, at, stack, opens),
         0x24 => global_set(tables, bytes, at, stack, opens),
+        0x28 | 0x29 | 0x2a | 0x2b | 0x2c | 0x2d | 0x2e | 0x2f | 0x30 | 0x31 | 0x32 | 0x33 | 0x34 | 0x35 | 0x36 | 0x37 | 0x38 | 0x39 | 0x3a | 0x3b | 0x3c | 0x3d | 0x3e => access(code, tables, bytes, at, stack, opens),
         0x3f => memory_size(tables, bytes, at, stack, opens),
         0x40 => memory_grow(tables, bytes, at, stack, opens),
         0x41 => i32_const(tables, bytes, at, stack, opens),
         0x42 => i64_const(tables, bytes, at, stack, opens),
         0x43 => f32_const(tables, bytes, at, stack, opens),
         0x44 => f64_const(tables, bytes, at, stack, opens),
+        0x45 | 0x46 | 0x47 | 0x48 | 0x49 | 0x4a | 0x4b | 0x4c | 0x4d | 0x4e | 0x4f | 0x50 | 0x51 | 0x52 | 0x53 | 0x54 | 0x55 | 0x56 | 0x57 | 0x58 | 0x59 | 0x5a | 0x5b | 0x5c | 0x5d | 0x5e | 0x5f | 0x60 | 0x61 | 0x62 | 0x63 | 0x64 | 0x65 | 0x66 | 0x67 | 0x68 | 0x69 | 0x6a | 0x6b | 0x6c | 0x6d | 0x6e | 0x6f | 0x70 | 0x71 | 0x72 | 0x73 | 0x74 | 0x75 | 0x76 | 0x77 | 0x78 | 0x79 | 0x7a | 0x7b | 0x7c | 0x7d | 0x7e | 0x7f | 0x80 | 0x81 | 0x82 | 0x83 | 0x84 | 0x85 | 0x86 | 0x87 | 0x88 | 0x89 | 0x8a | 0x8b | 0x8c | 0x8d | 0x8e | 0x8f | 0x90 | 0x91 | 0x92 | 0x93 | 0x94 | 0x95 | 0x96 | 0x97 | 0x98 | 0x99 | 0x9a | 0x9b | 0x9c | 0x9d | 0x9e | 0x9f | 0xa0 | 0xa1 | 0xa2 | 0xa3 | 0xa4 | 0xa5 | 0xa6 | 0xa7 | 0xa8 | 0xa9 | 0xaa | 0xab | 0xac | 0xad | 0xae | 0xaf | 0xb0 | 0xb1 | 0xb2 | 0xb3 | 0xb4 | 0xb5 | 0xb6 | 0xb7 | 0xb8 | 0xb9 | 0xba | 0xbb | 0xbc | 0xbd | 0xbe | 0xbf | 0xc0 | 0xc1 | 0xc2 | 0xc3 | 0xc4 => number(code, tables, bytes, at, stack, opens),
         0xfc => prefixed(tables, bytes, at, stack, opens),
-        _ => shaped(code, tables, bytes, at, stack, opens),
-    }
-}
-
-/// Takes an operator that its code tells all of.
-#[inline(always)]
-fn shaped(
-    code: u8,
-    tables: &Tables,
-    bytes: &[u8],
-    at: usize,
-    stack: &mut Stack,
-    opens: &Opens,
-) -> Option<usize>
-    requires { Begins bytes.now at code }
-    ensures leads { IfSome result (λ end. Leads bytes.now tables.now at (all opens.now) stack.old
-        end (all opens.now) stack.new) }
-    ensures forward { IfSome result (λ end. at < end) }
-    ensures inside { IfSome result (λ end. end ≤ length bytes.now) }
-{
-    match shape_of(code) {
-        Shape::Other => None,
-        Shape::Load(natural, gives) => load(code, natural, gives, tables, bytes, at, stack, opens),
-        Shape::Store(natural, takes) => {
-            store(code, natural, takes, tables, bytes, at, stack, opens)
-        }
-        Shape::Change(takes, gives) => {
-            change(code, takes, gives, tables, bytes, at, stack, opens)
-        }
-        Shape::Combine(takes, gives) => {
-            combine(code, takes, gives, tables, bytes, at, stack, opens)
-        }
+        _ => None,
     }
 }
 
@@ -136,13 +108,18 @@ fn prefixed(
 }
 
 /// Takes all operators.
+#[inline(always)]
 fn run(tables: &Tables, bytes: &[u8], start: usize, stack: &mut Stack, opens: &mut Opens) -> bool
     requires { start ≤ length bytes.now }
     ensures { result ≡ true → (z : Settings) (g : Context) → Fits z bytes.now tables.now g
         → Goes z bytes.now tables.now g start (all opens.old) stack.old }
 {
+    if bytes.len() == 0 {
+        return false;
+    }
+    let last = bytes.len() - 1;
     let mut at = start;
-    while at < bytes.len() && at + 1 < bytes.len() {
+    while at < last {
         let Some(end) = next(tables, bytes, at, stack, opens) else {
             return false;
         };
@@ -173,6 +150,7 @@ fn body_frame(results: Sig) -> Open
 pub struct Room {
     stack: Stack,
     opens: Opens,
+    alloc: Global,
 }
 
 impl Room {
@@ -189,6 +167,7 @@ impl Room {
                 }),
                 outer: Pile::new(alloc),
             },
+            alloc,
         }
     }
 
@@ -205,6 +184,10 @@ impl Room {
         if !self.opens.outer.begin(0, frame) || !self.stack.begin(places) {
             return false;
         }
-        run(tables, bytes, start, &mut self.stack, &mut self.opens)
+        // taken out, so that no pointer leads to what the loop counts by, and it can stay in registers
+        let mut stack = mem::replace(&mut self.stack, Stack::new(self.alloc));
+        let valid = run(tables, bytes, start, &mut stack, &mut self.opens);
+        self.stack = stack;
+        valid
     }
 }

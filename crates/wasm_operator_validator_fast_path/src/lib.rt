@@ -11,6 +11,8 @@
 mod blocks;
 mod constants;
 mod control;
+mod effects;
+mod indices;
 mod judge;
 mod known;
 mod labels;
@@ -23,6 +25,7 @@ mod stack;
 mod tables;
 mod variables;
 
+pub use effects::{Effect, Effects, Kind};
 pub use judge::Room;
 pub use known::known_of;
 pub use lookups::part;

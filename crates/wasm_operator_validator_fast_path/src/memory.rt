@@ -3,84 +3,51 @@
 ghost use Rattle.std.specs.Prelude.{◌≡◌, ◌<◌, ◌≤◌, ◌∷◌, ℕ, List, length, [], IfSome};
 ghost use Rattle.wasm_operators_frequent.specs.Short.{Begins, BeginsPrefixed};
 ghost use Rattle.wasm_operator_validator_fast_path.specs.Loop.{Leads, all};
-ghost use Rattle.wasm_operator_validator_rules.specs.Accesses.{load as load_of, store as store_of};
-ghost use Rattle.wasm_operator_validator_fast_path.specs.Shapes.{IsAccessAt};
 
+use crate::indices::argument_at;
+use crate::effects::Kind;
 use crate::stack::Stack;
 use crate::tables::{Opens, Tables};
-use wasm_operators_frequent::{access_at, zero_at};
+use wasm_operators_frequent::zero_at;
 use wasm_types_decoding::short_u32_at;
 
-/// A load.
+/// A load or a store.
 #[inline(always)]
-pub(crate) fn load(
+pub(crate) fn access(
     code: u8,
-    natural: u8,
-    gives: u8,
     tables: &Tables,
     bytes: &[u8],
     at: usize,
     stack: &mut Stack,
     opens: &Opens,
 ) -> Option<usize>
-    requires begins { Begins bytes.now at code }
-    requires access { IsAccessAt load_of code natural gives }
+    requires { Begins bytes.now at code }
     ensures leads { IfSome result (λ end. Leads bytes.now tables.now at (all opens.now) stack.old
         end (all opens.now) stack.new) }
     ensures forward { IfSome result (λ end. at < end) }
     ensures inside { IfSome result (λ end. end ≤ length bytes.now) }
 {
     let _opens = opens;
-    let _code = code;
     if !tables.known.memory {
         return None;
     }
-    let Some((access, end)) = access_at(bytes, at + 1, tables.features) else {
+    let effect = tables.effects.of(code);
+    let Some(end) = argument_at(bytes, at + 1, effect.first, tables.features) else {
         return None;
     };
-    if access.0 > natural || access.1 >= 0x1_0000_0000 {
-        return None;
+    if let Kind::Load = effect.kind {
+        if !stack.change(0, effect.second) {
+            return None;
+        }
+        return Some(end);
     }
-    if !stack.change(0, gives) {
-        return None;
+    if let Kind::Store = effect.kind {
+        if !stack.take(effect.second) || !stack.take(0) {
+            return None;
+        }
+        return Some(end);
     }
-    Some(end)
-}
-
-/// A store.
-#[inline(always)]
-pub(crate) fn store(
-    code: u8,
-    natural: u8,
-    takes: u8,
-    tables: &Tables,
-    bytes: &[u8],
-    at: usize,
-    stack: &mut Stack,
-    opens: &Opens,
-) -> Option<usize>
-    requires begins { Begins bytes.now at code }
-    requires access { IsAccessAt store_of code natural takes }
-    ensures leads { IfSome result (λ end. Leads bytes.now tables.now at (all opens.now) stack.old
-        end (all opens.now) stack.new) }
-    ensures forward { IfSome result (λ end. at < end) }
-    ensures inside { IfSome result (λ end. end ≤ length bytes.now) }
-{
-    let _opens = opens;
-    let _code = code;
-    if !tables.known.memory {
-        return None;
-    }
-    let Some((access, end)) = access_at(bytes, at + 1, tables.features) else {
-        return None;
-    };
-    if access.0 > natural || access.1 >= 0x1_0000_0000 {
-        return None;
-    }
-    if !stack.take(takes) || !stack.take(0) {
-        return None;
-    }
-    Some(end)
+    None
 }
 
 /// How large it is.

@@ -1,5 +1,6 @@
 //! What bodies ask of a module, packed, and open frames.
 
+use crate::effects::Effects;
 use crate::pile::Pile;
 use wasm_operator_validator_state::FrameKind;
 use wasm_types::WasmFeatures;
@@ -33,13 +34,15 @@ pub struct Known {
     pub table: bool,
 }
 
-/// What one body asks: its module, its locals as codes, the results of its function, and the features that it is read by.
+/// What one body asks: its module, its locals as codes, the results of its function, the features that it is read by, and what operators
+/// do by their codes.
 #[derive(Drop)]
 pub struct Tables {
     pub known: Known,
     pub locals: Vec<u8>,
     pub results: Sig,
     pub features: WasmFeatures,
+    pub effects: Effects,
 }
 
 /// An open frame, and how many operands lie under the frame around it.

@@ -1,0 +1,100 @@
+-- Indices and arguments of accesses, at an offset in the bytes.
+use Rattle.std.proofs.Common.{◌≡◌, ◌∙◌, ℕ, suc, ◌+◌, ◌-◌, ◌*◌, ◌<◌, ◌≤◌, List, Bool, true, false, length, drop, get_or, refl, sym, subst, arith}
+use Rattle.std.proofs.lemmas.Bool.{lt-ltb, le-ltb}
+use Rattle.std.proofs.lemmas.List.{get_or-drop, length-drop}
+use Rattle.wasm_types.specs.decoding.Decoder.{State, Done, byte}
+use Rattle.wasm_types.specs.decoding.Leb.{unsigned, u32, u64}
+use Rattle.wasm_types.specs.decoding.Numbers.{behind, GivesAt}
+use Rattle.wasm_types.specs.settings.Features.{has, Memory64}
+use Rattle.wasm_types_decoding.proofs.AtOnce.{unsigned_of_one, unsigned_of_two}
+use Rattle.wasm_types_decoding.proofs.LebGroups.{byte_here, behind_none}
+use Rattle.wasm_operators_immediates.specs.Kinds.{Plain}
+use Rattle.wasm_operators_encoding.specs.immediates.Bytes.{index_or_zero}
+use Rattle.wasm_operators_encoding.specs.immediates.MemoryArguments.{offset}
+use Rattle.wasm_operators_frequent.proofs.Carried.{access_there}
+use Rattle.wasm_operator_validator_fast_path.specs.Shapes.{IsArgumentAt}
+
+-- ---- indices of tables
+
+allowed_index : (allowed : Bool) (text : List ℕ) (i n e : ℕ) → allowed ≡ true → GivesAt u32 text i n e → GivesAt (index_or_zero allowed) text i n e
+unfolding index_or_zero
+allowed_index true text i n e is g = g
+allowed_index false text i n e is g = absurd cc
+
+-- an index that is 0 is read where indices may be
+pub first_index : (allowed refused : Bool) (text : List ℕ) (i n e : ℕ) → refused ≡ allowed → refused ≡ true → GivesAt u32 text i n e → n ≡ 0
+    → GivesAt (index_or_zero allowed) text i 0 e
+first_index allowed refused text i n e same is g zero =
+    subst (λ (k : ℕ). GivesAt (index_or_zero allowed) text i k e) zero (allowed_index allowed text i n e (sym same ∙ is) g)
+
+-- ---- five bytes
+
+byte_at : (text : List ℕ) (i n : ℕ) (s : State) → s.rest ≡ drop i text → i + n < length text → byte (behind n s) ≡ Done (get_or text (i + n) 0) (behind (n + 1) s)
+byte_at text i n s same lt =
+    rw (get_or-drop i text n 0) at (byte_here s (drop i text) n (sym same) (omega (arith, lt, length-drop i text)))
+
+first_at : (text : List ℕ) (i : ℕ) (s : State) → s.rest ≡ drop i text → i < length text → byte s ≡ Done (get_or text i 0) (behind 1 s)
+first_at text i s same lt =
+    let z : i + 0 ≡ i = omega arith in
+    rw (behind_none s, z) at (byte_at text i 0 s same (omega arith))
+
+pub unsigned_of_five : (text : List ℕ) (i n : ℕ) → i + 5 ≤ length text → 128 ≤ get_or text i 0 → 128 ≤ get_or text (i + 1) 0 → 128 ≤ get_or text (i + 2) 0
+    → 128 ≤ get_or text (i + 3) 0 → get_or text (i + 4) 0 < 16
+    → n ≡ 128 * (128 * (128 * (128 * get_or text (i + 4) 0 + (get_or text (i + 3) 0 - 128)) + (get_or text (i + 2) 0 - 128)) + (get_or text (i + 1) 0 - 128)) + (get_or text i 0 - 128)
+    → GivesAt u32 text i n (i + 5)
+unfolding unsigned
+unsigned_of_five text i n inside a b c d e is = record {
+  forward = omega arith;
+  inside = inside;
+  gives = λ s same.
+      let whole : i + 5 - i ≡ 5 = omega arith in
+      rw (
+        whole,
+        is,
+        first_at text i s same (omega (arith, inside)),
+        le-ltb (get_or text i 0) 128 a,
+        byte_at text i 1 s same (omega (arith, inside)),
+        le-ltb (get_or text (i + 1) 0) 128 b,
+        byte_at text i 2 s same (omega (arith, inside)),
+        le-ltb (get_or text (i + 2) 0) 128 c,
+        byte_at text i 3 s same (omega (arith, inside)),
+        le-ltb (get_or text (i + 3) 0) 128 d,
+        byte_at text i 4 s same (omega (arith, inside)),
+        lt-ltb (get_or text (i + 4) 0) 16 e,
+      ) refl;
+}
+
+-- ---- arguments of accesses
+
+offset_of_one : (wide : Bool) (text : List ℕ) (i : ℕ) → i + 1 < length text → get_or text i 0 < 128 → GivesAt (offset wide) text i (get_or text i 0) (i + 1)
+unfolding offset
+offset_of_one true text i two low = unsigned_of_one text i two 8 1 low
+offset_of_one false text i two low = unsigned_of_one text i two 3 4 low
+
+offset_of_two : (wide : Bool) (text : List ℕ) (i : ℕ) → i + 1 < length text → 128 ≤ get_or text i 0 → get_or text (i + 1) 0 < 128
+    → GivesAt (offset wide) text i (get_or text (i + 1) 0 * 128 + (get_or text i 0 - 128)) (i + 2)
+unfolding offset
+offset_of_two true text i two high low = unsigned_of_two text i two 7 1 high low
+offset_of_two false text i two high low = unsigned_of_two text i two 2 4 high low
+
+module _ (features : ℕ) (text : List ℕ) (i natural : ℕ) (small : natural < 16) (inside : i + 2 < length text) (aligned : get_or text i 0 ≤ natural) where
+  argument_of : (x e : ℕ) → GivesAt (offset (has Memory64 features)) text (i + 1) x e → x < 0x1_0000_0000 → IsArgumentAt features text i natural e
+  argument_of x e g few = record {
+    align = get_or text i 0;
+    offset = x;
+    read = access_there features natural text i (get_or text i 0) (omega (arith, inside)) refl (omega (arith, small, aligned)) (has Memory64 features) x e g refl;
+    aligned = aligned;
+    reached = few;
+  }
+
+  pub argument_of_one : get_or text (i + 1) 0 < 128 → IsArgumentAt features text i natural (i + 2)
+  argument_of_one low =
+      let n : i + 1 + 1 ≡ i + 2 = omega arith in
+      rw n at (argument_of (get_or text (i + 1) 0) (i + 1 + 1) (offset_of_one (has Memory64 features) text (i + 1) (omega (arith, inside)) low) (omega (arith, low)))
+
+  pub argument_of_two : 128 ≤ get_or text (i + 1) 0 → get_or text (i + 1) 0 < 256 → get_or text (i + 2) 0 < 128 → IsArgumentAt features text i natural (i + 3)
+  argument_of_two high is_byte low =
+      let n : i + 1 + 2 ≡ i + 3 = omega arith in
+      let m : i + 1 + 1 ≡ i + 2 = omega arith in
+      let last : get_or text (i + 1 + 1) 0 < 128 = rw m low in
+      rw n at (argument_of _ (i + 1 + 2) (offset_of_two (has Memory64 features) text (i + 1) (omega (arith, inside)) high last) (omega (arith, last, is_byte)))
