@@ -1,11 +1,14 @@
-/* durskeyl.h: a validator of WebAssembly core modules that is proved right. Interface 1.1. The library needs the C library alone.
+/* durskeyl.h: a validator of WebAssembly core modules that is proved right. Interface 1.2. The library needs the C library alone.
  *
  * PROVED, of the library's source: durskeyl_validate answers DURSKEYL_VALID only if the bytes spell a module that is valid by the written
  * rules under the settings (docs/SPECIFICATION.md names them), and a kind that is a verdict only if they do not; fault->kind is that
- * answer; the text ends in a 0. durskeyl_imports and durskeyl_exports, of bytes that durskeyl_validate accepted by whatever settings: how
- * many there are, and in each row the names, the kind and the index that the module has, in its order; of any other bytes, that the names of
- * all rows that were written lie in the bytes, unless the answer is DURSKEYL_NO_MODULE. All calls end on all bytes, read only
- * what they are given, and write only the fault or the rows. No call depends on an earlier one, keeps anything, or leaves anything to free.
+ * answer; the text ends in a 0. A module that is accepted runs soundly: if the features are those of the standard, so without bits 9, 23
+ * and 27 (shared everything, stack switching, custom descriptors), no run of it is stuck, whatever its host and its memory answer;
+ * docs/SOUNDNESS.md says which checks a compiler may leave out. durskeyl_imports and durskeyl_exports, of bytes that durskeyl_validate
+ * accepted by whatever settings: how many there are, and in each row the names, the kind and the index that the module has, in its order;
+ * of any other bytes, that the names of all rows that were written lie in the bytes, unless the answer is DURSKEYL_NO_MODULE. All calls
+ * end on all bytes, read only what they are given, and write only the fault or the rows. No call depends on an earlier one, keeps
+ * anything, or leaves anything to free.
  * NOT PROVED: which of several faults is told, its kind, offset and text; time, memory and stack; this header; the kit's
  *   functions of memory; the C library.
  *
@@ -25,7 +28,7 @@ extern "C" {
 #endif
 
 /* The first number times 2^16, and the second: a new second number only adds functions, features or limits. */
-#define DURSKEYL_VERSION UINT32_C(0x10001)
+#define DURSKEYL_VERSION UINT32_C(0x10002)
 
 enum durskeyl_kind {
     DURSKEYL_VALID = 0,
@@ -34,7 +37,7 @@ enum durskeyl_kind {
     DURSKEYL_OUT_OF_MEMORY = 3,   /* NO VERDICT: malloc refused. Never take it for invalid */
     DURSKEYL_FAILED = 4,          /* not answered by durskeyl_validate today */
     DURSKEYL_INVALID = 5,         /* invalid: any other fault */
-    DURSKEYL_BAD_SETTINGS = 6     /* NO VERDICT: a bit that is no feature's, or a limit above its ceiling */
+    DURSKEYL_BAD_SETTINGS = 6     /* NO VERDICT: an unknown bit among the features, or a limit above its ceiling */
 };
 
 /* The places in limits: the most that a module may have of each. The last three are kept for later. */
@@ -74,8 +77,12 @@ enum durskeyl_set {
     DURSKEYL_DEFAULT = 6
 };
 
+/* A bit beside those of features, which no named set has: with it operators on vectors are judged like all others, and are valid if
+ * the features of their proposals allow them; without it each of them is refused. */
+#define DURSKEYL_VECTORS (UINT64_C(1) << 28)
+
 typedef struct {
-    uint64_t features;            /* a bit for each feature, as in wasmparser's WasmFeatures */
+    uint64_t features;            /* a bit for each feature, as in wasmparser's WasmFeatures, and DURSKEYL_VECTORS */
     uint32_t limits[DURSKEYL_LIMITS];
 } durskeyl_settings;
 

@@ -1,4 +1,5 @@
 // Durskeyl from Go: says of each file whether it is a valid WebAssembly module, and after --entries what it imports and exports.
+// After --vectors operators on vectors are judged like all others.
 package main
 
 /*
@@ -12,6 +13,9 @@ import (
 	"os"
 	"unsafe"
 )
+
+// Vectors is a bit of the features that no named set has: operators on vectors are judged like all others.
+const Vectors = C.DURSKEYL_VECTORS
 
 // The first byte of a slice, or nil: cgo lends it for the call.
 func first(bytes []byte) *C.uint8_t {
@@ -73,6 +77,10 @@ func main() {
 	for _, name := range os.Args[1:] {
 		if name == "--entries" {
 			lists = true
+			continue
+		}
+		if name == "--vectors" {
+			settings.features |= Vectors
 			continue
 		}
 		bytes, err := os.ReadFile(name)

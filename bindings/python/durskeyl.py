@@ -4,6 +4,8 @@ import os
 import sys
 
 NO_VERDICT = {3: "out of memory", 6: "bad settings"}
+# A bit of the features that no named set has: operators on vectors are judged like all others.
+VECTORS = 1 << 28
 
 
 class Settings(ctypes.Structure):

@@ -1,5 +1,9 @@
 //! Durskeyl from Rust, by a safe function: `rustc --edition 2024 -L LIBDIR durskeyl.rs`, or this file as a module of a crate that links
 //! `durskeyl`. As a program it says of each file whether it is a valid WebAssembly module; after `--entries` what it imports and exports.
+//! After `--vectors` operators on vectors are judged like all others.
+
+/// A bit of `Settings::features` that no named set has: operators on vectors are judged like all others.
+pub const VECTORS: u64 = 1 << 28;
 
 #[repr(C)]
 #[derive(Clone)]
@@ -143,11 +147,15 @@ fn list(bytes: &[u8]) {
 
 #[allow(dead_code)]
 fn main() -> std::io::Result<()> {
-    let settings = Settings::default();
+    let mut settings = Settings::default();
     let mut lists = false;
     for name in std::env::args().skip(1) {
         if name == "--entries" {
             lists = true;
+            continue;
+        }
+        if name == "--vectors" {
+            settings.features |= VECTORS;
             continue;
         }
         let bytes = std::fs::read(&name)?;

@@ -75,7 +75,7 @@ static void calls(void) {
     want("no bytes", durskeyl_validate(&settings, header, 0, &fault), DURSKEYL_END_OF_DATA);
     want("null of length 0", durskeyl_validate(&settings, NULL, 0, &fault), DURSKEYL_END_OF_DATA);
     other = settings;
-    other.features |= UINT64_C(1) << 28;
+    other.features |= UINT64_C(1) << 29;
     want("unknown feature", durskeyl_validate(&other, header, 8, &fault), DURSKEYL_BAD_SETTINGS);
     other = settings;
     other.limits[DURSKEYL_LOCALS] = 1000001;
@@ -94,6 +94,17 @@ static void calls(void) {
     other = settings;
     other.features = durskeyl_features(DURSKEYL_WASM2);
     want("two memories in 2.0", durskeyl_validate(&other, memories, sizeof memories, &fault) != DURSKEYL_VALID, 1);
+    // a body with v128.const, drop
+    uint8_t vectors[48] = {0, 'a', 's', 'm', 1, 0, 0, 0, 1, 4, 1, 0x60, 0, 0, 3, 2, 1, 0, 0x0a, 23, 1, 21, 0, 0xfd, 12, [41] = 0x1a, 0x0b};
+    want("vectors", durskeyl_validate(&settings, vectors, 43, &fault), DURSKEYL_INVALID);
+    other = settings;
+    other.features |= DURSKEYL_VECTORS;
+    want("vectors, judged", durskeyl_validate(&other, vectors, 43, &fault), DURSKEYL_VALID);
+    vectors[41] = 0x45; // i32.eqz of a vector
+    want("vectors, judged invalid", durskeyl_validate(&other, vectors, 43, &fault), DURSKEYL_INVALID);
+    vectors[41] = 0x1a;
+    other.features = durskeyl_features(DURSKEYL_WASM1) | DURSKEYL_VECTORS;
+    want("vectors without their feature", durskeyl_validate(&other, vectors, 43, &fault), DURSKEYL_MISSING_FEATURE);
     want("version", durskeyl_version(), DURSKEYL_VERSION);
     want("all features", durskeyl_features(DURSKEYL_ALL) == (UINT64_C(1) << 28) - 1, 1);
     want("default features", durskeyl_features(DURSKEYL_DEFAULT) == settings.features, 1);

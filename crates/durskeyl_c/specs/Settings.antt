@@ -42,7 +42,7 @@ named_bits set =
 abbrev pub settings_in : DurskeylSettings → Settings
 settings_in s = record { features = s.features; limits = limits_in s.limits }
 
--- only known features are allowed, and no limit is above its ceiling
+-- only known features are allowed, and operators on vectors judged or not; and no limit is above its ceiling
 pub record AreSettings (s : DurskeylSettings) : Type 0 where
-  pub features : s.features < 2 ^ 28
+  pub features : s.features < 2 ^ 29
   pub limits : IsWithinCeilings (limits_in s.limits)

@@ -14,11 +14,14 @@ const PLACES: usize = 24;
 /// The bits of all features.
 const ALL_FEATURES: u64 = (1 << 28) - 1;
 
+/// The bits that settings may have: those of features, and the one by which operators on vectors are judged.
+const KNOWN_BITS: u64 = (1 << 29) - 1;
+
 /// What a module is judged by.
 #[repr(C)]
 #[derive(Drop)]
 pub struct DurskeylSettings {
-    /// The features that are allowed, as bits: those of `WasmFeatures`.
+    /// The features that are allowed, as bits: those of `WasmFeatures`, `VECTOR_OPERATORS` too.
     pub features: u64,
     /// The most that a module may have of each thing, in the order of the fields of `Limits`.
     pub limits: [u32; PLACES],
@@ -64,7 +67,8 @@ pub extern "C" fn durskeyl_settings_default(settings: &mut DurskeylSettings)
 }
 
 /// The features of a named set, as bits: 1 the first release, 2 WebAssembly 1.0, 3 WebAssembly 2.0, 4 WebAssembly 3.0 and threads,
-/// 5 Lime1; 0 all that this library knows; any other number gives the features by default.
+/// 5 Lime1; 0 all that this library knows; any other number gives the features by default. No set judges operators on vectors: who wants
+/// that adds 2^28.
 #[unsafe(no_mangle)]
 pub extern "C" fn durskeyl_features(set: u32) -> u64
     ensures { result ≡ named_bits set }
@@ -110,11 +114,11 @@ pub(crate) fn limits_of(places: &[u32; PLACES]) -> Limits
     }
 }
 
-/// The set of features of these bits, if each bit is a feature's.
+/// The set of features of these bits, if each bit is a feature's or the one by which operators on vectors are judged.
 pub(crate) fn features_of(bits: u64) -> Option<WasmFeatures>
-    ensures { MatchOption result (2 ^ 28 ≤ bits) (λ features. (features.0 ≡ bits) × (bits < 2 ^ 28)) }
+    ensures { MatchOption result (2 ^ 29 ≤ bits) (λ features. (features.0 ≡ bits) × (bits < 2 ^ 29)) }
 {
-    if bits > ALL_FEATURES {
+    if bits > KNOWN_BITS {
         return None;
     }
     Some(WasmFeatures::from_bits_retain(bits as u32))

@@ -1,4 +1,5 @@
 mod Turns
 pub mod Validity
+pub mod Whole
 pub mod WorkedModule
 pub mod WorkedLinked

@@ -1,10 +1,11 @@
--- Rules: what is accepted, how far a validator is then, and what its methods promise.
+-- Rules: what is accepted, how far a validator is then, what its methods promise, and which modules have no operators on vectors.
 pub mod Shown
 pub mod Accepts
 pub mod States
 pub mod Methods
 pub mod Payloads
 pub mod Lists
+pub mod Unasked
 -- Laws, with the proofs. `StateRows` there has worked rows.
 pub mod laws
 pub use Rattle.wasm_module_validator_rules.specs as rules

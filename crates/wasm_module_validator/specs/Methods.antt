@@ -3,7 +3,7 @@
 -- A method that is called out of turn is refused, and the validator stays as it is. In turn, it accepts exactly where its frame may come
 -- next by the rules, memory aside, and what is kept then stands for whatever was judged with it; where it refuses, the validator has
 -- failed, and each later method is refused for that.
-use Rattle.std.specs.Prelude.{◌≡◌, ◌⊎◌, ◌+◌, ◌<◌, ◌==◌, ℕ, Bool, true, false, Option, Some, None, is_some, Result, Ok, Err, if◌then◌else◌}
+use Rattle.std.specs.Prelude.{◌≡◌, ◌⊎◌, ◌+◌, ◌<◌, ◌==◌, ℕ, List, Bool, true, false, Option, Some, None, is_some, Result, Ok, Err, if◌then◌else◌}
 use Rattle.wasm_types.specs.decoding.Decoder.{State as Bytes}
 use Rattle.wasm_types.specs.decoding.Denials.{Denies, Tells}
 use Rattle.wasm_types.specs.decoding.ErrorValue.{ErrorValue}
@@ -16,12 +16,15 @@ use Rattle.wasm_sections.specs.declared.payload.Payload.{Payload}
 use Rattle.wasm_operator_validator_state.specs.Refusals.{refused_by}
 use Rattle.wasm_module_validator_section_order.specs.rules_in_order.Sections.{code_place}
 use Rattle.wasm_module_validator_section_order.specs.rules_in_order.Steps.{SoFar, JudgesBody}
+use Rattle.wasm_module_validator_drivers.specs.judging.Bodies.{AreBodies}
 use Rattle.wasm_module_validator_drivers.specs.payloads.Progress.{Grows}
+use Rattle.wasm_module_validator_drivers.specs.reading.Reading.{IsReadAs}
 use Rattle.wasm_module_validator_drivers.specs.Sharing.{renewed_behind, next_behind, has_no_code, body_count, IsReached, TellsNext, Follows, Handed, IsHandedOut, FitsNext, NoneLeft}
 use Rattle.wasm_module_validator.specs.declared.validator.State.{State}
 use Rattle.wasm_module_validator.specs.declared.validator.State.TheVariants.{Unparsed, Module, Ended, Failed}
 use Rattle.wasm_module_validator.specs.declared.validator.Validator.{Validator}
 use Rattle.wasm_module_validator.specs.Shown.{Learned}
+use Rattle.wasm_module_validator.specs.soundness.Soundness.{RunsSoundly}
 
 -- ---- turns
 
@@ -136,6 +139,10 @@ EndsFrom Failed v answer w = (refused_by answer ≡ Some kinds.Failed) × (w ≡
 
 abbrev pub Ends : Validator → Result Learned ErrorValue → Validator → Type 0
 Ends v answer w = EndsFrom v.state v answer w
+
+-- If what was judged are all frames of some bytes, and each of their bodies spells a valid function of its type, these bytes run soundly.
+abbrev pub RunsSoundlyWhole : Validator → Type 0
+RunsSoundlyWhole v = (z : Settings) (bytes : List ℕ) (q : SoFar) → IsReadAs z bytes q → IsReached z v.reached q → AreBodies z q → RunsSoundly z bytes
 
 -- ---- what is asked
 

@@ -4,3 +4,4 @@ pub mod StateRows
 pub mod Ids
 pub mod Lists
 pub mod ListRows
+pub mod Unasked

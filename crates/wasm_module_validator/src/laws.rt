@@ -1,4 +1,4 @@
-//! Worked rows, on the contract of a function that does nothing.
+//! Laws and worked rows, each on the contract of a function that does nothing.
 
 ghost use Rattle.wasm_types.specs.settings.Settings.{Settings};
 ghost use Rattle.std.specs.Prelude.{◌≡◌, ◌<◌, ℕ, List};
@@ -11,6 +11,7 @@ ghost use Rattle.wasm_module_validator_drivers.specs.Sharing.{Reached, renewed_b
 ghost use Rattle.wasm_module_validator.specs.Shown.{Learned};
 ghost use Rattle.wasm_module_validator.specs.laws.ListRows.{ListRows};
 ghost use Rattle.wasm_module_validator.specs.laws.StateRows.{LeftRows, AcceptedRows, RenewedRows};
+ghost use Rattle.wasm_module_validator.specs.Unasked.{VectorsAreAskedFor};
 
 /// How far a validator is behind a module that is accepted, and behind one of whose bodies one is refused; and which list of types a module
 /// begins with behind another.
@@ -34,4 +35,10 @@ pub const fn validators_begin()
 /// An id means the type that it meant, for as long as groups are only added to the list.
 pub const fn ids_stay()
     ensures { (old new : List Group) → IsGrown old new → (id : ℕ) → id < count old → tree_of new id ≡ tree_of old id }
+{}
+
+/// By no set of the 28 features alone a module is accepted that has an operator on vectors, in a body or in a constant.
+#[tactic(auto, using(crate::specs::laws::Unasked::vectors_are_asked_for))]
+pub const fn vectors_are_asked_for()
+    ensures { VectorsAreAskedFor }
 {}

@@ -11,7 +11,8 @@
 //! A validator has one list of types for all its modules, so that ids of two modules may be compared ([`Types`],
 //! [`TypeList`]). What is looked up in a module, and what lists of types are made of, is passed on from the crates below.
 //!
-//! [`soundness`] says that no run of a valid module is stuck.
+//! [`soundness`] says that no run of a valid module is stuck, and that at each place of a run each value fits what the rules know of it
+//! ([`accepted_is_sound`], [`modules_are_sound`]).
 #![tactic(auto)]
 
 mod laws;
@@ -22,9 +23,12 @@ pub mod soundness;
 mod types;
 mod validator;
 
-pub use laws::{ids_stay, lists_are_worked, states_are_worked, validators_begin};
+pub use laws::{
+    ids_stay, lists_are_worked, states_are_worked, validators_begin, vectors_are_asked_for,
+};
 pub use lists::Verdict;
 pub use payloads::ValidPayload;
+pub use soundness::{accepted_is_sound, default_is_standard, modules_are_sound};
 pub use types::Types;
 pub use validator::{State, Validator, validate};
 pub use wasm_module_validator_canonical_types::matches::{Matches, WithRecGroup, types_match};

@@ -8,7 +8,7 @@ ghost use Rattle.wasm_module_validator_drivers.specs.Sharing.{IsWhole, renewed_b
 ghost use Rattle.wasm_module_validator.specs.declared.validator.State.TheVariants as states;
 ghost use Rattle.wasm_module_validator.specs.Lists.{AreToldUnder};
 ghost use Rattle.wasm_module_validator.specs.Shown.{shown};
-ghost use Rattle.wasm_module_validator.specs.Methods.{failure, refusal, can_reset, types_so_far, ReadsHeader, Takes, TakesData, BeginsCode, TakesBody, RefusesUnknown, Ends};
+ghost use Rattle.wasm_module_validator.specs.Methods.{failure, refusal, can_reset, types_so_far, ReadsHeader, Takes, TakesData, BeginsCode, TakesBody, RefusesUnknown, Ends, RunsSoundlyWhole};
 
 use crate::types::{Types, look_up};
 use crate::validator::{State, Validator};
@@ -350,12 +350,17 @@ impl Validator {
     /// Ends the module, at this offset, and gives what is known of it. It is not asked whether each function had its body. If types are kept in
     /// canonical form, two ids of the list are the same exactly if their types are.
     ///
+    /// If the frames that were judged are all those of some bytes, and each body that was handed out spells a valid function, the bytes run
+    /// soundly (`RunsSoundly`; WebAssembly 3.0, appendix, soundness).
+    ///
     /// # Errors
     ///
     /// No header came, or the module has ended. The validator has ended then. Or there is no memory, and it has failed.
+    #[tactic(auto, using(crate::proofs::Whole::whole_is_sound))]
     pub fn end(&mut self, offset: u64) -> Result<Types>
         ensures ends { Ends self.old result self.new }
         ensures told { IfOk result (λ t. AreToldUnder t.kept.items.spaces.settings t.kept.groups t.kept.groups) }
+        ensures sound { RunsSoundlyWhole self.old }
     {
         match self.state {
             State::Module => (),

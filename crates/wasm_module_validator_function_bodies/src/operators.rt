@@ -31,10 +31,9 @@ impl<R: WasmModuleResources> FuncValidator<R> {
         ensures index { self.new.index ≡ self.old.index }
         ensures limits { self.new.limits ≡ self.old.limits }
     {
-        let name = operator.info().name;
         match judge(&mut self.validator, &self.resources, operator) {
             Ok(()) => Ok(()),
-            Err(refusal) => Err(refusal.error_of(name, offset)),
+            Err(refusal) => Err(refusal.error(offset)),
         }
     }
 
@@ -52,7 +51,6 @@ impl<R: WasmModuleResources> FuncValidator<R> {
         ensures index { self.new.index ≡ self.old.index }
         ensures limits { self.new.limits ≡ self.old.limits }
     {
-        let name = operator.info().name;
         self.validator.begin_try_op();
         match judge(&mut self.validator, &self.resources, operator) {
             Ok(()) => {
@@ -61,7 +59,7 @@ impl<R: WasmModuleResources> FuncValidator<R> {
             }
             Err(refusal) => {
                 self.validator.rollback();
-                Err(refusal.error_of(name, offset))
+                Err(refusal.error(offset))
             }
         }
     }

@@ -23,7 +23,8 @@
 //! visitor.visit_i32_const(42)?;
 //! ```
 //!
-//! It is a [`ValidatingVisitor`], whose visits answer as their `answer` says: [`AsRefusal`] answers in few bytes, without a text.
+//! It is a [`ValidatingVisitor`], whose visits answer as their `answer` says: [`AsRefusal`] answers in few bytes, without a text. Operators on
+//! vectors it is told by `simd` and `simd_numeric`, or, visit by visit, in a [`ValidatingSimdVisitor`].
 //!
 //! [`check_const_expr`] judges a whole constant expression, and [`new_const_expr`] makes the validator of one.
 //!
@@ -36,7 +37,9 @@
 //! This crate has no code of its own. The rules stand in the crates below: what each operator takes and gives, and the typing of
 //! code, in `wasm_operator_validator_rules`; what a validator knows, and which operators it accepts, in
 //! `wasm_operator_validator_state`; which bytes it accepts, in `wasm_operator_validator_expression`. What is accepted as a body is
-//! never stuck within one activation: [`accepted_bodies_are_sound`].
+//! never stuck within one activation: [`accepted_bodies_are_sound`]. No run of a valid program is stuck, over all its activations, and at
+//! each place of it each value fits what the rules know of it: [`programs_are_sound`], [`steps_are_sound`], [`constants_are_sound`],
+//! [`ancestors_are_sound`].
 #![tactic(auto)]
 
 pub use wasm_operator_validator_arity::{ModuleArity, OperatorArity};
@@ -45,7 +48,11 @@ pub use wasm_operator_validator_driver::{
     BlockType, Frame, FrameKind, LocalInits, Locals, MaybeType, OperatorValidator,
     OperatorValidatorAllocations, WasmModuleResources, validate_expression,
 };
+pub use wasm_operator_validator_simd_visits::ValidatingSimdVisitor;
 pub use wasm_operator_validator_soundness::accepted::accepted_bodies_are_sound;
+pub use wasm_operator_validator_soundness::runs::{
+    ancestors_are_sound, constants_are_sound, programs_are_sound, steps_are_sound,
+};
 pub use wasm_operator_validator_stacks::new_func;
 pub use wasm_operator_validator_state::attempts::{
     RollbackLog, RollbackLogAllocations, Transaction, ty_to_str,

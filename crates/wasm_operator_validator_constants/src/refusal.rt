@@ -5,10 +5,8 @@ ghost use Rattle.wasm_types.specs.decoding.declared.error.ErrorKind.TheVariants.
 ghost use Rattle.wasm_operator_validator_state.specs.Refusals.{OfContent};
 ghost use Rattle.wasm_operator_validator_constants.specs.Refusals.{kind_of_constant};
 
-use std::alloc::Global;
-use wasm_operator_validator_expression::error_at;
 use wasm_operator_validator_stacks::Refusal;
-use wasm_types::{BinaryReader, Error, WasmFeatures};
+use wasm_types::{Error, WasmFeatures};
 
 /// Why an operator is refused in a constant expression. It has no text and no offset.
 #[derive(Clone, Copy)]
@@ -54,25 +52,6 @@ impl ConstantRefusal {
                 offset,
             ),
         }
-    }
-}
-
-/// The error of the refusal of the operator at this offset. `reader` stands where the constant begins: of an operator without a rule the
-/// name is read there once more.
-#[cold]
-#[inline(never)]
-pub(crate) fn constant_error_at(
-    alloc: Global,
-    reader: BinaryReader<'_>,
-    refusal: &ConstantRefusal,
-    offset: u64,
-) -> Error
-    ensures kind { result.kind ≡ kind_of_constant refusal.now }
-    ensures at { OfContent result.kind (result.offset ≡ offset) }
-{
-    match *refusal {
-        ConstantRefusal::Invalid(refusal) => error_at(alloc, reader, refusal, offset),
-        _ => refusal.error(offset),
     }
 }
 

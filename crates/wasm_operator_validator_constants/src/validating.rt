@@ -8,7 +8,6 @@ ghost use Rattle.wasm_operator_validator_constants.specs.Refusals.{refused_const
 ghost use Rattle.wasm_operator_validator_constants.specs.Checked.{Surroundings, VisitsConstant, ValidatesConstant};
 
 use crate::ConstantRefusal;
-use crate::refusal::constant_error_at;
 use std::alloc::Global;
 use wasm_operators_reader::walks::{
     TellOperator, TellPlain, TellSimdOperator, tell_whole_with_offset,
@@ -54,13 +53,12 @@ pub(crate) fn validate_constant_operators<'a, V: ValidatingConstants<'a>>(
     ensures { ValidatesConstant (V.around visitor.old) (V.state visitor.old) reader.entry result }
 {
     let whole = reader.remaining_range();
-    let start = reader.clone();
     let end = match tell_whole_with_offset(alloc, reader, visitor) {
         Ok(end) => end,
         Err(error) => return Err(error),
     };
     if let Err(last) = end {
-        let refusal = constant_error_at(alloc, start, &last.0, last.1);
+        let refusal = last.0.error(last.1);
         return Err(refusal);
     }
     if !visitor.is_done() {

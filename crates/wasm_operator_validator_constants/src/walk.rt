@@ -1,7 +1,7 @@
 //! The visitor that tests each operator of a constant before it tells the validator.
 
 ghost use Rattle.std.proofs.Common.{◌≡◌, ap};
-ghost use Rattle.wasm_operator_validator_constants.specs.Refusals.{refused_constant};
+ghost use Rattle.wasm_operator_validator_constants.specs.Refusals.{kind_of_constant, refused_constant};
 ghost use Rattle.wasm_operator_validator_constants.specs.Checked.{VisitsConstant};
 ghost use Rattle.wasm_operator_validator_constants.specs.laws.Driven.{same_around};
 
@@ -78,15 +78,8 @@ impl<'a, 'v, 'r, R: WasmModuleResources> TellOperator<'a> for ConstantWalk<'v, '
 }
 
 impl<'a, 'v, 'r, R: WasmModuleResources> TellSimdOperator<'a> for ConstantWalk<'v, 'r, R> {
-    // Without the switch an operator on vectors is refused for that, whether it is constant or not.
     fn tell_simd(&mut self, op: Operator<'a>) -> Result<(), ConstantRefusal> {
-        if !is_simd(&op) {
-            return self.tell(op);
-        }
-        if !self.walk.visitor.inner.features().vector_operators() {
-            self.walk.visitor.inner.fail();
-            return Err(ConstantRefusal::Invalid(Refusal::Because(Reason::Vectors)));
-        }
+        let judged = !is_simd(&op) || self.features.vector_operators();
         let tested = is_constant_operator(
             &op,
             self.features,
@@ -95,12 +88,27 @@ impl<'a, 'v, 'r, R: WasmModuleResources> TellSimdOperator<'a> for ConstantWalk<'
         );
         if let Err(refusal) = tested {
             self.walk.visitor.inner.fail();
-            return Err(refusal);
+            return Err(told_refusal(refusal, judged));
         }
-        if let Err(refused) = self.walk.tell_simd(op) {
-            return Err(ConstantRefusal::Invalid(refused));
+        if let Err(refusal) = self.walk.tell_simd(op) {
+            return Err(ConstantRefusal::Invalid(refusal));
         }
         Ok(())
+    }
+}
+
+/// Why an operator is refused that is not constant. One that is not judged at all is refused for that, as in bodies.
+fn told_refusal(refusal: ConstantRefusal, judged: bool) -> ConstantRefusal
+    ensures { kind_of_constant result ≡ kind_of_constant refusal }
+{
+    if judged {
+        return refusal;
+    }
+    match refusal {
+        ConstantRefusal::NonConstant { .. } => {
+            ConstantRefusal::Invalid(Refusal::Because(Reason::Vectors))
+        }
+        _ => refusal,
     }
 }
 

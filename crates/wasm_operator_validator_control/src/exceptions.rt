@@ -75,7 +75,7 @@ pub fn check_rethrow<R: WasmModuleResources>(
 }
 
 /// The type of the tag at an index, which gives nothing back.
-pub(crate) fn exception_tag<R: WasmModuleResources>(
+pub fn exception_tag<R: WasmModuleResources>(
     resources: &R,
     tag_index: u32,
 ) -> Result<&FuncType, Refusal>
@@ -96,7 +96,7 @@ pub(crate) fn exception_tag<R: WasmModuleResources>(
 }
 
 /// The type of references to exceptions, which may be null or may not.
-pub(crate) fn exception_type(nullable: bool) -> ValType
+pub fn exception_type(nullable: bool) -> ValType
     ensures { (m : Meaning) → type_in m result ≡ exception nullable }
 {
     let any = HeapType::Abstract {

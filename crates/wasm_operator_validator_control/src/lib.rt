@@ -31,7 +31,7 @@ pub use branches::{check_br, check_br_if, check_nop, check_return, check_unreach
 pub use calls::{check_call, check_call_indirect, check_call_ref};
 pub use catches::check_try_table;
 pub use clauses::{check_catch, check_catch_all, check_delegate, check_try};
-pub use exceptions::{check_rethrow, check_throw, check_throw_ref};
+pub use exceptions::{check_rethrow, check_throw, check_throw_ref, exception_tag, exception_type};
 pub use frames::{check_block, check_else, check_end, check_if, check_loop};
 pub use leaving::jump_with;
 pub use references::{check_br_on_non_null, check_br_on_null, check_ref_as_non_null};

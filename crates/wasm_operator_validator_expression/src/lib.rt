@@ -5,10 +5,8 @@
 #![tactic(auto)]
 
 pub mod laws;
-mod naming;
 mod validating;
 
-pub use naming::error_at;
 pub use validating::{Refused, Validating, accepts_operators, validate_operators};
 pub use wasm_operators_reader::walks::{
     OperatorsReaderAllocations, TellOperator, TellPlain, TellSimdOperator, is_simd,

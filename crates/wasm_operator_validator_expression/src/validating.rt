@@ -7,7 +7,6 @@ ghost use Rattle.wasm_operator_validator_state.specs.resources.Meaning.{Meaning}
 ghost use Rattle.wasm_operator_validator_state.specs.State.{State, Visits};
 ghost use Rattle.wasm_operator_validator_expression.specs.Validating.{Validates};
 
-use crate::naming::error_at;
 use std::alloc::Global;
 use wasm_operator_validator_state::Refusal;
 use wasm_operators_reader::walks::{
@@ -89,7 +88,6 @@ pub fn validate_operators<'a, V: Validating<'a>>(
     if visitor.has_failed() {
         return Err(Error::failed("an operator was refused before", whole.start));
     }
-    let start = reader.clone();
     let end = match tell_whole_with_offset(alloc, reader, visitor) {
         Ok(end) => end,
         Err(error) => {
@@ -98,7 +96,7 @@ pub fn validate_operators<'a, V: Validating<'a>>(
         }
     };
     if let Err(last) = end {
-        let refusal = error_at(alloc, start, visitor.refusal(), last.1);
+        let refusal = visitor.refusal().error(last.1);
         return Err(refusal);
     }
     if !visitor.is_done() {

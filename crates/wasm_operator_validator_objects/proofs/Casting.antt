@@ -29,7 +29,7 @@ use Rattle.wasm_operator_validator_objects.specs.Casts.{IsCastable, IsNotCastabl
 
 -- ---- the types of a cast
 
-one_heap : (o : Option (HeapOf TypeTree)) (h k : HeapOf TypeTree) → o ≡ Some h → o ≡ Some k → k ≡ h
+pub one_heap : (o : Option (HeapOf TypeTree)) (h k : HeapOf TypeTree) → o ≡ Some h → o ≡ Some k → k ≡ h
 one_heap o h k e f = let x : ◌≡◌ {A = Option (HeapOf TypeTree)} (Some k) (Some h) = sym f ∙ e in cc
 
 pub unnamed : (m : Meaning) (σ : State) (r : Reference) (w : HeapType) → w ≡ r.heap → heap_named (here m σ) w ≡ None → IsNotCastable m σ r
@@ -57,7 +57,7 @@ pub second_not : (m : Meaning) (σ : State) (from to : Reference) → IsNotCasta
 second_not m σ from to n h k i = n k i.to_named i.to_castable
 
 -- the second is below the first, as written and as named
-as_named : (m : Meaning) (r n : Reference) → n.nullable ≡ r.nullable → type_in m (vals.Ref n) ≡ ref r.nullable (heap_in m n.heap)
+pub as_named : (m : Meaning) (r n : Reference) → n.nullable ≡ r.nullable → type_in m (vals.Ref n) ≡ ref r.nullable (heap_in m n.heap)
 as_named m r n e = reference_is m n ∙ ap (λ (b : Bool). ref b (heap_in m n.heap)) e
 
 pub not_below : (m : Meaning) (σ : State) (from to first second : Reference) (b : Bool) → IsCastable m σ from first → IsCastable m σ to second
@@ -87,7 +87,7 @@ is_cast m σ from to first second b i j e f = record {
 pub no_cast_row : (m : Meaning) (σ : State) (o : GcOperator) (l : ℕ) (from to : Reference) (fails : Bool) → IsCastBranch o l from to fails → IsNoCast m σ from to → HasNoRow m σ o
 no_cast_row m σ o l from to f i n popped pushed r = let (h, k, c, b) = (i (here m σ) popped pushed).0 r in n h k c
 
-abbrev LabelAt : Meaning → State → ℕ → Option (List ValueType)
+abbrev pub LabelAt : Meaning → State → ℕ → Option (List ValueType)
 LabelAt m σ l = slice_get (map (label m) σ.opens) l
 
 pub no_label_row : (m : Meaning) (σ : State) (o : GcOperator) (l : ℕ) (from to : Reference) (fails : Bool) → IsCastBranch o l from to fails → LabelAt m σ l ≡ None → HasNoRow m σ o
@@ -95,7 +95,7 @@ no_label_row m σ o l from to f i e popped pushed r =
     let (h, k, c, (ts, (u, j, b), t)) = (i (here m σ) popped pushed).0 r in
     let x : ◌≡◌ {A = Option (List ValueType)} None (Some (ts ++ u ∷ [])) = sym e ∙ j in cc
 
-nothing_last : (ts : List ValueType) (u : ValueType) → ts ++ u ∷ [] ≡ [] → ⊥
+pub nothing_last : (ts : List ValueType) (u : ValueType) → ts ++ u ∷ [] ≡ [] → ⊥
 nothing_last [] u e = cc
 nothing_last (t ∷ ts) u e = cc
 
@@ -119,14 +119,14 @@ parts (z ∷ xs) (w ∷ ys) x y e =
     let t : xs ++ x ∷ [] ≡ ys ++ y ∷ [] = cc in
     let (f, g) = parts xs ys x y t in (rw (h, f) refl, g)
 
-label_parts : (m : Meaning) (σ : State) (l : ℕ) (vs os : List ValType) (v : ValType) (ts : List ValueType) (u : ValueType) → LabelAt m σ l ≡ Some (types_in m vs) → vs ≡ os ++ v ∷ []
+pub label_parts : (m : Meaning) (σ : State) (l : ℕ) (vs os : List ValType) (v : ValType) (ts : List ValueType) (u : ValueType) → LabelAt m σ l ≡ Some (types_in m vs) → vs ≡ os ++ v ∷ []
     → LabelAt m σ l ≡ Some (ts ++ u ∷ []) → (ts ≡ types_in m os) × (u ≡ type_in m v)
 label_parts m σ l vs os v ts u e z j =
     let x : ◌≡◌ {A = Option (List ValueType)} (Some (ts ++ u ∷ [])) (Some (types_in m vs)) = sym j ∙ e in
     let y : ts ++ u ∷ [] ≡ types_in m vs = cc in
     parts ts (types_in m os) u (type_in m v) (y ∙ ap (types_in m) z ∙ map-append (type_in m) os (v ∷ []))
 
-same_types : (m : Meaning) (σ : State) (from to first second : Reference) (h k : HeapOf TypeTree) → IsCastOf m σ from to first second → IsCast (here m σ) from to h k
+pub same_types : (m : Meaning) (σ : State) (from to first second : Reference) (h k : HeapOf TypeTree) → IsCastOf m σ from to first second → IsCast (here m σ) from to h k
     → (h ≡ heap_in m first.heap) × (k ≡ heap_in m second.heap)
 same_types m σ from to first second h k i c = (
   one_heap (heap_named (here m σ) from.heap) (heap_in m first.heap) h i.cast.from_named c.from_named,
@@ -170,7 +170,7 @@ branch_row m σ o l from to first second f vs os v taken left b i c e z w j n po
 
 -- ---- the code's types
 
-difference_is : (m : Meaning) (from to first second : Reference) → first.nullable ≡ from.nullable → second.nullable ≡ to.nullable
+pub difference_is : (m : Meaning) (from to first second : Reference) → first.nullable ≡ from.nullable → second.nullable ≡ to.nullable
     → type_in m (vals.Ref (left_over first second)) ≡ difference from to (heap_in m first.heap)
 difference_is m from to first second e f = reference_is m (left_over first second) ∙ by_null second.nullable to.nullable f
   where

@@ -154,7 +154,7 @@ found_array m σ x t f u e = array_is m σ x t (Some f) u e
 
 -- ---- a type that was found has an index
 
-used_within : (m : Meaning) (σ : State) (x : ℕ) (t : TypeTree) → used_type (here m σ) x ≡ Some t → x < length m.«module».types
+pub used_within : (m : Meaning) (σ : State) (x : ℕ) (t : TypeTree) → used_type (here m σ) x ≡ Some t → x < length m.«module».types
 used_within m σ x t e = of (slice_get m.«module».types x) refl e
   where
     of : (o : Option TypeTree) → slice_get m.«module».types x ≡ o → kept (here m σ) o ≡ Some t → x < length m.«module».types

@@ -33,7 +33,7 @@ use Rattle.wasm_operator_validator_objects.specs.Found.{TypeAt, IsStruct, IsArra
 
 -- ---- what is stored
 
-unpacked_in : (m : Meaning) (s : StorageType) → type_in m (unpacked_type s) ≡ unpacked (storage_in m s)
+pub unpacked_in : (m : Meaning) (s : StorageType) → type_in m (unpacked_type s) ≡ unpacked (storage_in m s)
 unfolding type_in
 unpacked_in m storage.I8 = refl
 unpacked_in m storage.I16 = refl
@@ -59,11 +59,11 @@ bytes_in m (storage.Val vals.F64) = refl
 bytes_in m (storage.Val vals.V128) = refl
 bytes_in m (storage.Val (vals.Ref r)) = refl
 
-operands_in : (m : Meaning) (fs : List FieldType) → operands_for (fields_in m fs) ≡ types_in m (unpacked_fields fs)
+pub operands_in : (m : Meaning) (fs : List FieldType) → operands_for (fields_in m fs) ≡ types_in m (unpacked_fields fs)
 operands_in m [] = refl
 operands_in m (f ∷ fs) = rw (unpacked_in m f.element_type, operands_in m fs) refl
 
-defaults_in : (m : Meaning) (fs : List FieldType) → have_defaults (fields_in m fs) ≡ are_defaultable fs
+pub defaults_in : (m : Meaning) (fs : List FieldType) → have_defaults (fields_in m fs) ≡ are_defaultable fs
 defaults_in m [] = refl
 defaults_in m (f ∷ fs) = rw (default_in m f.element_type, defaults_in m fs) refl
 

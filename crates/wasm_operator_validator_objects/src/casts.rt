@@ -65,8 +65,8 @@ pub fn check_br_on_cast<R: WasmModuleResources>(
     )
 }
 
-// The last of the types that a label takes, and the others.
-fn split_label(types: &[ValType]) -> Option<(ValType, &[ValType])>
+/// The last of these types, as a label takes them, and the others.
+pub fn split_label(types: &[ValType]) -> Option<(ValType, &[ValType])>
     ensures { MatchOption result (types.now ≡ []) (λ p. types.now ≡ p.1.now ++ p.0 ∷ []) }
 {
     match types.split_last() {
@@ -75,8 +75,8 @@ fn split_label(types: &[ValType]) -> Option<(ValType, &[ValType])>
     }
 }
 
-// What the label takes, and what is left where the branch is not taken.
-fn taken_and_left(first: &RefType, second: &RefType, fails: bool) -> (ValType, ValType)
+/// What the label takes, and what is left where the branch is not taken.
+pub fn taken_and_left(first: &RefType, second: &RefType, fails: bool) -> (ValType, ValType)
     ensures { AreTaken fails first.now second.now result.0 result.1 }
 {
     let difference = RefType::difference(*first, *second);
@@ -113,8 +113,8 @@ fn branch<R: WasmModuleResources>(
     validator.push_operands(resources, &[*left])
 }
 
-// The two types of a cast, with the types in them named by their ids: the second below the first, and neither of continuations.
-fn cast_of<R: WasmModuleResources>(
+/// The two types of a cast, with the types in them named by their ids: the second below the first, and neither of continuations.
+pub fn cast_of<R: WasmModuleResources>(
     validator: &OperatorValidator,
     resources: &R,
     from: &RefType,

@@ -6,6 +6,7 @@
 //!
 //! [`steps`] has what the checks share: the test at the entry, and the exchange of operands by the only row that an operator has.
 //! [`naming`] looks up what an index names. Where the table of instruction types has the operator, its check owes the equation alone.
+//! What is looked up and compared here serves `wasm_operator_validator_proposals` too.
 #![tactic(auto)]
 
 mod arrays;
@@ -24,12 +25,17 @@ pub use arrays::{
     check_array_fill, check_array_get, check_array_new, check_array_new_default,
     check_array_new_fixed, check_array_set,
 };
-pub use casts::check_br_on_cast;
+pub use casts::{cast_of, check_br_on_cast, split_label, taken_and_left};
 pub use conversions::{check_any_convert_extern, check_extern_convert_any};
 pub use either::{check_array_len, check_i31_get, check_ref_eq};
+pub use naming::{
+    abstract_reference, allocated, element_at, field_at, heap_at, reference_at, struct_at, used_type,
+};
+pub use popping::pop_fields;
 pub use segments::{
     check_array_copy, check_array_init_data, check_array_init_elem, check_array_new_data,
     check_array_new_elem,
 };
+pub use storage::are_defaultable;
 pub use structs::{check_struct_get, check_struct_new, check_struct_new_default, check_struct_set};
-pub use tests::{check_ref_cast, check_ref_i31, check_ref_test};
+pub use tests::{castable_top, check_ref_cast, check_ref_i31, check_ref_test};

@@ -20,7 +20,7 @@ use wasm_types::{
 };
 
 /// The type at an index, where the function may use it.
-pub(crate) fn used_type<'a, R: WasmModuleResources>(
+pub fn used_type<'a, R: WasmModuleResources>(
     validator: &OperatorValidator,
     resources: &'a R,
     type_index: u32,
@@ -79,7 +79,7 @@ fn has_descriptor(sub_type: &SubType) -> bool
 }
 
 /// The fields of the struct type at an index, and whether it has a descriptor.
-pub(crate) fn struct_at<'a, R: WasmModuleResources>(
+pub fn struct_at<'a, R: WasmModuleResources>(
     validator: &OperatorValidator,
     resources: &'a R,
     type_index: u32,
@@ -126,7 +126,7 @@ pub(crate) fn array_at<R: WasmModuleResources>(
 }
 
 /// The reference by which the struct type at an index is reached, and one of its fields.
-pub(crate) fn field_at<R: WasmModuleResources>(
+pub fn field_at<R: WasmModuleResources>(
     validator: &OperatorValidator,
     resources: &R,
     type_index: u32,
@@ -164,7 +164,7 @@ fn field_in(fields: &[FieldType], field_index: u32) -> Option<FieldType>
 }
 
 /// The reference by which the array type at an index is reached, and its element.
-pub(crate) fn element_at<R: WasmModuleResources>(
+pub fn element_at<R: WasmModuleResources>(
     validator: &OperatorValidator,
     resources: &R,
     type_index: u32,
@@ -181,7 +181,7 @@ pub(crate) fn element_at<R: WasmModuleResources>(
 }
 
 /// A reference to the type at an index, or exactly that type. The index is named by its id, which fits into a reference.
-pub(crate) fn reference_at<R: WasmModuleResources>(
+pub fn reference_at<R: WasmModuleResources>(
     resources: &R,
     type_index: u32,
     nullable: bool,
@@ -213,7 +213,7 @@ fn written(type_index: u32, exactly: bool) -> HeapType
 }
 
 /// What an allocation of the type at an index gives.
-pub(crate) fn allocated<R: WasmModuleResources>(
+pub fn allocated<R: WasmModuleResources>(
     validator: &OperatorValidator,
     resources: &R,
     type_index: u32,
@@ -227,7 +227,7 @@ pub(crate) fn allocated<R: WasmModuleResources>(
 }
 
 /// A reference to a heap type that code writes, with the types in it named by their ids, whatever the features are.
-pub(crate) fn heap_at<R: WasmModuleResources>(
+pub fn heap_at<R: WasmModuleResources>(
     validator: &OperatorValidator,
     resources: &R,
     nullable: bool,
@@ -254,7 +254,7 @@ pub(crate) fn heap_at<R: WasmModuleResources>(
 }
 
 /// A reference to an abstract type.
-pub(crate) fn abstract_reference(nullable: bool, shared: bool, ty: AbstractHeapType) -> ValType
+pub fn abstract_reference(nullable: bool, shared: bool, ty: AbstractHeapType) -> ValType
     ensures { result ≡ Ref (record { nullable = nullable; heap = HeapType.Abstract shared ty }) }
 {
     match RefType::new(nullable, HeapType::Abstract { shared, ty }) {

@@ -12,7 +12,7 @@ use wasm_operator_validator_stacks::determined::{OperatorValidator, Refusal, Was
 use wasm_types::{FieldType, ValType};
 
 /// Takes an operand off for each field, the last first.
-pub(crate) fn pop_fields<R: WasmModuleResources>(
+pub fn pop_fields<R: WasmModuleResources>(
     validator: &mut OperatorValidator,
     resources: &R,
     fields: &[FieldType],

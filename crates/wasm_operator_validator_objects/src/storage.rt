@@ -17,7 +17,7 @@ pub(crate) fn is_defaultable(field: &FieldType) -> bool
 }
 
 /// Whether each of them has a default value.
-pub(crate) fn are_defaultable(fields: &[FieldType]) -> bool
+pub fn are_defaultable(fields: &[FieldType]) -> bool
     ensures { result ≡ are_defaultable fields.now }
 {
     let mut left = fields;

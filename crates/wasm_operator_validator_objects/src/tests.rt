@@ -70,7 +70,7 @@ pub fn check_ref_cast<R: WasmModuleResources>(
 }
 
 /// A reference to what is above all types of the hierarchy, that may be null; there is none to continuations.
-pub(crate) fn castable_top<R: WasmModuleResources>(
+pub fn castable_top<R: WasmModuleResources>(
     resources: &R,
     named: &RefType,
 ) -> Option<ValType>

@@ -7,3 +7,6 @@ pub mod WorkedCodes
 pub mod WorkedClauses
 mod WorkedCounts
 pub mod WorkedVectors
+pub mod WorkedDescriptors
+pub mod WorkedShared
+pub mod WorkedContinuations

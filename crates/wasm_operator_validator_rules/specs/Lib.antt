@@ -11,6 +11,9 @@ pub mod InstructionTypes
 pub mod Taken
 pub mod Exceptions
 pub mod Objects
+pub mod Descriptors
+pub mod SharedAccesses
+pub mod Continuations
 pub mod Row
 pub mod Typed
 -- Worked operators: rows that hold and rows that do not, a pair at least for each kind.

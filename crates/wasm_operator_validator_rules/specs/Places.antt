@@ -1,10 +1,10 @@
--- Places that operators on structs and arrays read and write: fields and elements (WebAssembly 3.0, validation, aggregate
--- instructions).
-use Rattle.std.specs.Prelude.{ℕ, Bool, true, false, List, [], ◌∷◌, ◌&&◌, Option, option_map, option_and_then, slice_get}
+-- Places that operators read and write: fields and elements (WebAssembly 3.0, validation, aggregate instructions), and for atomic
+-- accesses globals and elements of tables too (the proposal on shared everything).
+use Rattle.std.specs.Prelude.{ℕ, Bool, true, false, List, [], ◌∷◌, ◌&&◌, Option, Some, None, option_map, option_and_then, slice_get, if◌then◌else◌}
 use Rattle.wasm_types.specs.trees.Types.{i32, number, ref, concrete, StorageOf, i8, i16, value, FieldOf}
 use Rattle.wasm_types.specs.trees.Trees.{TypeTree}
 use Rattle.wasm_operator_validator_rules.specs.Operands.{ValueType}
-use Rattle.wasm_operator_validator_rules.specs.Context.{Context, defaultable}
+use Rattle.wasm_operator_validator_rules.specs.Context.{Context, defaultable, may_use, address_type}
 use Rattle.wasm_operator_validator_rules.specs.Aggregates.{struct_named, array_named}
 
 -- ---- what is stored (validation, types, field types)
@@ -57,3 +57,13 @@ abbrev pub element_place : Context → ℕ → Option Place
 element_place g x = option_map
     (λ a. record { reached_by = ref true (concrete a.type) ∷ number i32 ∷ []; storage = a.element.storage; mutable = a.element.mutable })
     (array_named g x)
+
+abbrev pub global_place : Context → ℕ → Option Place
+global_place g x = option_and_then
+    (λ v. if may_use g v.shared then Some (record { reached_by = []; storage = value v.content; mutable = v.mutable }) else None)
+    (slice_get g.«module».globals x)
+
+abbrev pub table_place : Context → ℕ → Option Place
+table_place g x = option_and_then
+    (λ t. if may_use g t.shared then Some (record { reached_by = address_type t.table64 ∷ []; storage = value t.element; mutable = true }) else None)
+    (slice_get g.«module».tables x)

@@ -1,5 +1,4 @@
--- What each operator takes and gives (WebAssembly 3.0, validation, instructions), and the features that it needs. An operator
--- that is merely not supported yet has no row.
+-- What each operator takes and gives (WebAssembly 3.0, validation, instructions), and the features that it needs.
 use Rattle.std.specs.Prelude.{◌≡◌, ℕ, Bool, true, false, IsTrue, List, [], ◌∷◌, ◌++◌, Option, Some, None, slice_get, if◌then◌else◌, ◌==◌, ◌⊎◌}
 use Rattle.std.specs.Int.RustNames.{bit_and}
 use Rattle.wasm_types.specs.settings.Features.{Floats, CustomDescriptors}
@@ -28,6 +27,9 @@ use Rattle.wasm_operator_validator_rules.specs.InstructionTypes.{i32_type, short
 pub use Rattle.wasm_operator_validator_rules.specs.Taken.{Takes, TableRow, IsLabel}
 use Rattle.wasm_operator_validator_rules.specs.Exceptions.{ExceptionRow}
 use Rattle.wasm_operator_validator_rules.specs.Objects.{GcRow}
+use Rattle.wasm_operator_validator_rules.specs.Descriptors.{DescriptorRow}
+use Rattle.wasm_operator_validator_rules.specs.SharedAccesses.{SharedRow}
+use Rattle.wasm_operator_validator_rules.specs.Continuations.{ContinuationRow}
 
 -- ---- control (validation, control instructions); where the next place is not reached, what is given is free
 
@@ -167,6 +169,9 @@ GroupRow g set (op.Memory o) popped pushed = MemoryRow g set o popped pushed
 GroupRow g set (op.Bulk o) popped pushed = BulkRow g o popped pushed
 GroupRow g set (op.Exception o) popped pushed = ExceptionRow g o popped pushed
 GroupRow g set (op.Gc o) popped pushed = GcRow g o popped pushed
+GroupRow g set (op.Descriptor o) popped pushed = DescriptorRow g o popped pushed
+GroupRow g set (op.Shared o) popped pushed = SharedRow g o popped pushed
+GroupRow g set (op.Continuation o) popped pushed = ContinuationRow g o popped pushed
 GroupRow g set o popped pushed = TableRow g o popped pushed
 
 -- what an operator takes off the operands and puts on, the last on top

@@ -9,3 +9,6 @@ pub mod Codes
 pub mod Exceptions
 pub mod Clauses
 pub mod Vectors
+pub mod Descriptors
+pub mod SharedAccesses
+pub mod Continuations

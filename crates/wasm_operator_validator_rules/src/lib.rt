@@ -16,6 +16,7 @@ pub use wasm_operators_encoding::expressions::{
     MemArgTarget, MemoryOperator, Proposal,
 };
 pub use worked::{
-    clauses_are_worked, code_is_worked, exceptions_are_worked, instruction_types_are_worked,
-    objects_are_worked, references_are_worked, rows_are_worked, vectors_are_worked,
+    clauses_are_worked, code_is_worked, continuations_are_worked, descriptors_are_worked,
+    exceptions_are_worked, instruction_types_are_worked, objects_are_worked, references_are_worked,
+    rows_are_worked, shared_accesses_are_worked, vectors_are_worked,
 };

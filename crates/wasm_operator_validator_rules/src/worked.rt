@@ -10,6 +10,9 @@ ghost use Rattle.wasm_operator_validator_rules.specs.worked.Codes.{CodesWorked, 
 ghost use Rattle.wasm_operator_validator_rules.specs.worked.Exceptions.{ExceptionsWorked, CatchesWorked};
 ghost use Rattle.wasm_operator_validator_rules.specs.worked.Clauses.{ClausesWorked};
 ghost use Rattle.wasm_operators_immediates.specs.declared.vector.V128.{V128};
+ghost use Rattle.wasm_operator_validator_rules.specs.worked.Descriptors.{DescriptorsWorked};
+ghost use Rattle.wasm_operator_validator_rules.specs.worked.SharedAccesses.{SharedWorked};
+ghost use Rattle.wasm_operator_validator_rules.specs.worked.Continuations.{ContinuationsWorked, HandlersWorked, SwitchesWorked};
 ghost use Rattle.wasm_operator_validator_rules.specs.worked.Vectors.{VectorTypesWorked, VectorAccessesWorked, VectorsRefused, VectorRowsWorked};
 
 /// Instruction types by the table, and operators for which it has none.
@@ -74,4 +77,24 @@ pub fn vectors_are_worked()
     ensures accesses { VectorAccessesWorked }
     ensures refused { (value : V128) → VectorsRefused value }
     ensures rows { (value : V128) → VectorRowsWorked value }
+{}
+
+/// Operators on descriptors: rows that hold and rows that do not.
+#[tactic(auto, using(crate::proofs::WorkedDescriptors::descriptors_worked))]
+pub fn descriptors_are_worked()
+    ensures { DescriptorsWorked }
+{}
+
+/// Atomic accesses to globals, tables, structs and arrays: rows that hold and rows that do not.
+#[tactic(auto, using(crate::proofs::WorkedShared::shared_worked))]
+pub fn shared_accesses_are_worked()
+    ensures { SharedWorked }
+{}
+
+/// Operators on continuations, and their handlers: rows that hold and rows that do not.
+#[tactic(auto, using(crate::proofs::WorkedContinuations::continuations_worked, crate::proofs::WorkedContinuations::handlers_worked, crate::proofs::WorkedContinuations::switches_worked))]
+pub fn continuations_are_worked()
+    ensures continuations { ContinuationsWorked }
+    ensures handlers { HandlersWorked }
+    ensures switches { SwitchesWorked }
 {}

@@ -32,3 +32,6 @@ pub mod WorkedSums
 pub mod WorkedCaught
 pub mod WorkedObjects
 pub mod WorkedOlder
+pub mod WorkedBranching
+pub mod WorkedSegments
+pub mod WorkedVectors

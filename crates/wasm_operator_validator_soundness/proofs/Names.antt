@@ -1,5 +1,5 @@
--- The rules' table of numbers and accesses says what the names say.
-use Rattle.std.proofs.Common.{◌≡◌, [], ◌∷◌, Some, refl, subst}
+-- The rules' tables of numbers, vectors and accesses say what the names say.
+use Rattle.std.proofs.Common.{◌≡◌, [], ◌∷◌, Some, None, refl, subst}
 use Rattle.wasm_operators_enums.specs.declared.numeric.NumericOperator.{NumericOperator}
 use Rattle.wasm_operators_enums.specs.declared.numeric.NumericOperator.TheVariants as numeric
 use Rattle.wasm_operators_enums.specs.declared.constant.ConstOperator.{ConstOperator}
@@ -8,12 +8,17 @@ use Rattle.wasm_operators_enums.specs.declared.memory.MemoryOperator.{MemoryOper
 use Rattle.wasm_operators_enums.specs.declared.memory.MemoryOperator.TheVariants as memory
 use Rattle.wasm_operators_enums.specs.declared.atomic.AtomicOperator.{AtomicOperator}
 use Rattle.wasm_operators_enums.specs.declared.atomic.AtomicOperator.TheVariants as atomic
+use Rattle.wasm_operators_enums.specs.declared.vector.SimdOperator.{SimdOperator}
+use Rattle.wasm_operators_enums.specs.declared.vector.SimdOperator.TheVariants as simd
+use Rattle.wasm_operators_enums.specs.declared.vector_numeric.SimdNumericOperator.{SimdNumericOperator}
+use Rattle.wasm_operators_enums.specs.declared.vector_numeric.SimdNumericOperator.TheVariants as lanes
 use Rattle.wasm_operators_enums.specs.Op as op
 use Rattle.wasm_operators_enums.specs.Op.{Op}
 use Rattle.wasm_operators_enums.specs.Table.{info_of}
 use Rattle.wasm_operators_enums.specs.Immediates.{immediates_of}
 use Rattle.wasm_operator_validator_rules.specs.Numbers.{class_of, taken_by, given_by, constant_type}
 use Rattle.wasm_operator_validator_rules.specs.Accesses.{AccessOf, access_of, atomic_access_of, operands_of, results_of}
+use Rattle.wasm_operator_validator_rules.specs.Vectors.{VectorWork, on_lanes, reaches, vectors_taken, vectors_given, work_of, vector_class}
 use Rattle.wasm_operator_validator_soundness.specs.runs.Names.{computed, accessed, argument_of}
 use Rattle.wasm_operator_validator_soundness.proofs.RunsInvariant.{none_is_some, some_same}
 
@@ -276,3 +281,275 @@ atomic_says (atomic.I32AtomicRmw16CmpxchgU m) a e = subst (λ (b : AccessOf). Ac
 atomic_says (atomic.I64AtomicRmw8CmpxchgU m) a e = subst (λ (b : AccessOf). AccessSays (op.Atomic (atomic.I64AtomicRmw8CmpxchgU m)) b) (some_same _ a e) (refl, refl)
 atomic_says (atomic.I64AtomicRmw16CmpxchgU m) a e = subst (λ (b : AccessOf). AccessSays (op.Atomic (atomic.I64AtomicRmw16CmpxchgU m)) b) (some_same _ a e) (refl, refl)
 atomic_says (atomic.I64AtomicRmw32CmpxchgU m) a e = subst (λ (b : AccessOf). AccessSays (op.Atomic (atomic.I64AtomicRmw32CmpxchgU m)) b) (some_same _ a e) (refl, refl)
+
+-- ---- vectors
+
+abbrev pub LanesSay : SimdNumericOperator → Type 0
+LanesSay o = computed (info_of (op.SimdNumeric o)).name
+    ≡ Some (record { takes = vectors_taken (vector_class o); gives = vectors_given (vector_class o) })
+
+pub lanes_say : (o : SimdNumericOperator) → LanesSay o
+lanes_say lanes.I8x16Swizzle = refl
+lanes_say lanes.I8x16Splat = refl
+lanes_say lanes.I16x8Splat = refl
+lanes_say lanes.I32x4Splat = refl
+lanes_say lanes.I64x2Splat = refl
+lanes_say lanes.F32x4Splat = refl
+lanes_say lanes.F64x2Splat = refl
+lanes_say lanes.I8x16Eq = refl
+lanes_say lanes.I8x16Ne = refl
+lanes_say lanes.I8x16LtS = refl
+lanes_say lanes.I8x16LtU = refl
+lanes_say lanes.I8x16GtS = refl
+lanes_say lanes.I8x16GtU = refl
+lanes_say lanes.I8x16LeS = refl
+lanes_say lanes.I8x16LeU = refl
+lanes_say lanes.I8x16GeS = refl
+lanes_say lanes.I8x16GeU = refl
+lanes_say lanes.I16x8Eq = refl
+lanes_say lanes.I16x8Ne = refl
+lanes_say lanes.I16x8LtS = refl
+lanes_say lanes.I16x8LtU = refl
+lanes_say lanes.I16x8GtS = refl
+lanes_say lanes.I16x8GtU = refl
+lanes_say lanes.I16x8LeS = refl
+lanes_say lanes.I16x8LeU = refl
+lanes_say lanes.I16x8GeS = refl
+lanes_say lanes.I16x8GeU = refl
+lanes_say lanes.I32x4Eq = refl
+lanes_say lanes.I32x4Ne = refl
+lanes_say lanes.I32x4LtS = refl
+lanes_say lanes.I32x4LtU = refl
+lanes_say lanes.I32x4GtS = refl
+lanes_say lanes.I32x4GtU = refl
+lanes_say lanes.I32x4LeS = refl
+lanes_say lanes.I32x4LeU = refl
+lanes_say lanes.I32x4GeS = refl
+lanes_say lanes.I32x4GeU = refl
+lanes_say lanes.F32x4Eq = refl
+lanes_say lanes.F32x4Ne = refl
+lanes_say lanes.F32x4Lt = refl
+lanes_say lanes.F32x4Gt = refl
+lanes_say lanes.F32x4Le = refl
+lanes_say lanes.F32x4Ge = refl
+lanes_say lanes.F64x2Eq = refl
+lanes_say lanes.F64x2Ne = refl
+lanes_say lanes.F64x2Lt = refl
+lanes_say lanes.F64x2Gt = refl
+lanes_say lanes.F64x2Le = refl
+lanes_say lanes.F64x2Ge = refl
+lanes_say lanes.V128Not = refl
+lanes_say lanes.V128And = refl
+lanes_say lanes.V128AndNot = refl
+lanes_say lanes.V128Or = refl
+lanes_say lanes.V128Xor = refl
+lanes_say lanes.V128Bitselect = refl
+lanes_say lanes.V128AnyTrue = refl
+lanes_say lanes.F32x4DemoteF64x2Zero = refl
+lanes_say lanes.F64x2PromoteLowF32x4 = refl
+lanes_say lanes.I8x16Abs = refl
+lanes_say lanes.I8x16Neg = refl
+lanes_say lanes.I8x16Popcnt = refl
+lanes_say lanes.I8x16AllTrue = refl
+lanes_say lanes.I8x16Bitmask = refl
+lanes_say lanes.I8x16NarrowI16x8S = refl
+lanes_say lanes.I8x16NarrowI16x8U = refl
+lanes_say lanes.F32x4Ceil = refl
+lanes_say lanes.F32x4Floor = refl
+lanes_say lanes.F32x4Trunc = refl
+lanes_say lanes.F32x4Nearest = refl
+lanes_say lanes.I8x16Shl = refl
+lanes_say lanes.I8x16ShrS = refl
+lanes_say lanes.I8x16ShrU = refl
+lanes_say lanes.I8x16Add = refl
+lanes_say lanes.I8x16AddSatS = refl
+lanes_say lanes.I8x16AddSatU = refl
+lanes_say lanes.I8x16Sub = refl
+lanes_say lanes.I8x16SubSatS = refl
+lanes_say lanes.I8x16SubSatU = refl
+lanes_say lanes.F64x2Ceil = refl
+lanes_say lanes.F64x2Floor = refl
+lanes_say lanes.I8x16MinS = refl
+lanes_say lanes.I8x16MinU = refl
+lanes_say lanes.I8x16MaxS = refl
+lanes_say lanes.I8x16MaxU = refl
+lanes_say lanes.F64x2Trunc = refl
+lanes_say lanes.I8x16AvgrU = refl
+lanes_say lanes.I16x8ExtAddPairwiseI8x16S = refl
+lanes_say lanes.I16x8ExtAddPairwiseI8x16U = refl
+lanes_say lanes.I32x4ExtAddPairwiseI16x8S = refl
+lanes_say lanes.I32x4ExtAddPairwiseI16x8U = refl
+lanes_say lanes.I16x8Abs = refl
+lanes_say lanes.I16x8Neg = refl
+lanes_say lanes.I16x8Q15MulrSatS = refl
+lanes_say lanes.I16x8AllTrue = refl
+lanes_say lanes.I16x8Bitmask = refl
+lanes_say lanes.I16x8NarrowI32x4S = refl
+lanes_say lanes.I16x8NarrowI32x4U = refl
+lanes_say lanes.I16x8ExtendLowI8x16S = refl
+lanes_say lanes.I16x8ExtendHighI8x16S = refl
+lanes_say lanes.I16x8ExtendLowI8x16U = refl
+lanes_say lanes.I16x8ExtendHighI8x16U = refl
+lanes_say lanes.I16x8Shl = refl
+lanes_say lanes.I16x8ShrS = refl
+lanes_say lanes.I16x8ShrU = refl
+lanes_say lanes.I16x8Add = refl
+lanes_say lanes.I16x8AddSatS = refl
+lanes_say lanes.I16x8AddSatU = refl
+lanes_say lanes.I16x8Sub = refl
+lanes_say lanes.I16x8SubSatS = refl
+lanes_say lanes.I16x8SubSatU = refl
+lanes_say lanes.F64x2Nearest = refl
+lanes_say lanes.I16x8Mul = refl
+lanes_say lanes.I16x8MinS = refl
+lanes_say lanes.I16x8MinU = refl
+lanes_say lanes.I16x8MaxS = refl
+lanes_say lanes.I16x8MaxU = refl
+lanes_say lanes.I16x8AvgrU = refl
+lanes_say lanes.I16x8ExtMulLowI8x16S = refl
+lanes_say lanes.I16x8ExtMulHighI8x16S = refl
+lanes_say lanes.I16x8ExtMulLowI8x16U = refl
+lanes_say lanes.I16x8ExtMulHighI8x16U = refl
+lanes_say lanes.I32x4Abs = refl
+lanes_say lanes.I32x4Neg = refl
+lanes_say lanes.I32x4AllTrue = refl
+lanes_say lanes.I32x4Bitmask = refl
+lanes_say lanes.I32x4ExtendLowI16x8S = refl
+lanes_say lanes.I32x4ExtendHighI16x8S = refl
+lanes_say lanes.I32x4ExtendLowI16x8U = refl
+lanes_say lanes.I32x4ExtendHighI16x8U = refl
+lanes_say lanes.I32x4Shl = refl
+lanes_say lanes.I32x4ShrS = refl
+lanes_say lanes.I32x4ShrU = refl
+lanes_say lanes.I32x4Add = refl
+lanes_say lanes.I32x4Sub = refl
+lanes_say lanes.I32x4Mul = refl
+lanes_say lanes.I32x4MinS = refl
+lanes_say lanes.I32x4MinU = refl
+lanes_say lanes.I32x4MaxS = refl
+lanes_say lanes.I32x4MaxU = refl
+lanes_say lanes.I32x4DotI16x8S = refl
+lanes_say lanes.I32x4ExtMulLowI16x8S = refl
+lanes_say lanes.I32x4ExtMulHighI16x8S = refl
+lanes_say lanes.I32x4ExtMulLowI16x8U = refl
+lanes_say lanes.I32x4ExtMulHighI16x8U = refl
+lanes_say lanes.I64x2Abs = refl
+lanes_say lanes.I64x2Neg = refl
+lanes_say lanes.I64x2AllTrue = refl
+lanes_say lanes.I64x2Bitmask = refl
+lanes_say lanes.I64x2ExtendLowI32x4S = refl
+lanes_say lanes.I64x2ExtendHighI32x4S = refl
+lanes_say lanes.I64x2ExtendLowI32x4U = refl
+lanes_say lanes.I64x2ExtendHighI32x4U = refl
+lanes_say lanes.I64x2Shl = refl
+lanes_say lanes.I64x2ShrS = refl
+lanes_say lanes.I64x2ShrU = refl
+lanes_say lanes.I64x2Add = refl
+lanes_say lanes.I64x2Sub = refl
+lanes_say lanes.I64x2Mul = refl
+lanes_say lanes.I64x2Eq = refl
+lanes_say lanes.I64x2Ne = refl
+lanes_say lanes.I64x2LtS = refl
+lanes_say lanes.I64x2GtS = refl
+lanes_say lanes.I64x2LeS = refl
+lanes_say lanes.I64x2GeS = refl
+lanes_say lanes.I64x2ExtMulLowI32x4S = refl
+lanes_say lanes.I64x2ExtMulHighI32x4S = refl
+lanes_say lanes.I64x2ExtMulLowI32x4U = refl
+lanes_say lanes.I64x2ExtMulHighI32x4U = refl
+lanes_say lanes.F32x4Abs = refl
+lanes_say lanes.F32x4Neg = refl
+lanes_say lanes.F32x4Sqrt = refl
+lanes_say lanes.F32x4Add = refl
+lanes_say lanes.F32x4Sub = refl
+lanes_say lanes.F32x4Mul = refl
+lanes_say lanes.F32x4Div = refl
+lanes_say lanes.F32x4Min = refl
+lanes_say lanes.F32x4Max = refl
+lanes_say lanes.F32x4PMin = refl
+lanes_say lanes.F32x4PMax = refl
+lanes_say lanes.F64x2Abs = refl
+lanes_say lanes.F64x2Neg = refl
+lanes_say lanes.F64x2Sqrt = refl
+lanes_say lanes.F64x2Add = refl
+lanes_say lanes.F64x2Sub = refl
+lanes_say lanes.F64x2Mul = refl
+lanes_say lanes.F64x2Div = refl
+lanes_say lanes.F64x2Min = refl
+lanes_say lanes.F64x2Max = refl
+lanes_say lanes.F64x2PMin = refl
+lanes_say lanes.F64x2PMax = refl
+lanes_say lanes.I32x4TruncSatF32x4S = refl
+lanes_say lanes.I32x4TruncSatF32x4U = refl
+lanes_say lanes.F32x4ConvertI32x4S = refl
+lanes_say lanes.F32x4ConvertI32x4U = refl
+lanes_say lanes.I32x4TruncSatF64x2SZero = refl
+lanes_say lanes.I32x4TruncSatF64x2UZero = refl
+lanes_say lanes.F64x2ConvertLowI32x4S = refl
+lanes_say lanes.F64x2ConvertLowI32x4U = refl
+lanes_say lanes.I8x16RelaxedSwizzle = refl
+lanes_say lanes.I32x4RelaxedTruncF32x4S = refl
+lanes_say lanes.I32x4RelaxedTruncF32x4U = refl
+lanes_say lanes.I32x4RelaxedTruncF64x2SZero = refl
+lanes_say lanes.I32x4RelaxedTruncF64x2UZero = refl
+lanes_say lanes.F32x4RelaxedMadd = refl
+lanes_say lanes.F32x4RelaxedNmadd = refl
+lanes_say lanes.F64x2RelaxedMadd = refl
+lanes_say lanes.F64x2RelaxedNmadd = refl
+lanes_say lanes.I8x16RelaxedLaneselect = refl
+lanes_say lanes.I16x8RelaxedLaneselect = refl
+lanes_say lanes.I32x4RelaxedLaneselect = refl
+lanes_say lanes.I64x2RelaxedLaneselect = refl
+lanes_say lanes.F32x4RelaxedMin = refl
+lanes_say lanes.F32x4RelaxedMax = refl
+lanes_say lanes.F64x2RelaxedMin = refl
+lanes_say lanes.F64x2RelaxedMax = refl
+lanes_say lanes.I16x8RelaxedQ15mulrS = refl
+lanes_say lanes.I16x8RelaxedDotI8x16I7x16S = refl
+lanes_say lanes.I32x4RelaxedDotI8x16I7x16AddS = refl
+
+-- an operator that carries something reaches into a memory, or computes, by its name as by the rules
+abbrev pub WorkSays : Op → VectorWork → Type 0
+WorkSays o (on_lanes c) = (argument_of (immediates_of o) ≡ None)
+    × (computed (info_of o).name ≡ Some (record { takes = vectors_taken c; gives = vectors_given c }))
+WorkSays o (reaches a) = AccessSays o a
+
+pub work_says : (o : SimdOperator) → WorkSays (op.Simd o) (work_of o)
+work_says (simd.V128Load memarg) = (refl, refl)
+work_says (simd.V128Load8x8S memarg) = (refl, refl)
+work_says (simd.V128Load8x8U memarg) = (refl, refl)
+work_says (simd.V128Load16x4S memarg) = (refl, refl)
+work_says (simd.V128Load16x4U memarg) = (refl, refl)
+work_says (simd.V128Load32x2S memarg) = (refl, refl)
+work_says (simd.V128Load32x2U memarg) = (refl, refl)
+work_says (simd.V128Load8Splat memarg) = (refl, refl)
+work_says (simd.V128Load16Splat memarg) = (refl, refl)
+work_says (simd.V128Load32Splat memarg) = (refl, refl)
+work_says (simd.V128Load64Splat memarg) = (refl, refl)
+work_says (simd.V128Store memarg) = (refl, refl)
+work_says (simd.V128Const value) = (refl, refl)
+work_says (simd.I8x16Shuffle lanes) = (refl, refl)
+work_says (simd.I8x16ExtractLaneS lane) = (refl, refl)
+work_says (simd.I8x16ExtractLaneU lane) = (refl, refl)
+work_says (simd.I8x16ReplaceLane lane) = (refl, refl)
+work_says (simd.I16x8ExtractLaneS lane) = (refl, refl)
+work_says (simd.I16x8ExtractLaneU lane) = (refl, refl)
+work_says (simd.I16x8ReplaceLane lane) = (refl, refl)
+work_says (simd.I32x4ExtractLane lane) = (refl, refl)
+work_says (simd.I32x4ReplaceLane lane) = (refl, refl)
+work_says (simd.I64x2ExtractLane lane) = (refl, refl)
+work_says (simd.I64x2ReplaceLane lane) = (refl, refl)
+work_says (simd.F32x4ExtractLane lane) = (refl, refl)
+work_says (simd.F32x4ReplaceLane lane) = (refl, refl)
+work_says (simd.F64x2ExtractLane lane) = (refl, refl)
+work_says (simd.F64x2ReplaceLane lane) = (refl, refl)
+work_says (simd.V128Load8Lane memarg lane) = (refl, refl)
+work_says (simd.V128Load16Lane memarg lane) = (refl, refl)
+work_says (simd.V128Load32Lane memarg lane) = (refl, refl)
+work_says (simd.V128Load64Lane memarg lane) = (refl, refl)
+work_says (simd.V128Store8Lane memarg lane) = (refl, refl)
+work_says (simd.V128Store16Lane memarg lane) = (refl, refl)
+work_says (simd.V128Store32Lane memarg lane) = (refl, refl)
+work_says (simd.V128Store64Lane memarg lane) = (refl, refl)
+work_says (simd.V128Load32Zero memarg) = (refl, refl)
+work_says (simd.V128Load64Zero memarg) = (refl, refl)

@@ -2,11 +2,13 @@
 use Rattle.std.proofs.Common.{◌≡◌, ℕ, List, [], ◌∷◌, ◌++◌, reverse, Some, Bool, true, false, IsTrue, refl, sym, subst, ◌∙◌}
 use Rattle.std.proofs.Common.{slice_get, slice_set, Option, None, ap, if◌then◌else◌, ◌==◌, ◌&&◌, eqb-true, ◌<◌, length, true≢false}
 use Rattle.std.proofs.lemmas.Option.{slice_get-get_or}
+use Rattle.wasm_types.specs.settings.Features.{judges_vectors}
 use Rattle.wasm_types.specs.trees.Types.{heap_map, i32, HeapOf, abstract, concrete, exact, ref}
 use Rattle.wasm_types.specs.trees.Trees.{TypeTree}
 use Rattle.wasm_types.specs.trees.Below.{Below}
 use Rattle.wasm_types.specs.trees.ValidGroup.{type_at}
 use Rattle.wasm_operators_immediates.specs.declared.frames.FrameKind.{FrameKind}
+use Rattle.wasm_operators_immediates.specs.declared.memory.MemArg.{MemArg}
 use Rattle.wasm_operators_enums.specs.declared.memory.MemoryOperator.{MemoryOperator}
 use Rattle.wasm_operators_enums.specs.declared.memory.MemoryOperator.TheVariants as memory
 use Rattle.wasm_operators_enums.specs.declared.bulk.BulkOperator.{BulkOperator}
@@ -23,6 +25,7 @@ use Rattle.wasm_operators_enums.specs.declared.atomic.AtomicOperator.TheVariants
 use Rattle.wasm_types.specs.externs.declared.memory.MemoryType.{MemoryType}
 use Rattle.wasm_operators_enums.specs.Table.{info_of}
 use Rattle.wasm_operators_enums.specs.Immediates.{immediates_of}
+use Rattle.wasm_operators_enums.specs.declared.vector_numeric.SimdNumericOperator.{SimdNumericOperator}
 use Rattle.wasm_operators_enums.specs.Op as op
 use Rattle.wasm_operators_enums.specs.Op.{Op, ParametricTree, ExceptionTree, ContinuationTree}
 use Rattle.wasm_operators_encoding.specs.expressions.Code.{Code, IsIn}
@@ -30,7 +33,8 @@ use Rattle.wasm_operator_validator_rules.specs.Operands.{ValueType, Operand, kno
 use Rattle.wasm_operator_validator_rules.specs.Context.{IsTypeIndex, written_type, Context, Table, Global, Initialised, Frame, IsType, address_type}
 use Rattle.wasm_operator_validator_rules.specs.Numbers.{numbers}
 use Rattle.wasm_operator_validator_rules.specs.Accesses.{AccessOf, access_of, atomic_access_of, operands_of, results_of, may_access}
-use Rattle.wasm_operator_validator_rules.specs.InstructionTypes.{InstructionType, ◌⟶◌, accesses, memory_at, global_at, table_at, names_data, i32_type, shorter}
+use Rattle.wasm_operator_validator_rules.specs.Vectors.{VectorWork, on_lanes, reaches, vectors_taken, vectors_given, vector_class}
+use Rattle.wasm_operator_validator_rules.specs.InstructionTypes.{InstructionType, ◌⟶◌, accesses, memory_at, global_at, table_at, names_data, i32_type, shorter, where_vectors, lanes_type, work_type}
 use Rattle.wasm_operator_validator_rules.specs.Taken.{Takes, TableRow}
 use Rattle.wasm_operator_validator_rules.specs.Row.{IsNumber, ParametricRow, MemoryRow, IsReferenceTo, of_type, of_exactly, BulkRow, sets}
 use Rattle.wasm_operator_validator_rules.specs.Typed.{Typed}
@@ -39,7 +43,7 @@ use Rattle.wasm_operator_validator_soundness.specs.runs.States.{Activation, Answ
 use Rattle.wasm_operator_validator_soundness.specs.runs.States.{next, Move, asks, found}
 use Rattle.wasm_operator_validator_soundness.specs.runs.Machine.{address, meant, meant_heap, takes, copies, may_trap}
 use Rattle.wasm_operator_validator_soundness.specs.runs.Names.{accessed, argument_of}
-use Rattle.wasm_operator_validator_soundness.specs.runs.Machine.{going, goes, exchange, access}
+use Rattle.wasm_operator_validator_soundness.specs.runs.Machine.{going, goes, exchange, compute, access, operate_vector}
 use Rattle.wasm_operator_validator_soundness.specs.runs.Machine.{select, operate_parametric, set_local, operate_memory, operate_bulk, operate_atomic, IsData}
 use Rattle.wasm_operator_validator_soundness.specs.runs.Soundness.{IsValidFunction, IsValidProgram}
 use Rattle.wasm_operator_validator_soundness.proofs.RunsFitting.{each_below}
@@ -50,9 +54,9 @@ use Rattle.wasm_operator_validator_soundness.proofs.Combining.{done_okay, asks_o
 use Rattle.wasm_operator_validator_soundness.proofs.RunsLeaving.{null_fits}
 use Rattle.wasm_operator_validator_soundness.proofs.Options.{address_is, named_some, if_there}
 use Rattle.wasm_operator_validator_soundness.proofs.Objects.{provided_is, data_named}
-use Rattle.wasm_operator_validator_soundness.proofs.Names.{AccessSays, access_says, atomic_says}
+use Rattle.wasm_operator_validator_soundness.proofs.Names.{AccessSays, access_says, atomic_says, lanes_say, WorkSays}
 use Rattle.wasm_operator_validator_soundness.proofs.Values.{heap_there, value_there, as_other, either, is_a_number, is_reference}
-use Rattle.wasm_operator_validator_soundness.proofs.Standing.{code_at, exchange_okay, goes_okay, table_of, values_at, Here}
+use Rattle.wasm_operator_validator_soundness.proofs.Standing.{code_at, compute_okay, exchange_okay, goes_okay, table_of, values_at, Here}
 
 -- what a copy takes, from one of these to the other
 abbrev for_copy : Bool → Bool → List ValueType
@@ -229,6 +233,27 @@ module _ (p : Program) (valid : IsValidProgram p) (final : List ValueType) (a : 
       (found_okay p final (accessed (info_of o).name) (record { takes = operands_of y.access; gives = results_of y.access }) _ k.1
       (exchanged_okay ((address (n.0).memory64 ∷ numbers (operands_of y.access)) ⟶ numbers (results_of y.access)) u more popped pushed rest m
       (ap (λ (v : ValueType). (v ∷ numbers (operands_of y.access)) ⟶ numbers (results_of y.access)) (address_is (n.0).memory64) ∙ c.1) r b e t)))
+
+  -- an operator on vectors, if vectors are judged
+  pub vector_okay : (o : Op) (k : VectorWork) → WorkSays o k → (more : Code) (popped pushed rest m : List Operand)
+      → (u : InstructionType) → where_vectors g (work_type g k) ≡ Some u → Takes u.takes u.gives popped pushed
+      → AllBelow s (reverse popped ++ rest) → m ≡ reverse pushed ++ rest → Goes set more m
+      → Okay (operate_vector p a act acts (argument_of (immediates_of o)) o more)
+  vector_okay o (on_lanes c) says more popped pushed rest m u i r b e t =
+      let d = some_same (lanes_type c) u (if_there (judges_vectors g.bits) (Some (lanes_type c)) u i) in
+      subst (λ (q : Option MemArg). Okay (operate_vector p a act acts q o more)) (sym says.0)
+      (compute_okay p valid final a act acts h o (vectors_taken c) (vectors_given c) more popped pushed rest m says.1 (as_type (lanes_type c) u popped pushed d r) b e t)
+  vector_okay o (reaches y) says more popped pushed rest m u i r b e t =
+      subst (λ (q : Option MemArg). Okay (operate_vector p a act acts q o more)) (sym says.0)
+      (access_okay o false (Some y) (λ x q. subst (λ (z : AccessOf). AccessSays o z) (some_same y x q) says) u more popped pushed rest m
+      (if_there (judges_vectors g.bits) (accesses g false (Some y)) u i) r b e t)
+
+  pub lanes_okay : (o : SimdNumericOperator) (more : Code) (popped pushed rest m : List Operand) → TableRow g (op.SimdNumeric o) popped pushed
+      → AllBelow s (reverse popped ++ rest) → m ≡ reverse pushed ++ rest → Goes set more m → Okay (compute p a act acts (op.SimdNumeric o) more)
+  lanes_okay o more popped pushed rest m r b e t =
+      let c = lanes_type (vector_class o) in
+      let d = some_same c r.0 (if_there (judges_vectors g.bits) (Some c) r.0 r.1) in
+      compute_okay p valid final a act acts h (op.SimdNumeric o) (vectors_taken (vector_class o)) (vectors_given (vector_class o)) more popped pushed rest m (lanes_say o) (as_type c r.0 popped pushed d r.2) b e t
 
   -- nothing is taken or given
   pub nothing_okay : (more : Code) (popped pushed rest m : List Operand) → Takes [] [] popped pushed

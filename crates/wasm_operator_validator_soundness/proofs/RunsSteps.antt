@@ -9,6 +9,7 @@ use Rattle.wasm_operators_encoding.specs.expressions.Code.{Code, close, plain, n
 use Rattle.wasm_operator_validator_rules.specs.Operands.{ValueType, Operand, AllBelow, stack}
 use Rattle.wasm_operator_validator_rules.specs.Context.{Context, Initialised, Frame, initialised_at_first}
 use Rattle.wasm_operator_validator_rules.specs.Numbers.{class_of, taken_by, given_by, constant_type}
+use Rattle.wasm_operator_validator_rules.specs.Vectors.{work_of}
 use Rattle.wasm_operator_validator_rules.specs.Row.{GroupRow, after, IsEnabled}
 use Rattle.wasm_operator_validator_rules.specs.Typed.{Typed}
 use Rattle.wasm_operator_validator_soundness.specs.runs.Values.{Body, Function, Program, Value, AllFit}
@@ -16,20 +17,20 @@ use Rattle.wasm_operator_validator_soundness.specs.runs.States.{Activation, Stat
 use Rattle.wasm_operator_validator_soundness.specs.runs.States.{Outcome, next, returned, trapped, thrown, stuck, Move}
 use Rattle.wasm_operator_validator_soundness.specs.runs.Machine.{label_at}
 use Rattle.wasm_operator_validator_soundness.specs.runs.Machine.{operate, end, execute}
-use Rattle.wasm_operator_validator_soundness.specs.runs.Soundness.{HasValidBody, IsValidProgram, step, Runs, EndsWell, IsNeverStuck, ProgramsAreSound, StepsAreSound, StartsAreValid, evaluated, ConstantsAreValid, ConstantsAreSound, AncestorsAreSound}
+use Rattle.wasm_operator_validator_soundness.specs.runs.Soundness.{HasValidBody, IsValidProgram, step, Runs, EndsWell, IsNeverStuck, ProgramsAreSound, ProgramsStayValid, StepsAreSound, StartsAreValid, evaluated, ConstantsAreValid, ConstantsAreSound, AncestorsAreSound}
 use Rattle.wasm_operator_validator_soundness.proofs.RunsFitting.{all_below}
 use Rattle.wasm_operator_validator_soundness.specs.runs.ValidStates.{AreSet, Around, around_of}
-use Rattle.wasm_operator_validator_soundness.proofs.RunsInvariant.{none_is_some, some_same}
+use Rattle.wasm_operator_validator_soundness.proofs.RunsInvariant.{some_same}
 use Rattle.wasm_operator_validator_soundness.specs.runs.ValidStates.{IsValidState, IsValidOutcome}
 use Rattle.wasm_operator_validator_soundness.proofs.RunsInvariant.{here, IsOkay}
 use Rattle.wasm_operator_validator_soundness.proofs.Objects.{field_through, matches_along}
 use Rattle.wasm_operator_validator_soundness.proofs.Combining.{asks_okay, found_okay}
 use Rattle.wasm_operator_validator_soundness.proofs.RunsLeaving.{initially_set, come_out_okay, begun_awaits, standard_links}
-use Rattle.wasm_operator_validator_soundness.proofs.Values.{calls_through, no_descriptors, no_sharing, no_switching, results_below}
+use Rattle.wasm_operator_validator_soundness.proofs.Values.{calls_through, never_enabled, results_below}
 use Rattle.wasm_operator_validator_soundness.proofs.Standing.{compute_okay, table_of, Here}
 use Rattle.wasm_operator_validator_soundness.proofs.Calling.{control_okay}
-use Rattle.wasm_operator_validator_soundness.proofs.Operating.{atomic_okay, bulk_okay, memory_okay, parametric_okay}
-use Rattle.wasm_operator_validator_soundness.proofs.Names.{numeric_says, constant_says}
+use Rattle.wasm_operator_validator_soundness.proofs.Operating.{atomic_okay, bulk_okay, lanes_okay, memory_okay, parametric_okay, vector_okay}
+use Rattle.wasm_operator_validator_soundness.proofs.Names.{numeric_says, constant_says, work_says}
 use Rattle.wasm_operator_validator_soundness.proofs.Throwing.{exception_okay}
 use Rattle.wasm_operator_validator_soundness.proofs.Making.{gc_okay}
 use Rattle.wasm_operator_validator_soundness.proofs.Entering.{enter_okay}
@@ -86,12 +87,12 @@ module _ (p : Program) (valid : IsValidProgram p) (final : List ValueType) (a : 
       compute_okay p valid final a act acts h (op.Const o) [] (constant_type o ∷ []) more popped pushed rest m (constant_says o) (table_of p valid final a act acts h (op.Const o) _ popped pushed refl r) b e t
   operate_okay (op.Numeric o) more popped pushed rest m n r b e t =
       compute_okay p valid final a act acts h (op.Numeric o) (taken_by (class_of o)) (given_by (class_of o)) more popped pushed rest m (numeric_says o) (table_of p valid final a act acts h (op.Numeric o) _ popped pushed refl r) b e t
-  operate_okay (op.Simd o) more popped pushed rest m n r b e t = absurd (none_is_some r.0 r.1)
-  operate_okay (op.SimdNumeric o) more popped pushed rest m n r b e t = absurd (none_is_some r.0 r.1)
+  operate_okay (op.Simd o) more popped pushed rest m n r b e t = vector_okay p valid final a act acts h (op.Simd o) (work_of o) (work_says o) more popped pushed rest m r.0 r.1 r.2 b e t
+  operate_okay (op.SimdNumeric o) more popped pushed rest m n r b e t = lanes_okay p valid final a act acts h o more popped pushed rest m r b e t
   operate_okay (op.Atomic o) more popped pushed rest m n r b e t = atomic_okay p valid final a act acts h o more popped pushed rest m r b e t
-  operate_okay (op.Descriptor o) more popped pushed rest m n r b e t = absurd (no_descriptors p.bits valid.standard o n)
-  operate_okay (op.Shared o) more popped pushed rest m n r b e t = absurd (no_sharing p.bits valid.standard o n)
-  operate_okay (op.Continuation o) more popped pushed rest m n r b e t = absurd (no_switching p.bits valid.standard o n)
+  operate_okay (op.Descriptor o) more popped pushed rest m n r b e t = absurd (never_enabled p.bits valid.standard (op.Descriptor o) tt n)
+  operate_okay (op.Shared o) more popped pushed rest m n r b e t = absurd (never_enabled p.bits valid.standard (op.Shared o) tt n)
+  operate_okay (op.Continuation o) more popped pushed rest m n r b e t = absurd (never_enabled p.bits valid.standard (op.Continuation o) tt n)
 
   -- ---- all instructions
 
@@ -161,6 +162,9 @@ run_sound p results s v i answers t a r given =
 
 pub programs_sound : ProgramsAreSound
 programs_sound p s results v i = run_sound p results s v (starts_valid p s results v i)
+
+pub programs_stay_valid : ProgramsStayValid
+programs_stay_valid p s results v i answers t r = runs_stay_valid p results s answers t v (starts_valid p s results v i) r
 
 pub steps_sound : StepsAreSound
 steps_sound p results s a v i given = (step_okay p results s a v i).okay given

@@ -337,11 +337,37 @@ pub not_enabled : (bits : ℕ) (q : Feature) (o : Op) → features_of (info_of o
 not_enabled bits q o e n i =
     true≢false (sym (enabled_has bits q (subst (λ (k : ℕ). bit_and bits k ≡ k) e i.proposal)) ∙ n)
 
-pub no_descriptors : (bits : ℕ) → IsStandard bits → (o : DescriptorOperator) → IsEnabled bits (op.Descriptor o) → ⊥
+no_descriptors : (bits : ℕ) → IsStandard bits → (o : DescriptorOperator) → IsEnabled bits (op.Descriptor o) → ⊥
 no_descriptors bits s o i = not_enabled bits CustomDescriptors (op.Descriptor o) (ap features_of (descriptors_needed o)) s.descriptors i
 
-pub no_switching : (bits : ℕ) → IsStandard bits → (o : ContinuationTree) → IsEnabled bits (op.Continuation o) → ⊥
+no_switching : (bits : ℕ) → IsStandard bits → (o : ContinuationTree) → IsEnabled bits (op.Continuation o) → ⊥
 no_switching bits s o i = not_enabled bits StackSwitching (op.Continuation o) (ap features_of (switching_needed o)) s.switching i
 
-pub no_sharing : (bits : ℕ) → IsStandard bits → (o : SharedOperator) → IsEnabled bits (op.Shared o) → ⊥
+no_sharing : (bits : ℕ) → IsStandard bits → (o : SharedOperator) → IsEnabled bits (op.Shared o) → ⊥
 no_sharing bits s o i = not_enabled bits SharedEverythingThreads (op.Shared o) (ap features_of (sharing_needed o)) s.sharing i
+
+-- ---- operators of the three proposals
+
+-- it is of one of the proposals that are not standard
+abbrev pub IsProposed : Op → Type 0
+IsProposed (op.Descriptor o) = Unit {0}
+IsProposed (op.Shared o) = Unit {0}
+IsProposed (op.Continuation o) = Unit {0}
+IsProposed o = ⊥
+
+-- Each asks for the feature of its proposal, whatever its row is.
+pub never_enabled : (bits : ℕ) → IsStandard bits → (o : Op) → IsProposed o → IsEnabled bits o → ⊥
+never_enabled bits s (op.Descriptor o) i n = no_descriptors bits s o n
+never_enabled bits s (op.Shared o) i n = no_sharing bits s o n
+never_enabled bits s (op.Continuation o) i n = no_switching bits s o n
+never_enabled bits s (op.Control o) i n = i
+never_enabled bits s (op.Parametric o) i n = i
+never_enabled bits s (op.Exception o) i n = i
+never_enabled bits s (op.Memory o) i n = i
+never_enabled bits s (op.Bulk o) i n = i
+never_enabled bits s (op.Gc o) i n = i
+never_enabled bits s (op.Const o) i n = i
+never_enabled bits s (op.Numeric o) i n = i
+never_enabled bits s (op.Simd o) i n = i
+never_enabled bits s (op.SimdNumeric o) i n = i
+never_enabled bits s (op.Atomic o) i n = i

@@ -6,17 +6,18 @@
 
 mod worked;
 
-ghost use Rattle.wasm_operator_validator_soundness.specs.runs.Soundness.{AncestorsAreSound, ConstantsAreSound, ConstantsAreValid, ProgramsAreSound, StartsAreValid, StepsAreSound};
+ghost use Rattle.wasm_operator_validator_soundness.specs.runs.Soundness.{AncestorsAreSound, ConstantsAreSound, ConstantsAreValid, ProgramsAreSound, ProgramsStayValid, StartsAreValid, StepsAreSound};
 
 pub use worked::{
-    caught_is_worked, objects_are_worked, older_is_worked, runs_are_worked,
-    stuck_states_are_worked, sums_are_worked,
+    branching_is_worked, caught_is_worked, objects_are_worked, older_is_worked, runs_are_worked,
+    segments_are_worked, stuck_states_are_worked, sums_are_worked, vectors_are_worked,
 };
 
 /// A function of a valid program that is started with fitting arguments and answered by fitting values is never stuck, and what
-/// it returns or throws fits.
+/// it returns or throws fits. At each place on the way each value and each local that is set fits what the rules know of it.
 pub fn programs_are_sound()
-    ensures { ProgramsAreSound }
+    ensures sound { ProgramsAreSound }
+    ensures states { ProgramsStayValid }
 {}
 
 /// From activations whose values fit, a step has what it needs, and comes to such activations again or ends well. A function that is

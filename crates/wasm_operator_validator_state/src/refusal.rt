@@ -6,7 +6,7 @@ ghost use Rattle.wasm_operator_validator_state.specs.Refusals.{kind_of, OfConten
 
 use crate::texts::{
     empty_stack, expected_reference, feature_text, mismatch, reason_text, type_feature_text,
-    uninitialized_local, unknown, unknown_local, unsupported,
+    uninitialized_local, unknown, unknown_local,
 };
 use crate::{MaybeType, ty_to_str};
 use wasm_types::{Error, ValType, WasmFeatures};
@@ -57,6 +57,8 @@ pub enum Space {
     StructType,
     /// A type that is an array type.
     ArrayType,
+    /// A type that is a continuation type.
+    ContinuationType,
     /// A field of a struct.
     Field,
     /// A function.
@@ -154,8 +156,30 @@ pub enum Reason {
     RethrowOutsideCatch,
     /// The operator is one on vectors, and the features do not ask that those be judged.
     Vectors,
-    /// The operator has no rule here yet.
-    Unsupported,
+    /// No other type describes the type.
+    NoDescriptor,
+    /// An atomic access to what is neither an integer nor a reference below `any`.
+    AtomicType,
+    /// Arithmetic in an atomic access to what is no integer.
+    AtomicInteger,
+    /// An atomic comparison with what is neither an integer nor a reference below `eq`.
+    AtomicComparable,
+    /// The label of a handler does not end with a reference to a continuation type.
+    HandlerLabel,
+    /// What a suspension carries does not fit the label of its handler.
+    HandlerCarries,
+    /// The continuation type that the label of a handler names is not that of what is left.
+    HandlerContinues,
+    /// The tag of a switch carries something.
+    SwitchCarries,
+    /// What continuations and the tag give in a switch does not fit.
+    SwitchResults,
+    /// A switch goes to a continuation whose last parameter is no reference to a continuation type.
+    SwitchParameter,
+    /// The last parameters of a continuation are not those of the type to which it is bound.
+    BindParameters,
+    /// What a continuation gives is not what the type gives to which it is bound.
+    BindResults,
 }
 
 impl Refusal {
@@ -189,19 +213,6 @@ impl Refusal {
             Refusal::Unknown { space, index } => unknown(offset, space, index),
             Refusal::ExpectedReference { found } => expected_reference(offset, found),
             Refusal::Because(reason) => Error::new(reason_text(reason), offset),
-        }
-    }
-
-    /// The same, where the operator has this name: one without a rule is told by it.
-    #[cold]
-    #[inline(never)]
-    pub fn error_of(self, name: &str, offset: u64) -> Error
-        ensures kind { result.kind ≡ kind_of self }
-        ensures at { OfContent result.kind (result.offset ≡ offset) }
-    {
-        match self {
-            Refusal::Because(Reason::Unsupported) => unsupported(offset, name),
-            other => other.error(offset),
         }
     }
 }

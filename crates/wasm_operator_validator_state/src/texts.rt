@@ -88,15 +88,6 @@ pub fn unknown_local(offset: u64, local_index: u32) -> Error
     )
 }
 
-/// An operator that has no rule yet, by its name in the text format.
-#[cold]
-pub fn unsupported(offset: u64, name: &str) -> Error
-    ensures kind { result.kind ≡ Other }
-    ensures offset { result.offset ≡ offset }
-{
-    Error::fmt(format_args!("{name} is not supported yet"), offset)
-}
-
 /// A local that has no value yet.
 #[cold]
 pub fn uninitialized_local(offset: u64, local_index: u32) -> Error
@@ -124,6 +115,10 @@ pub fn unknown(offset: u64, space: Space, index: u32) -> Error
         ),
         Space::ArrayType => Error::fmt(
             format_args!("expected array type at index {index}"),
+            offset,
+        ),
+        Space::ContinuationType => Error::fmt(
+            format_args!("non-continuation type {index}"),
             offset,
         ),
         Space::Field => Error::new("unknown field: field index out of bounds", offset),
@@ -311,6 +306,23 @@ pub fn reason_text(reason: Reason) -> &'static str {
         Reason::DelegateOutsideTry => "delegate found outside of an `try` block",
         Reason::RethrowOutsideCatch => "invalid rethrow label: target was not a `catch` block",
         Reason::Vectors => "unexpected SIMD opcode: 0xfd",
-        Reason::Unsupported => "the operator is not supported yet",
+        Reason::NoDescriptor => "expected a type with a descriptor",
+        Reason::AtomicType => {
+            "invalid type: only `i32`, `i64` and subtypes of `anyref` can be accessed atomically"
+        }
+        Reason::AtomicInteger => {
+            "invalid type: only `i32` and `i64` have atomic arithmetic operations"
+        }
+        Reason::AtomicComparable => {
+            "invalid type: only `i32`, `i64` and subtypes of `eqref` can be compared atomically"
+        }
+        Reason::HandlerLabel => "type mismatch: a handler's label must end with a continuation type",
+        Reason::HandlerCarries => "type mismatch between tag type and label type",
+        Reason::HandlerContinues => "type mismatch in continuation type",
+        Reason::SwitchCarries => "type mismatch: non-empty tag parameter type",
+        Reason::SwitchResults => "type mismatch in continuation types and the tag of a switch",
+        Reason::SwitchParameter => "type mismatch: non-continuation type as the last parameter",
+        Reason::BindParameters => "type mismatch in continuation arguments",
+        Reason::BindResults => "type mismatch in continuation results",
     }
 }

@@ -1,5 +1,4 @@
--- Definitions: what a visit that answers an error promises, and which operators have no rule yet.
+-- Definitions: what a visit that answers an error promises.
 pub mod Told
-pub mod Unsupported
 -- The rules of crates below, under their names: crates above cite them here.
 pub use Rattle.wasm_operator_validator_arity.specs as arity

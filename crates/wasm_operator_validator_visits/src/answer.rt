@@ -1,14 +1,13 @@
 //! How a visit answers: by a refusal in few bytes, or by an error.
 
-ghost use Rattle.std.specs.Prelude.{◌≡◌, Some};
-ghost use Rattle.wasm_types.specs.decoding.declared.error.ErrorKind.TheVariants.{Other};
+ghost use Rattle.std.specs.Prelude.{◌≡◌};
 ghost use Rattle.wasm_operators_enums.specs.Op.{Op};
 ghost use Rattle.wasm_operator_validator_arity.specs.resources.Meaning.{Meaning};
 ghost use Rattle.wasm_operator_validator_state.specs.Refusals.{refused};
 ghost use Rattle.wasm_operator_validator_state.specs.State.{State, Visits};
 ghost use Rattle.wasm_operator_validator_visits.specs.Told.{Tells};
 
-use wasm_operator_validator_control::{Reason, Refusal};
+use wasm_operator_validator_control::Refusal;
 
 /// What a visit answers where its operator is accepted, and where it is refused.
 pub trait AnswerAs {
@@ -22,11 +21,6 @@ pub trait AnswerAs {
     /// The answer, where the operator was refused for this or was not.
     fn answer(&self, answer: Result<(), Refusal>) -> Self::Output
         ensures { (m : Meaning) (σ τ : State) (o : Op) → Visits m σ o (refused answer) τ
-            → Self.tells m σ self.now o result τ self.now };
-
-    /// The answer, where the operator of this name was refused since it has no rule yet.
-    fn unsupported(&self, name: &'static str) -> Self::Output
-        ensures { (m : Meaning) (σ τ : State) (o : Op) → Visits m σ o (Some Other) τ
             → Self.tells m σ self.now o result τ self.now };
 }
 
@@ -42,11 +36,6 @@ impl AnswerAs for AsRefusal {
     #[inline(always)]
     fn answer(&self, answer: Result<(), Refusal>) -> Result<(), Refusal> {
         answer
-    }
-
-    #[cold]
-    fn unsupported(&self, _name: &'static str) -> Result<(), Refusal> {
-        Err(Refusal::Because(Reason::Unsupported))
     }
 }
 
@@ -69,11 +58,5 @@ impl AnswerAs for AsError {
             Ok(()) => Ok(()),
             Err(refusal) => Err(refusal.error(self.offset)),
         }
-    }
-
-    #[cold]
-    fn unsupported(&self, name: &'static str) -> wasm_types::Result<()> {
-        let refusal = Refusal::Because(Reason::Unsupported);
-        Err(refusal.error_of(name, self.offset))
     }
 }

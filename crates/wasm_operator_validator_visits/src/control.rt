@@ -12,7 +12,11 @@ use wasm_operator_validator_control::{
 use wasm_operator_validator_memory::{
     check_drop, check_select, check_typed_select, check_typed_select_multi,
 };
-use wasm_operators_visit::{BlockType, BrTable, ContinuationOperator, ResumeTable, TryTable};
+use wasm_operator_validator_proposals::{
+    check_cont_bind, check_cont_new, check_resume, check_resume_throw, check_resume_throw_ref,
+    check_suspend, check_switch,
+};
+use wasm_operators_visit::{BlockType, BrTable, ResumeTable, TryTable};
 use wasm_operators_visit_operator::VisitControl;
 use wasm_types::ValType;
 
@@ -184,25 +188,23 @@ impl<'a, 'v, 'r, R: WasmModuleResources, A: AnswerAs> VisitControl<'a>
     }
 
     fn visit_cont_new(&mut self, cont_type_index: u32) -> A::Output {
-        self.continuation(ContinuationOperator::ContNew { cont_type_index })
+        let checked = check_cont_new(self.inner, self.resources, cont_type_index);
+        self.tell(checked)
     }
 
     fn visit_cont_bind(&mut self, argument_index: u32, result_index: u32) -> A::Output {
-        self.continuation(ContinuationOperator::ContBind {
-            argument_index,
-            result_index,
-        })
+        let checked = check_cont_bind(self.inner, self.resources, argument_index, result_index);
+        self.tell(checked)
     }
 
     fn visit_suspend(&mut self, tag_index: u32) -> A::Output {
-        self.continuation(ContinuationOperator::Suspend { tag_index })
+        let checked = check_suspend(self.inner, self.resources, tag_index);
+        self.tell(checked)
     }
 
     fn visit_resume(&mut self, cont_type_index: u32, resume_table: ResumeTable) -> A::Output {
-        self.continuation(ContinuationOperator::Resume {
-            cont_type_index,
-            resume_table,
-        })
+        let checked = check_resume(self.inner, self.resources, cont_type_index, &resume_table);
+        self.tell(checked)
     }
 
     fn visit_resume_throw(
@@ -211,11 +213,14 @@ impl<'a, 'v, 'r, R: WasmModuleResources, A: AnswerAs> VisitControl<'a>
         tag_index: u32,
         resume_table: ResumeTable,
     ) -> A::Output {
-        self.continuation(ContinuationOperator::ResumeThrow {
+        let checked = check_resume_throw(
+            self.inner,
+            self.resources,
             cont_type_index,
             tag_index,
-            resume_table,
-        })
+            &resume_table,
+        );
+        self.tell(checked)
     }
 
     fn visit_resume_throw_ref(
@@ -223,16 +228,17 @@ impl<'a, 'v, 'r, R: WasmModuleResources, A: AnswerAs> VisitControl<'a>
         cont_type_index: u32,
         resume_table: ResumeTable,
     ) -> A::Output {
-        self.continuation(ContinuationOperator::ResumeThrowRef {
+        let checked = check_resume_throw_ref(
+            self.inner,
+            self.resources,
             cont_type_index,
-            resume_table,
-        })
+            &resume_table,
+        );
+        self.tell(checked)
     }
 
     fn visit_switch(&mut self, cont_type_index: u32, tag_index: u32) -> A::Output {
-        self.continuation(ContinuationOperator::Switch {
-            cont_type_index,
-            tag_index,
-        })
+        let checked = check_switch(self.inner, self.resources, cont_type_index, tag_index);
+        self.tell(checked)
     }
 }

@@ -1,4 +1,4 @@
-//! Visits of operators on structs, arrays and references. Those on descriptors have no rule yet.
+//! Visits of operators on structs, arrays, references and descriptors.
 
 use crate::{AnswerAs, ValidatingVisitor};
 use wasm_operator_validator_control::WasmModuleResources;
@@ -9,6 +9,10 @@ use wasm_operator_validator_objects::{
     check_array_set, check_br_on_cast, check_extern_convert_any, check_i31_get, check_ref_cast,
     check_ref_eq, check_ref_i31, check_ref_test, check_struct_get, check_struct_new,
     check_struct_new_default, check_struct_set,
+};
+use wasm_operator_validator_proposals::{
+    check_br_on_cast_desc_eq, check_ref_cast_desc_eq, check_ref_get_desc,
+    check_struct_new_default_desc, check_struct_new_desc,
 };
 use wasm_operators_visit::{DescriptorOperator, GcOperator};
 use wasm_operators_visit_operator::VisitGc;
@@ -315,23 +319,30 @@ impl<'a, 'v, 'r, R: WasmModuleResources, A: AnswerAs> VisitGc<'a>
     }
 
     fn visit_struct_new_desc(&mut self, struct_type_index: u32) -> A::Output {
-        self.descriptor(DescriptorOperator::StructNewDesc { struct_type_index })
+        let checked = check_struct_new_desc(self.inner, self.resources, struct_type_index);
+        self.tell(checked)
     }
 
     fn visit_struct_new_default_desc(&mut self, struct_type_index: u32) -> A::Output {
-        self.descriptor(DescriptorOperator::StructNewDefaultDesc { struct_type_index })
+        let checked = check_struct_new_default_desc(self.inner, self.resources, struct_type_index);
+        self.tell(checked)
     }
 
     fn visit_ref_get_desc(&mut self, type_index: u32) -> A::Output {
-        self.descriptor(DescriptorOperator::RefGetDesc { type_index })
+        let checked = check_ref_get_desc(self.inner, self.resources, type_index);
+        self.tell(checked)
     }
 
     fn visit_ref_cast_desc_eq_non_null(&mut self, hty: HeapType) -> A::Output {
-        self.descriptor(DescriptorOperator::RefCastDescEqNonNull { hty })
+        let op = DescriptorOperator::RefCastDescEqNonNull { hty };
+        let checked = check_ref_cast_desc_eq(self.inner, self.resources, op, &hty, false);
+        self.tell(checked)
     }
 
     fn visit_ref_cast_desc_eq_nullable(&mut self, hty: HeapType) -> A::Output {
-        self.descriptor(DescriptorOperator::RefCastDescEqNullable { hty })
+        let op = DescriptorOperator::RefCastDescEqNullable { hty };
+        let checked = check_ref_cast_desc_eq(self.inner, self.resources, op, &hty, true);
+        self.tell(checked)
     }
 
     fn visit_br_on_cast_desc_eq(
@@ -340,11 +351,21 @@ impl<'a, 'v, 'r, R: WasmModuleResources, A: AnswerAs> VisitGc<'a>
         from_ref_type: RefType,
         to_ref_type: RefType,
     ) -> A::Output {
-        self.descriptor(DescriptorOperator::BrOnCastDescEq {
+        let op = DescriptorOperator::BrOnCastDescEq {
             relative_depth,
             from_ref_type,
             to_ref_type,
-        })
+        };
+        let checked = check_br_on_cast_desc_eq(
+            self.inner,
+            self.resources,
+            op,
+            relative_depth,
+            &from_ref_type,
+            &to_ref_type,
+            false,
+        );
+        self.tell(checked)
     }
 
     fn visit_br_on_cast_desc_eq_fail(
@@ -353,10 +374,20 @@ impl<'a, 'v, 'r, R: WasmModuleResources, A: AnswerAs> VisitGc<'a>
         from_ref_type: RefType,
         to_ref_type: RefType,
     ) -> A::Output {
-        self.descriptor(DescriptorOperator::BrOnCastDescEqFail {
+        let op = DescriptorOperator::BrOnCastDescEqFail {
             relative_depth,
             from_ref_type,
             to_ref_type,
-        })
+        };
+        let checked = check_br_on_cast_desc_eq(
+            self.inner,
+            self.resources,
+            op,
+            relative_depth,
+            &from_ref_type,
+            &to_ref_type,
+            true,
+        );
+        self.tell(checked)
     }
 }

@@ -16,11 +16,6 @@ mod integers;
 mod memory;
 mod numbers;
 mod shared;
-mod simd_floats;
-mod simd_immediates;
-mod simd_narrow;
-mod simd_wide;
-mod unsupported;
 mod vectors;
 mod visitor;
 

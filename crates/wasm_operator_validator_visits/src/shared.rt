@@ -1,66 +1,94 @@
-//! Visits of atomic accesses to globals, tables, structs and arrays, which have no rule yet.
+//! Visits of atomic accesses to globals, tables, structs and arrays.
 
 use crate::{AnswerAs, ValidatingVisitor};
 use wasm_operator_validator_control::WasmModuleResources;
+use wasm_operator_validator_proposals::{
+    AtomicAccess, check_element_access, check_field_access, check_global_access,
+    check_ref_i31_shared, check_table_access,
+};
 use wasm_operators_visit::{Ordering, SharedOperator};
 use wasm_operators_visit_operator::VisitShared;
 
 impl<'a, 'v, 'r, R: WasmModuleResources, A: AnswerAs> VisitShared<'a>
     for ValidatingVisitor<'v, 'r, R, A> {
     fn visit_global_atomic_get(&mut self, ordering: Ordering, global_index: u32) -> A::Output {
-        self.shared(SharedOperator::GlobalAtomicGet {
+        let op = SharedOperator::GlobalAtomicGet {
             ordering,
             global_index,
-        })
+        };
+        let access = AtomicAccess::Reads;
+        let checked = check_global_access(self.inner, self.resources, op, access, global_index);
+        self.tell(checked)
     }
 
     fn visit_global_atomic_set(&mut self, ordering: Ordering, global_index: u32) -> A::Output {
-        self.shared(SharedOperator::GlobalAtomicSet {
+        let op = SharedOperator::GlobalAtomicSet {
             ordering,
             global_index,
-        })
+        };
+        let access = AtomicAccess::Writes;
+        let checked = check_global_access(self.inner, self.resources, op, access, global_index);
+        self.tell(checked)
     }
 
     fn visit_global_atomic_rmw_add(&mut self, ordering: Ordering, global_index: u32) -> A::Output {
-        self.shared(SharedOperator::GlobalAtomicRmwAdd {
+        let op = SharedOperator::GlobalAtomicRmwAdd {
             ordering,
             global_index,
-        })
+        };
+        let access = AtomicAccess::Modifies;
+        let checked = check_global_access(self.inner, self.resources, op, access, global_index);
+        self.tell(checked)
     }
 
     fn visit_global_atomic_rmw_sub(&mut self, ordering: Ordering, global_index: u32) -> A::Output {
-        self.shared(SharedOperator::GlobalAtomicRmwSub {
+        let op = SharedOperator::GlobalAtomicRmwSub {
             ordering,
             global_index,
-        })
+        };
+        let access = AtomicAccess::Modifies;
+        let checked = check_global_access(self.inner, self.resources, op, access, global_index);
+        self.tell(checked)
     }
 
     fn visit_global_atomic_rmw_and(&mut self, ordering: Ordering, global_index: u32) -> A::Output {
-        self.shared(SharedOperator::GlobalAtomicRmwAnd {
+        let op = SharedOperator::GlobalAtomicRmwAnd {
             ordering,
             global_index,
-        })
+        };
+        let access = AtomicAccess::Modifies;
+        let checked = check_global_access(self.inner, self.resources, op, access, global_index);
+        self.tell(checked)
     }
 
     fn visit_global_atomic_rmw_or(&mut self, ordering: Ordering, global_index: u32) -> A::Output {
-        self.shared(SharedOperator::GlobalAtomicRmwOr {
+        let op = SharedOperator::GlobalAtomicRmwOr {
             ordering,
             global_index,
-        })
+        };
+        let access = AtomicAccess::Modifies;
+        let checked = check_global_access(self.inner, self.resources, op, access, global_index);
+        self.tell(checked)
     }
 
     fn visit_global_atomic_rmw_xor(&mut self, ordering: Ordering, global_index: u32) -> A::Output {
-        self.shared(SharedOperator::GlobalAtomicRmwXor {
+        let op = SharedOperator::GlobalAtomicRmwXor {
             ordering,
             global_index,
-        })
+        };
+        let access = AtomicAccess::Modifies;
+        let checked = check_global_access(self.inner, self.resources, op, access, global_index);
+        self.tell(checked)
     }
 
     fn visit_global_atomic_rmw_xchg(&mut self, ordering: Ordering, global_index: u32) -> A::Output {
-        self.shared(SharedOperator::GlobalAtomicRmwXchg {
+        let op = SharedOperator::GlobalAtomicRmwXchg {
             ordering,
             global_index,
-        })
+        };
+        let access = AtomicAccess::Exchanges;
+        let checked = check_global_access(self.inner, self.resources, op, access, global_index);
+        self.tell(checked)
     }
 
     fn visit_global_atomic_rmw_cmpxchg(
@@ -68,31 +96,43 @@ impl<'a, 'v, 'r, R: WasmModuleResources, A: AnswerAs> VisitShared<'a>
         ordering: Ordering,
         global_index: u32,
     ) -> A::Output {
-        self.shared(SharedOperator::GlobalAtomicRmwCmpxchg {
+        let op = SharedOperator::GlobalAtomicRmwCmpxchg {
             ordering,
             global_index,
-        })
+        };
+        let access = AtomicAccess::Compares;
+        let checked = check_global_access(self.inner, self.resources, op, access, global_index);
+        self.tell(checked)
     }
 
     fn visit_table_atomic_get(&mut self, ordering: Ordering, table_index: u32) -> A::Output {
-        self.shared(SharedOperator::TableAtomicGet {
+        let op = SharedOperator::TableAtomicGet {
             ordering,
             table_index,
-        })
+        };
+        let access = AtomicAccess::Reads;
+        let checked = check_table_access(self.inner, self.resources, op, access, table_index);
+        self.tell(checked)
     }
 
     fn visit_table_atomic_set(&mut self, ordering: Ordering, table_index: u32) -> A::Output {
-        self.shared(SharedOperator::TableAtomicSet {
+        let op = SharedOperator::TableAtomicSet {
             ordering,
             table_index,
-        })
+        };
+        let access = AtomicAccess::Writes;
+        let checked = check_table_access(self.inner, self.resources, op, access, table_index);
+        self.tell(checked)
     }
 
     fn visit_table_atomic_rmw_xchg(&mut self, ordering: Ordering, table_index: u32) -> A::Output {
-        self.shared(SharedOperator::TableAtomicRmwXchg {
+        let op = SharedOperator::TableAtomicRmwXchg {
             ordering,
             table_index,
-        })
+        };
+        let access = AtomicAccess::Exchanges;
+        let checked = check_table_access(self.inner, self.resources, op, access, table_index);
+        self.tell(checked)
     }
 
     fn visit_table_atomic_rmw_cmpxchg(
@@ -100,10 +140,13 @@ impl<'a, 'v, 'r, R: WasmModuleResources, A: AnswerAs> VisitShared<'a>
         ordering: Ordering,
         table_index: u32,
     ) -> A::Output {
-        self.shared(SharedOperator::TableAtomicRmwCmpxchg {
+        let op = SharedOperator::TableAtomicRmwCmpxchg {
             ordering,
             table_index,
-        })
+        };
+        let access = AtomicAccess::Compares;
+        let checked = check_table_access(self.inner, self.resources, op, access, table_index);
+        self.tell(checked)
     }
 
     fn visit_struct_atomic_get(
@@ -112,11 +155,21 @@ impl<'a, 'v, 'r, R: WasmModuleResources, A: AnswerAs> VisitShared<'a>
         struct_type_index: u32,
         field_index: u32,
     ) -> A::Output {
-        self.shared(SharedOperator::StructAtomicGet {
+        let op = SharedOperator::StructAtomicGet {
             ordering,
             struct_type_index,
             field_index,
-        })
+        };
+        let access = AtomicAccess::Reads;
+        let checked = check_field_access(
+            self.inner,
+            self.resources,
+            op,
+            access,
+            struct_type_index,
+            field_index,
+        );
+        self.tell(checked)
     }
 
     fn visit_struct_atomic_get_s(
@@ -125,11 +178,21 @@ impl<'a, 'v, 'r, R: WasmModuleResources, A: AnswerAs> VisitShared<'a>
         struct_type_index: u32,
         field_index: u32,
     ) -> A::Output {
-        self.shared(SharedOperator::StructAtomicGetS {
+        let op = SharedOperator::StructAtomicGetS {
             ordering,
             struct_type_index,
             field_index,
-        })
+        };
+        let access = AtomicAccess::ReadsPacked;
+        let checked = check_field_access(
+            self.inner,
+            self.resources,
+            op,
+            access,
+            struct_type_index,
+            field_index,
+        );
+        self.tell(checked)
     }
 
     fn visit_struct_atomic_get_u(
@@ -138,11 +201,21 @@ impl<'a, 'v, 'r, R: WasmModuleResources, A: AnswerAs> VisitShared<'a>
         struct_type_index: u32,
         field_index: u32,
     ) -> A::Output {
-        self.shared(SharedOperator::StructAtomicGetU {
+        let op = SharedOperator::StructAtomicGetU {
             ordering,
             struct_type_index,
             field_index,
-        })
+        };
+        let access = AtomicAccess::ReadsPacked;
+        let checked = check_field_access(
+            self.inner,
+            self.resources,
+            op,
+            access,
+            struct_type_index,
+            field_index,
+        );
+        self.tell(checked)
     }
 
     fn visit_struct_atomic_set(
@@ -151,11 +224,21 @@ impl<'a, 'v, 'r, R: WasmModuleResources, A: AnswerAs> VisitShared<'a>
         struct_type_index: u32,
         field_index: u32,
     ) -> A::Output {
-        self.shared(SharedOperator::StructAtomicSet {
+        let op = SharedOperator::StructAtomicSet {
             ordering,
             struct_type_index,
             field_index,
-        })
+        };
+        let access = AtomicAccess::Writes;
+        let checked = check_field_access(
+            self.inner,
+            self.resources,
+            op,
+            access,
+            struct_type_index,
+            field_index,
+        );
+        self.tell(checked)
     }
 
     fn visit_struct_atomic_rmw_add(
@@ -164,11 +247,21 @@ impl<'a, 'v, 'r, R: WasmModuleResources, A: AnswerAs> VisitShared<'a>
         struct_type_index: u32,
         field_index: u32,
     ) -> A::Output {
-        self.shared(SharedOperator::StructAtomicRmwAdd {
+        let op = SharedOperator::StructAtomicRmwAdd {
             ordering,
             struct_type_index,
             field_index,
-        })
+        };
+        let access = AtomicAccess::Modifies;
+        let checked = check_field_access(
+            self.inner,
+            self.resources,
+            op,
+            access,
+            struct_type_index,
+            field_index,
+        );
+        self.tell(checked)
     }
 
     fn visit_struct_atomic_rmw_sub(
@@ -177,11 +270,21 @@ impl<'a, 'v, 'r, R: WasmModuleResources, A: AnswerAs> VisitShared<'a>
         struct_type_index: u32,
         field_index: u32,
     ) -> A::Output {
-        self.shared(SharedOperator::StructAtomicRmwSub {
+        let op = SharedOperator::StructAtomicRmwSub {
             ordering,
             struct_type_index,
             field_index,
-        })
+        };
+        let access = AtomicAccess::Modifies;
+        let checked = check_field_access(
+            self.inner,
+            self.resources,
+            op,
+            access,
+            struct_type_index,
+            field_index,
+        );
+        self.tell(checked)
     }
 
     fn visit_struct_atomic_rmw_and(
@@ -190,11 +293,21 @@ impl<'a, 'v, 'r, R: WasmModuleResources, A: AnswerAs> VisitShared<'a>
         struct_type_index: u32,
         field_index: u32,
     ) -> A::Output {
-        self.shared(SharedOperator::StructAtomicRmwAnd {
+        let op = SharedOperator::StructAtomicRmwAnd {
             ordering,
             struct_type_index,
             field_index,
-        })
+        };
+        let access = AtomicAccess::Modifies;
+        let checked = check_field_access(
+            self.inner,
+            self.resources,
+            op,
+            access,
+            struct_type_index,
+            field_index,
+        );
+        self.tell(checked)
     }
 
     fn visit_struct_atomic_rmw_or(
@@ -203,11 +316,21 @@ impl<'a, 'v, 'r, R: WasmModuleResources, A: AnswerAs> VisitShared<'a>
         struct_type_index: u32,
         field_index: u32,
     ) -> A::Output {
-        self.shared(SharedOperator::StructAtomicRmwOr {
+        let op = SharedOperator::StructAtomicRmwOr {
             ordering,
             struct_type_index,
             field_index,
-        })
+        };
+        let access = AtomicAccess::Modifies;
+        let checked = check_field_access(
+            self.inner,
+            self.resources,
+            op,
+            access,
+            struct_type_index,
+            field_index,
+        );
+        self.tell(checked)
     }
 
     fn visit_struct_atomic_rmw_xor(
@@ -216,11 +339,21 @@ impl<'a, 'v, 'r, R: WasmModuleResources, A: AnswerAs> VisitShared<'a>
         struct_type_index: u32,
         field_index: u32,
     ) -> A::Output {
-        self.shared(SharedOperator::StructAtomicRmwXor {
+        let op = SharedOperator::StructAtomicRmwXor {
             ordering,
             struct_type_index,
             field_index,
-        })
+        };
+        let access = AtomicAccess::Modifies;
+        let checked = check_field_access(
+            self.inner,
+            self.resources,
+            op,
+            access,
+            struct_type_index,
+            field_index,
+        );
+        self.tell(checked)
     }
 
     fn visit_struct_atomic_rmw_xchg(
@@ -229,11 +362,21 @@ impl<'a, 'v, 'r, R: WasmModuleResources, A: AnswerAs> VisitShared<'a>
         struct_type_index: u32,
         field_index: u32,
     ) -> A::Output {
-        self.shared(SharedOperator::StructAtomicRmwXchg {
+        let op = SharedOperator::StructAtomicRmwXchg {
             ordering,
             struct_type_index,
             field_index,
-        })
+        };
+        let access = AtomicAccess::Exchanges;
+        let checked = check_field_access(
+            self.inner,
+            self.resources,
+            op,
+            access,
+            struct_type_index,
+            field_index,
+        );
+        self.tell(checked)
     }
 
     fn visit_struct_atomic_rmw_cmpxchg(
@@ -242,39 +385,85 @@ impl<'a, 'v, 'r, R: WasmModuleResources, A: AnswerAs> VisitShared<'a>
         struct_type_index: u32,
         field_index: u32,
     ) -> A::Output {
-        self.shared(SharedOperator::StructAtomicRmwCmpxchg {
+        let op = SharedOperator::StructAtomicRmwCmpxchg {
             ordering,
             struct_type_index,
             field_index,
-        })
+        };
+        let access = AtomicAccess::Compares;
+        let checked = check_field_access(
+            self.inner,
+            self.resources,
+            op,
+            access,
+            struct_type_index,
+            field_index,
+        );
+        self.tell(checked)
     }
 
     fn visit_array_atomic_get(&mut self, ordering: Ordering, array_type_index: u32) -> A::Output {
-        self.shared(SharedOperator::ArrayAtomicGet {
+        let op = SharedOperator::ArrayAtomicGet {
             ordering,
             array_type_index,
-        })
+        };
+        let access = AtomicAccess::Reads;
+        let checked = check_element_access(
+            self.inner,
+            self.resources,
+            op,
+            access,
+            array_type_index,
+        );
+        self.tell(checked)
     }
 
     fn visit_array_atomic_get_s(&mut self, ordering: Ordering, array_type_index: u32) -> A::Output {
-        self.shared(SharedOperator::ArrayAtomicGetS {
+        let op = SharedOperator::ArrayAtomicGetS {
             ordering,
             array_type_index,
-        })
+        };
+        let access = AtomicAccess::ReadsPacked;
+        let checked = check_element_access(
+            self.inner,
+            self.resources,
+            op,
+            access,
+            array_type_index,
+        );
+        self.tell(checked)
     }
 
     fn visit_array_atomic_get_u(&mut self, ordering: Ordering, array_type_index: u32) -> A::Output {
-        self.shared(SharedOperator::ArrayAtomicGetU {
+        let op = SharedOperator::ArrayAtomicGetU {
             ordering,
             array_type_index,
-        })
+        };
+        let access = AtomicAccess::ReadsPacked;
+        let checked = check_element_access(
+            self.inner,
+            self.resources,
+            op,
+            access,
+            array_type_index,
+        );
+        self.tell(checked)
     }
 
     fn visit_array_atomic_set(&mut self, ordering: Ordering, array_type_index: u32) -> A::Output {
-        self.shared(SharedOperator::ArrayAtomicSet {
+        let op = SharedOperator::ArrayAtomicSet {
             ordering,
             array_type_index,
-        })
+        };
+        let access = AtomicAccess::Writes;
+        let checked = check_element_access(
+            self.inner,
+            self.resources,
+            op,
+            access,
+            array_type_index,
+        );
+        self.tell(checked)
     }
 
     fn visit_array_atomic_rmw_add(
@@ -282,10 +471,19 @@ impl<'a, 'v, 'r, R: WasmModuleResources, A: AnswerAs> VisitShared<'a>
         ordering: Ordering,
         array_type_index: u32,
     ) -> A::Output {
-        self.shared(SharedOperator::ArrayAtomicRmwAdd {
+        let op = SharedOperator::ArrayAtomicRmwAdd {
             ordering,
             array_type_index,
-        })
+        };
+        let access = AtomicAccess::Modifies;
+        let checked = check_element_access(
+            self.inner,
+            self.resources,
+            op,
+            access,
+            array_type_index,
+        );
+        self.tell(checked)
     }
 
     fn visit_array_atomic_rmw_sub(
@@ -293,10 +491,19 @@ impl<'a, 'v, 'r, R: WasmModuleResources, A: AnswerAs> VisitShared<'a>
         ordering: Ordering,
         array_type_index: u32,
     ) -> A::Output {
-        self.shared(SharedOperator::ArrayAtomicRmwSub {
+        let op = SharedOperator::ArrayAtomicRmwSub {
             ordering,
             array_type_index,
-        })
+        };
+        let access = AtomicAccess::Modifies;
+        let checked = check_element_access(
+            self.inner,
+            self.resources,
+            op,
+            access,
+            array_type_index,
+        );
+        self.tell(checked)
     }
 
     fn visit_array_atomic_rmw_and(
@@ -304,10 +511,19 @@ impl<'a, 'v, 'r, R: WasmModuleResources, A: AnswerAs> VisitShared<'a>
         ordering: Ordering,
         array_type_index: u32,
     ) -> A::Output {
-        self.shared(SharedOperator::ArrayAtomicRmwAnd {
+        let op = SharedOperator::ArrayAtomicRmwAnd {
             ordering,
             array_type_index,
-        })
+        };
+        let access = AtomicAccess::Modifies;
+        let checked = check_element_access(
+            self.inner,
+            self.resources,
+            op,
+            access,
+            array_type_index,
+        );
+        self.tell(checked)
     }
 
     fn visit_array_atomic_rmw_or(
@@ -315,10 +531,19 @@ impl<'a, 'v, 'r, R: WasmModuleResources, A: AnswerAs> VisitShared<'a>
         ordering: Ordering,
         array_type_index: u32,
     ) -> A::Output {
-        self.shared(SharedOperator::ArrayAtomicRmwOr {
+        let op = SharedOperator::ArrayAtomicRmwOr {
             ordering,
             array_type_index,
-        })
+        };
+        let access = AtomicAccess::Modifies;
+        let checked = check_element_access(
+            self.inner,
+            self.resources,
+            op,
+            access,
+            array_type_index,
+        );
+        self.tell(checked)
     }
 
     fn visit_array_atomic_rmw_xor(
@@ -326,10 +551,19 @@ impl<'a, 'v, 'r, R: WasmModuleResources, A: AnswerAs> VisitShared<'a>
         ordering: Ordering,
         array_type_index: u32,
     ) -> A::Output {
-        self.shared(SharedOperator::ArrayAtomicRmwXor {
+        let op = SharedOperator::ArrayAtomicRmwXor {
             ordering,
             array_type_index,
-        })
+        };
+        let access = AtomicAccess::Modifies;
+        let checked = check_element_access(
+            self.inner,
+            self.resources,
+            op,
+            access,
+            array_type_index,
+        );
+        self.tell(checked)
     }
 
     fn visit_array_atomic_rmw_xchg(
@@ -337,10 +571,19 @@ impl<'a, 'v, 'r, R: WasmModuleResources, A: AnswerAs> VisitShared<'a>
         ordering: Ordering,
         array_type_index: u32,
     ) -> A::Output {
-        self.shared(SharedOperator::ArrayAtomicRmwXchg {
+        let op = SharedOperator::ArrayAtomicRmwXchg {
             ordering,
             array_type_index,
-        })
+        };
+        let access = AtomicAccess::Exchanges;
+        let checked = check_element_access(
+            self.inner,
+            self.resources,
+            op,
+            access,
+            array_type_index,
+        );
+        self.tell(checked)
     }
 
     fn visit_array_atomic_rmw_cmpxchg(
@@ -348,13 +591,23 @@ impl<'a, 'v, 'r, R: WasmModuleResources, A: AnswerAs> VisitShared<'a>
         ordering: Ordering,
         array_type_index: u32,
     ) -> A::Output {
-        self.shared(SharedOperator::ArrayAtomicRmwCmpxchg {
+        let op = SharedOperator::ArrayAtomicRmwCmpxchg {
             ordering,
             array_type_index,
-        })
+        };
+        let access = AtomicAccess::Compares;
+        let checked = check_element_access(
+            self.inner,
+            self.resources,
+            op,
+            access,
+            array_type_index,
+        );
+        self.tell(checked)
     }
 
     fn visit_ref_i31_shared(&mut self) -> A::Output {
-        self.shared(SharedOperator::RefI31Shared)
+        let checked = check_ref_i31_shared(self.inner, self.resources);
+        self.tell(checked)
     }
 }

@@ -1,6 +1,7 @@
 -- While the switch is off typed code has no operators on vectors: these have no rows then.
 use Rattle.std.proofs.Common.{◌≡◌, ◌∙◌, List, [], ◌∷◌, ◌++◌, Bool, Option, Some, None, false, refl, sym, ap, subst, if◌then◌else◌}
 use Rattle.wasm_operators_immediates.specs.declared.frames.FrameKind.{FrameKind}
+use Rattle.wasm_operators_immediates.specs.declared.frames.FrameKind.TheVariants as frames
 use Rattle.wasm_operators_enums.specs.Op as op
 use Rattle.wasm_operators_enums.specs.Op.{Op}
 use Rattle.wasm_operators_enums.specs.declared.role.Role.{Role}
@@ -12,12 +13,14 @@ use Rattle.wasm_operators_reader.specs.visit_operator.Vectors.{is_simd}
 use Rattle.wasm_operators_encoding.specs.expressions.Code.{Code, close, plain, nested, turn, walk, IsIn}
 use Rattle.wasm_operators_reader.specs.Walking.{HasNoVectors}
 use Rattle.wasm_operator_validator_rules.specs.Operands.{Operand, stack}
-use Rattle.wasm_operator_validator_rules.specs.Context.{Context, Initialised, Frame, inside, label_of}
+use Rattle.wasm_operator_validator_rules.specs.Context.{Context, Initialised, Frame, inside, label_of, initialised_at_first}
 use Rattle.wasm_types.specs.settings.Features.{judges_vectors}
+use Rattle.wasm_types_settings.proofs.SetLaws.{asked_apart}
 use Rattle.wasm_operator_validator_rules.specs.InstructionTypes.{InstructionType, where_vectors}
 use Rattle.wasm_operator_validator_rules.specs.Row.{Row, after}
 use Rattle.wasm_operator_validator_rules.specs.Typed.{Typed, other_part, in_part}
 use Rattle.wasm_operator_validator_state.specs.resources.Meaning.{Meaning}
+use Rattle.wasm_operator_validator_expression.specs.Unasked.{BodiesHaveNoVectors, AcceptedHaveNoVectors}
 use Rattle.wasm_operator_validator_state.specs.State.{Given, Open, State, ClosesAll, Accepts, results, initialised, context, frame_of}
 
 unswitched : (g : Context) (t : Option InstructionType) → judges_vectors g.bits ≡ false → where_vectors g t ≡ None
@@ -115,3 +118,14 @@ closing_no_vectors m w pushed (o ∷ outer) set os off (s, covers, (c, rest, i, 
 -- what may come has none
 pub accepted_no_vectors : (m : Meaning) (σ : State) (os : List Op) → judges_vectors σ.given.bits ≡ false → Accepts m σ os → HasNoVectors os
 accepted_no_vectors m σ os off (f, x) = closing_no_vectors m σ.given [] σ.opens (initialised m σ.given σ.inits) os off x
+
+pub accepted_have_no_vectors : AcceptedHaveNoVectors
+accepted_have_no_vectors m σ os below = accepted_no_vectors m σ os (asked_apart σ.given.bits below)
+
+pub bodies_have_no_vectors : BodiesHaveNoVectors
+bodies_have_no_vectors g params c below h = typed_no_vectors (inside frames.Block g.results g) (record {
+  kind = frames.Block;
+  block = record { params = []; results = g.results };
+  before =
+      initialised_at_first params g.locals;
+}) (initialised_at_first params g.locals) frames.Block c [] (asked_apart g.bits below) h.expression h.typed

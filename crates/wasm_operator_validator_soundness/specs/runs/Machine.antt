@@ -1,7 +1,7 @@
 -- How a module runs (WebAssembly 3.0, execution), over all activations at once. Whatever the standard computes from bits, memories
 -- or contents is an answer that comes from outside, and has to fit the type that it is said to have. Each operator says which
--- values it takes, which answers fit, and what comes of it. Operators on numbers, constants and accesses to memories say it by their names
--- (`Names`). Of the rules' tables none is used.
+-- values it takes, which answers fit, and what comes of it. Operators on numbers and vectors, constants and accesses to memories say it by
+-- their names (`Names`). Of the rules' tables none is used.
 use Rattle.std.specs.Prelude.{All, flat_map, ◌≡◌, ◌<◌, ℕ, zero, suc, Bool, true, false, IsTrue, not, ◌&&◌, List, [], ◌∷◌, ◌++◌, length, map, reverse, take, drop, replicate, get_or, Option, Some, None, option_map, slice_get, slice_set, if◌then◌else◌}
 use Rattle.wasm_types.specs.trees.Types.{number, StorageOf, i8, i16, value, i32, i64, Abstract, extern, any, none, eq, array, i31, exn, HeapOf, abstract, concrete, ref, exact, ValueOf}
 use Rattle.wasm_types.specs.trees.Types.{FieldOf, InnerOf, array_of, struct_of}
@@ -19,6 +19,7 @@ use Rattle.wasm_operators_immediates.specs.declared.block.BlockType.{BlockType}
 use Rattle.wasm_operators_immediates.specs.declared.block.BlockType.TheVariants as block
 use Rattle.wasm_operators_immediates.specs.declared.handlers.Catch.{Catch}
 use Rattle.wasm_operators_immediates.specs.declared.handlers.Catch.TheVariants as catch
+use Rattle.wasm_operators_immediates.specs.declared.memory.MemArg.{MemArg}
 use Rattle.wasm_operators_enums.specs.declared.control.ControlOperator.{ControlOperator}
 use Rattle.wasm_operators_enums.specs.declared.control.ControlOperator.TheVariants as control
 use Rattle.wasm_operators_enums.specs.declared.memory.MemoryOperator.{MemoryOperator}
@@ -413,7 +414,7 @@ module _ (p : Program) (a : Answer) where
     abbrev pub exchange : List ValueType → List ValueType → Code → Move
     exchange ts us more = takes ts vs (λ xs ws. may_trap (gives us (λ rs. goes (rs ++ ws) more)))
 
-    -- an operator on numbers or a constant, and an access to a memory above an address, by their names
+    -- an operator on numbers or vectors or a constant, and an access to a memory above an address, by their names
     abbrev pub compute : Op → Code → Move
     compute o more = found (computed (info_of o).name) (λ n. exchange (numbers n.takes) (numbers n.gives) more)
 
@@ -717,7 +718,13 @@ module _ (p : Program) (a : Answer) where
     operate_gc gc.I31GetS more = number_from i31 IsUnboxed more
     operate_gc gc.I31GetU more = number_from i31 IsUnboxed more
 
-    -- ---- all of them; vectors and operators of the three proposals that are not standard have no rule
+    -- ---- vectors: an operator reaches into a memory if it carries an argument for that, and else it computes
+
+    abbrev pub operate_vector : Option MemArg → Op → Code → Move
+    operate_vector None o more = compute o more
+    operate_vector (Some i) o more = access o more
+
+    -- ---- all of them; operators of the three proposals that are not standard have no rule
 
     abbrev pub operate : Op → Code → Move
     operate (op.Control o) more = operate_control o more
@@ -728,6 +735,8 @@ module _ (p : Program) (a : Answer) where
     operate (op.Gc o) more = operate_gc o more
     operate (op.Const o) more = compute (op.Const o) more
     operate (op.Numeric o) more = compute (op.Numeric o) more
+    operate (op.Simd o) more = operate_vector (argument_of (immediates_of (op.Simd o))) (op.Simd o) more
+    operate (op.SimdNumeric o) more = compute (op.SimdNumeric o) more
     operate (op.Atomic o) more = operate_atomic o more
     operate o more = stop
 

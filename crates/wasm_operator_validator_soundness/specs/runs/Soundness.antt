@@ -110,6 +110,11 @@ abbrev pub ProgramsAreSound : Type 0
 ProgramsAreSound = (p : Program) (s : State) (results : List ValueType) → IsValidProgram p → IsStarted p s results
     → IsNeverStuck p results s
 
+-- At each place of such a run all fits.
+abbrev pub ProgramsStayValid : Type 0
+ProgramsStayValid = (p : Program) (s : State) (results : List ValueType) → IsValidProgram p → IsStarted p s results
+    → StaysValid p results s
+
 -- ---- one step (appendix, soundness, theorems: preservation and progress)
 
 -- From a state in which all fits, a step under an answer has what it needs, and comes to such a state again or ends well.

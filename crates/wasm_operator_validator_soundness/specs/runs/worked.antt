@@ -4,3 +4,6 @@ pub mod Sums
 pub mod Caught
 pub mod Objects
 pub mod Older
+pub mod Branching
+pub mod Segments
+pub mod Vectors

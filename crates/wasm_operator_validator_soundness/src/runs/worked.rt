@@ -1,12 +1,16 @@
 //! Worked runs and stuck states.
 
 ghost use Rattle.std.specs.Prelude.{ℤ};
+ghost use Rattle.wasm_operators_immediates.specs.declared.vector.V128.{V128};
+ghost use Rattle.wasm_operator_validator_soundness.specs.runs.worked.Branching.{BranchingWorked};
 ghost use Rattle.wasm_operator_validator_soundness.specs.runs.worked.Caught.{CaughtWorked};
 ghost use Rattle.wasm_operator_validator_soundness.specs.runs.worked.Objects.{ObjectsWorked};
 ghost use Rattle.wasm_operator_validator_soundness.specs.runs.worked.Older.{OlderWorked};
 ghost use Rattle.wasm_operator_validator_soundness.specs.runs.worked.Runs.{RunsWorked};
+ghost use Rattle.wasm_operator_validator_soundness.specs.runs.worked.Segments.{SegmentsWorked};
 ghost use Rattle.wasm_operator_validator_soundness.specs.runs.worked.Stuck.{PlacesWorked, StuckWorked};
 ghost use Rattle.wasm_operator_validator_soundness.specs.runs.worked.Sums.{SumsWorked};
+ghost use Rattle.wasm_operator_validator_soundness.specs.runs.worked.Vectors.{VectorsWorked};
 
 /// What some code comes to: it returns, throws or traps, after calls, tail calls and exceptions that callers catch.
 pub fn runs_are_worked()
@@ -39,4 +43,20 @@ pub fn objects_are_worked()
 /// functions, a local, a global and a constant.
 pub fn older_is_worked()
     ensures { (x : ℤ) → OlderWorked x }
+{}
+
+/// Runs of a valid program with a loop that a table of labels decides, a cast that decides a branch, and an exception that is thrown
+/// again, by a reference and by an older clause.
+pub fn branching_is_worked()
+    ensures { (x : ℤ) → BranchingWorked x }
+{}
+
+/// Runs of a valid program with a memory and segments, from which bytes and references come, and copies between arrays.
+pub fn segments_are_worked()
+    ensures { (x : ℤ) → SegmentsWorked x }
+{}
+
+/// Runs of a valid program with vectors, by features that have the switch for them.
+pub fn vectors_are_worked()
+    ensures { (x : ℤ) (c : V128) → VectorsWorked x c }
 {}

@@ -22,7 +22,7 @@ returns-in-Err-end g c =
     let until = rw c.in-Err-end.is at c.in-Ok.ensures.ended in
     ends_at_operator g.V.Visitor.visits g.V.ValidatingConstants.around g.V.ValidatingConstants.state met.visited
     c.args.reader c.args.visitor.now c.requires.going c.tell_whole_with_offset.new.visitor
-    c.in-Err-end.last.0 c.constant_error_at-refusal.result c.in-Err-end.last.1 until c.constant_error_at-refusal.ensures.kind c.constant_error_at-refusal.ensures.at
+    c.in-Err-end.last.0 c.error-refusal.result c.in-Err-end.last.1 until c.error-refusal.ensures.kind c.error-refusal.ensures.at
 
 pub returns-then-not-is_done : goal.returns-then-not-is_done
 returns-then-not-is_done g c =

@@ -27,19 +27,19 @@ pub returns-in-Err-end-clause-validates : goal.returns-in-Err-end-clause-validat
 returns-in-Err-end-clause-validates g c =
     let met = g.met.V.Validating c.lifetimes (assumption c) in
     let until = rw c.in-Err-end.is at c.in-Ok.ensures.ended in
-    let kind = rw c.refusal.ensures at c.error_at-refusal.ensures.kind in
+    let kind = rw c.refusal.ensures at c.error-refusal.ensures.kind in
     (ends_at_operator g.V.Visitor.visits g.V.Validating.meaning g.V.Validating.state g.V.Validating.why g.V.Validating.keeps met.visited met.kept
     met.stays met.through c.args.reader c.args.visitor.now (sym c.if-has_failed.ensures) c.tell_whole_with_offset.new.visitor
-    c.in-Err-end.last.0 c.error_at-refusal.result c.in-Err-end.last.1 until kind c.error_at-refusal.ensures.at).0
+    c.in-Err-end.last.0 c.error-refusal.result c.in-Err-end.last.1 until kind c.error-refusal.ensures.at).0
 
 pub returns-in-Err-end-clause-keeps : goal.returns-in-Err-end-clause-keeps
 returns-in-Err-end-clause-keeps g c =
     let met = g.met.V.Validating c.lifetimes (assumption c) in
     let until = rw c.in-Err-end.is at c.in-Ok.ensures.ended in
-    let kind = rw c.refusal.ensures at c.error_at-refusal.ensures.kind in
+    let kind = rw c.refusal.ensures at c.error-refusal.ensures.kind in
     (ends_at_operator g.V.Visitor.visits g.V.Validating.meaning g.V.Validating.state g.V.Validating.why g.V.Validating.keeps met.visited met.kept
     met.stays met.through c.args.reader c.args.visitor.now (sym c.if-has_failed.ensures) c.tell_whole_with_offset.new.visitor
-    c.in-Err-end.last.0 c.error_at-refusal.result c.in-Err-end.last.1 until kind c.error_at-refusal.ensures.at).1
+    c.in-Err-end.last.0 c.error-refusal.result c.in-Err-end.last.1 until kind c.error-refusal.ensures.at).1
 
 pub returns-then-not-is_done-clause-validates : goal.returns-then-not-is_done-clause-validates
 returns-then-not-is_done-clause-validates g c =

@@ -32,6 +32,7 @@ use Rattle.wasm_operator_validator_rules.specs.arity.Exchanges.{Standing, IsCoun
 use Rattle.wasm_operator_validator_rules.specs.arity.laws.Exceptions.{tag_counted, exception_counted}
 use Rattle.wasm_operator_validator_rules.specs.arity.laws.Lookups.{named_is, used_is, function_is, one_more}
 use Rattle.wasm_operator_validator_rules.specs.arity.laws.Objects.{gc_counted}
+use Rattle.wasm_operator_validator_rules.specs.arity.laws.Proposals.{descriptor_counted, shared_counted, continuation_operator_counted}
 use Rattle.wasm_operator_validator_rules.specs.arity.laws.Counting.{known_length, below_length, takes_counted, table_counted, type_counted, label_is, results_are, innermost_is, Counted, Measures, some_measures, provided_measures, named_measures, used_measures}
 
 -- ---- numbers
@@ -220,12 +221,12 @@ group_counted k g fs a set (op.Numeric o) i p q r =
     inl (table_counted g (op.Numeric o) (just (length ts) (length us)) (length (numbers ts)) (length (numbers us)) p q (some_measures (numbers ts ⟶ numbers us)) e r)
 group_counted k g fs a set (op.Bulk o) i p q r = inl (bulk_counted k g o p q r)
 group_counted k g fs a set (op.Gc o) i p q r = inl (gc_counted k g fs a o p q r)
-group_counted k g fs a set (op.Descriptor o) i p q r = absurd (no_type g (op.Descriptor o) p q refl r)
+group_counted k g fs a set (op.Descriptor o) i p q r = inl (descriptor_counted k g fs a o p q r)
 group_counted k g fs a set (op.Simd o) i p q r = absurd i
 group_counted k g fs a set (op.SimdNumeric o) i p q r = absurd i
 group_counted k g fs a set (op.Atomic o) i p q r = inl (atomic_counted k g o p q r)
-group_counted k g fs a set (op.Shared o) i p q r = absurd (no_type g (op.Shared o) p q refl r)
-group_counted k g fs a set (op.Continuation o) i p q r = absurd (no_type g (op.Continuation o) p q refl r)
+group_counted k g fs a set (op.Shared o) i p q r = inl (shared_counted k g o p q r)
+group_counted k g fs a set (op.Continuation o) i p q r = inl (continuation_operator_counted k g o p q a.«module» r)
 
 -- ---- the shortest row
 

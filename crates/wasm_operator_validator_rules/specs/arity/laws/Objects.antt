@@ -44,14 +44,14 @@ struct_is (continuation f) xs e = absurd cc
 abbrev struct_with : TypeTree → List (FieldOf TypeTree) → Struct
 struct_with t xs = record { type = t; fields = xs }
 
-struct_counted : (g : Context) (x : ℕ) (s : Struct) → struct_named g x ≡ Some s
+pub struct_counted : (g : Context) (x : ℕ) (s : Struct) → struct_named g x ≡ Some s
     → struct_size (slice_get g.«module».types x) ≡ Some (length s.fields)
 struct_counted g x s e =
     let t = and_then_is (used_type g x) (λ u. option_map (struct_with u) (as_struct (expanded u))) s e in
     let xs = map_is (as_struct (expanded t.0)) (struct_with t.0) s t.2 in
     ap struct_size (used_is g x t.0 t.1) ∙ struct_is (expanded t.0) xs.0 xs.1 ∙ ap (λ (y : Struct). Some (length y.fields)) xs.2
 
-operands_length : (xs : List (FieldOf TypeTree)) → length (operands_for xs) ≡ length xs
+pub operands_length : (xs : List (FieldOf TypeTree)) → length (operands_for xs) ≡ length xs
 operands_length [] = refl
 operands_length (x ∷ xs) = ap (λ n. suc n) (operands_length xs)
 
@@ -80,21 +80,21 @@ cast_measures g h f =
 -- ---- instruction types of places
 
 -- so many operands reach a place, if it is there
-abbrev IsReachedBy : Option Place → ℕ → Type 0
+abbrev pub IsReachedBy : Option Place → ℕ → Type 0
 IsReachedBy o n = (p : Place) → o ≡ Some p → length p.reached_by ≡ n
 
 mapped : {A : Type 0} (o : Option A) (f : A → Place) (n : ℕ) → ((x : A) → length (f x).reached_by ≡ n) → IsReachedBy (option_map f o) n
 mapped None f n h p e = absurd cc
 mapped (Some x) f n h p e = let i : f x ≡ p = cc in sym (ap (λ (y : Place). length y.reached_by) i) ∙ h x
 
-looked_up : {A : Type 0} (o : Option A) (f : A → Option Place) (n : ℕ) → ((x : A) → IsReachedBy (f x) n) → IsReachedBy (option_and_then f o) n
+pub looked_up : {A : Type 0} (o : Option A) (f : A → Option Place) (n : ℕ) → ((x : A) → IsReachedBy (f x) n) → IsReachedBy (option_and_then f o) n
 looked_up None f n h p e = absurd cc
 looked_up (Some x) f n h p e = h x p e
 
-field_reached : (g : Context) (x i : ℕ) → IsReachedBy (field_place g x i) 1
+pub field_reached : (g : Context) (x i : ℕ) → IsReachedBy (field_place g x i) 1
 field_reached g x i = looked_up (struct_named g x) _ 1 (λ s. mapped (slice_get s.fields i) _ 1 (λ y. refl))
 
-element_reached : (g : Context) (x : ℕ) → IsReachedBy (element_place g x) 2
+pub element_reached : (g : Context) (x : ℕ) → IsReachedBy (element_place g x) 2
 element_reached g x = mapped (array_named g x) _ 2 (λ a. refl)
 
 place_measures : (o : Option Place) (f : Place → Option InstructionType) (n m c : ℕ) → IsReachedBy o n

@@ -1,0 +1,40 @@
+use Rattle.std.proofs.Common.{[], ◌∷◌, ◌++◌, false, true}
+use Rattle.wasm_operators_enums.specs.Op as op
+use Rattle.wasm_operator_validator_state.specs.Refusals.{refused, kind_of}
+use Rattle.wasm_operator_validator_resources.specs.Meaning.{type_in}
+use Rattle.wasm_operator_validator_state.specs.State.{types_in}
+use Rattle.wasm_operator_validator_stacks.specs.determined.laws.Determined.{not_begun}
+use Rattle.wasm_operators_immediates.specs.declared.proposal.Proposal.TheVariants.{StackSwitching}
+use Rattle.wasm_operator_validator_proposals.proofs.Plain.{continuation_is, refused_row, exchanged_row}
+use Rattle.wasm_operator_validator_proposals.proofs.Continuing.{continuation_index}
+use Rattle.wasm_operator_validator_proposals.proofs.Handling.{resume_throw_ref, no_resume_throw_ref, resume_throw_ref_unhandled, resume_throw_ref_row}
+use Rattle.wasm_operator_validator_proposals.proofs.continuations.check_resume_throw_ref.Goals as goal
+
+pub returns-in-Err : goal.returns-in-Err
+returns-in-Err g c =
+    let m = g.R.WasmModuleResources.meaning c.args.resources.now in
+    not_begun c.in-Err.refusal m c.args.validator.now (resume_throw_ref c.args.type_index c.args.table.now.handlers.items) StackSwitching false (continuation_is (op.ResumeThrowRef c.args.type_index c.args.table.now.handlers.items)).plain c.in-Err.ensures.begins c.in-Err.ensures.stops
+
+pub returns-in-Err-continuation_at : goal.returns-in-Err-continuation_at
+returns-in-Err-continuation_at g c =
+    let m = g.R.WasmModuleResources.meaning c.args.resources.now in
+    refused_row _ m c.args.validator.now (resume_throw_ref c.args.type_index c.args.table.now.handlers.items) StackSwitching (continuation_is (op.ResumeThrowRef c.args.type_index c.args.table.now.handlers.items)) c.in-Ok.ensures.begins
+    (no_resume_throw_ref m c.args.validator.now c.args.type_index c.args.table.now.handlers.items c.in-Err-continuation_at.ensures)
+
+pub returns-in-Err-check_handlers : goal.returns-in-Err-check_handlers
+returns-in-Err-check_handlers g c =
+    let m = g.R.WasmModuleResources.meaning c.args.resources.now in
+    refused_row _ m c.args.validator.now (resume_throw_ref c.args.type_index c.args.table.now.handlers.items) StackSwitching (continuation_is (op.ResumeThrowRef c.args.type_index c.args.table.now.handlers.items)) c.in-Ok.ensures.begins
+    (resume_throw_ref_unhandled m c.args.validator.now c.args.type_index c.args.table.now.handlers.items c.in-Ok-continuation_at.found.0.now c.in-Ok-continuation_at.found.1.now c.in-Ok-continuation_at.ensures (rw c.as_slice.ensures.value at c.in-Err-check_handlers.ensures))
+
+pub reference_at-resumed-requires : goal.reference_at-resumed-requires
+reference_at-resumed-requires g c =
+    let m = g.R.WasmModuleResources.meaning c.args.resources.now in
+    continuation_index m c.args.validator.now c.args.type_index c.in-Ok-continuation_at.found.0.now c.in-Ok-continuation_at.found.1.now c.in-Ok-continuation_at.ensures
+
+pub returns : goal.returns
+returns g c =
+    let m = g.R.WasmModuleResources.meaning c.args.resources.now in
+    exchanged_row (refused c.exchange.result) m c.args.validator.now c.exchange.new.self (resume_throw_ref c.args.type_index c.args.table.now.handlers.items) StackSwitching (types_in m (c.exception_type-thrown.result ∷ c.reference_at-resumed.result ∷ [])) (types_in m c.in-Ok-continuation_at.found.1.now) (continuation_is (op.ResumeThrowRef c.args.type_index c.args.table.now.handlers.items)) c.in-Ok.ensures.begins
+    (resume_throw_ref_row m c.args.validator.now c.args.type_index c.args.table.now.handlers.items c.in-Ok-continuation_at.found.0.now c.in-Ok-continuation_at.found.1.now c.exception_type-thrown.result c.reference_at-resumed.result c.in-Ok-continuation_at.ensures (rw c.as_slice.ensures.value at c.in-Ok-check_handlers.ensures) (c.exception_type-thrown.ensures m) c.reference_at-resumed.ensures)
+    c.exchange.ensures.does (record { given = c.exchange.ensures.given; failed = c.exchange.ensures.failed; saved = c.exchange.ensures.saved })

@@ -1,2 +1,0 @@
--- Operators without a rule.
-pub mod WithoutRule

@@ -1,9 +1,0 @@
-use Rattle.std.proofs.Common.{sym, ap}
-use Rattle.wasm_operators_immediates.specs.Info.{Info}
-use Rattle.wasm_operators_enums.specs.Op as op
-use Rattle.wasm_operator_validator_visits.proofs.WithoutRule.{descriptor_without}
-use Rattle.wasm_operator_validator_visits.proofs.visitor.ValidatingVisitor.descriptor.Goals as goal
-
-pub returns-clause-tells : goal.returns-clause-tells
-returns-clause-tells g c =
-    c.without_rule.ensures.tells (op.Descriptor c.args.op) (descriptor_without _ _ c.args.op c.info-info.result.proposal (sym (ap (λ (i : Info). i.proposal) c.info-info.ensures)))
