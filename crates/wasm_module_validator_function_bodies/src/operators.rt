@@ -16,8 +16,8 @@ use wasm_types::Result;
 
 impl<R: WasmModuleResources> FuncValidator<R> {
     /// Judges the next operator of the body, which stands at `offset`: it is not refused exactly if it may come, out of memory aside,
-    /// and then what may follow is what may follow behind it (WebAssembly 3.0, validation, instructions). One on vectors may never
-    /// come.
+    /// and then what may follow is what may follow behind it (WebAssembly 3.0, validation, instructions). One on vectors may
+    /// come only if the features ask that such be judged (`WasmFeatures::VECTOR_OPERATORS`).
     ///
     /// # Errors
     ///
@@ -86,7 +86,7 @@ fn judge<R: WasmModuleResources>(
     answer
 }
 
-/// The same of an operator that is not on vectors, at a walk: it keeps the validator that it was lent, and the module.
+/// The same at a walk: it keeps the validator that it was lent, and the module.
 fn tell<R: WasmModuleResources>(
     walk: &mut ValidatingWalk<'_, '_, R>,
     operator: Operator<'_>,

@@ -30,7 +30,7 @@ impl<R: WasmModuleResources> FuncValidator<R> {
     /// # Errors
     ///
     /// Something was refused before; the end was reached before; the bytes spell no locals, or some that the function may not have; behind them they spell no
-    /// expression without vectors; an operator is refused, at its offset; a frame is still open at the end; or there is no memory.
+    /// expression; an operator is refused, at its offset; a frame is still open at the end; or there is no memory.
     /// The validator has failed then, and each later call is refused.
     pub fn validate(&mut self, body: &FunctionBody<'_>) -> Result<()>
         ensures validates { ValidatesFunction (R.meaning self.old.resources) self.old.limits body.now self.old.validator

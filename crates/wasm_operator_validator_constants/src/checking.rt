@@ -22,7 +22,7 @@ use wasm_types::{BinaryReader, Result, ValType, WasmFeatures};
 ///
 /// # Errors
 ///
-/// The bytes spell no expression without vectors; an operator is not constant or may not come, at its offset; or there is no memory.
+/// The bytes spell no expression; an operator is not constant or may not come, at its offset; or there is no memory.
 pub fn check_const_expr<R: WasmModuleResources>(
     alloc: Global,
     expr: &ConstExpr<'_>,

@@ -10,9 +10,9 @@ ghost use Rattle.wasm_operator_validator_constants.specs.Operators.{allowing, Is
 use crate::ConstantRefusal;
 use crate::globals::check_global;
 use wasm_operator_validator_stacks::{BulkOperator, MemoryOperator, WasmModuleResources};
+use wasm_operators_reader::SimdOperator;
 use wasm_operators_reader::walks::{
     ControlOperator, DescriptorOperator, GcOperator, NumericOperator, Operator, SharedOperator,
-    SimdOperator,
 };
 use wasm_types::WasmFeatures;
 

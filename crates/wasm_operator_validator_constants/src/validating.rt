@@ -42,7 +42,7 @@ pub trait ValidatingConstants<'a>: TellOperator<
 ///
 /// # Errors
 ///
-/// The bytes spell no expression without vectors; an operator is not constant, or is refused by the validator, at its offset; a frame is
+/// The bytes spell no expression; an operator is not constant, or is refused by the validator, at its offset; a frame is
 /// still open at the end; or there is no memory.
 pub(crate) fn validate_constant_operators<'a, V: ValidatingConstants<'a>>(
     alloc: Global,

@@ -305,7 +305,7 @@ impl<'a, 'v, 'r, R: WasmModuleResources> Validating<'a> for NotingWalk<'v, 'r, R
 ///
 /// # Errors
 ///
-/// An operator was refused before; the bytes spell no expression without vectors; an operator is refused, at its offset; a frame
+/// An operator was refused before; the bytes spell no expression; an operator is refused, at its offset; a frame
 /// is still open at the end; or there is no memory. The validator has failed then.
 pub fn validate_expression<R: WasmModuleResources>(
     alloc: Global,

@@ -73,7 +73,7 @@ pub trait Validating<'a>: TellOperator<'a, Output = std::result::Result<(), Refu
 ///
 /// # Errors
 ///
-/// An operator was refused before; the bytes spell no expression without vectors; an operator is refused, at its offset; a frame
+/// An operator was refused before; the bytes spell no expression; an operator is refused, at its offset; a frame
 /// is still open at the end; or there is no memory. The visitor has failed then.
 pub fn validate_operators<'a, V: Validating<'a>>(
     alloc: Global,

@@ -1,12 +1,14 @@
 //! Readers of operators in frames, and of expressions (WebAssembly 3.0, binary format, expressions).
 //!
 //! An [`OperatorsReader`] reads one operator after the other and keeps the list of open frames; it refuses an operator
-//! that may not come next. [`read_expression`] reads a whole expression, exactly if all the bytes spell one. [`walks`] reads
-//! from a reader of bytes whose frames the caller keeps, and tells a visitor of all operators of an expression.
+//! that may not come next. [`read_expression`] reads a whole expression, exactly if all the bytes spell one.
+//! `specs/Standing.antt` defines what is read from where a reader stands and why it refuses, `specs/Iterating.antt`
+//! what the iterators give, and `specs/Visiting.antt` what a visitor is told. The visits themselves are not named here: whoever reads
+//! operators would pass on all of them (`wasm_operators` has what visits).
 //!
-//! `specs/Standing.antt` defines what is read from the place of a reader and why it refuses, `specs/Iterating.antt` what
-//! the iterators give, and `specs/Visiting.antt` what a visitor is told. The visits themselves are not named here: whoever
-//! reads operators would pass on all of them (`wasm_operators` has what visits).
+//! Its parts beside these:
+//!
+//! - [`walks`]: operators from a reader of bytes whose frames the caller keeps, and expressions whose operators a visitor is told of.
 #![tactic(auto)]
 
 mod cursor;

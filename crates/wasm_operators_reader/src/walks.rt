@@ -14,8 +14,7 @@ mod whole;
 
 pub use crate::{
     ControlOperator, DescriptorOperator, GcOperator, NumericOperator, Operator,
-    OperatorsReaderAllocations, SharedOperator, SimdOperator, TellOperator, TellPlain, Visitor,
-    is_simd, read_operator,
+    OperatorsReaderAllocations, SharedOperator, TellOperator, TellPlain, Visitor, read_operator,
 };
 pub use read_operators::{ReadOperators, read_in_frame, read_plain_in_frame};
 pub use telling::{TellSimdOperator, tell_operator_in_frame_simd, tell_operator_simd};
