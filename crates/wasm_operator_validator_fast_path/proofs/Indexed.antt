@@ -1,9 +1,9 @@
--- Indices and arguments of accesses, at an offset in the bytes.
-use Rattle.std.proofs.Common.{◌≡◌, ◌∙◌, ℕ, suc, ◌+◌, ◌-◌, ◌*◌, ◌<◌, ◌≤◌, List, Bool, true, false, length, drop, get_or, refl, sym, subst, arith}
+-- Indices, arguments of accesses and constants, at an offset in the bytes.
+use Rattle.std.proofs.Common.{◌≡◌, ◌∙◌, ℕ, ℤ, zero, suc, pos, ◌+◌, ◌-◌, ◌*◌, ◌+ℤ◌, ◌-ℤ◌, ◌*ℤ◌, ◌<◌, ◌≤◌, List, Bool, true, false, length, drop, get_or, refl, sym, subst, arith}
 use Rattle.std.proofs.lemmas.Bool.{lt-ltb, le-ltb}
 use Rattle.std.proofs.lemmas.List.{get_or-drop, length-drop}
 use Rattle.wasm_types.specs.decoding.Decoder.{State, Done, byte}
-use Rattle.wasm_types.specs.decoding.Leb.{unsigned, u32, u64}
+use Rattle.wasm_types.specs.decoding.Leb.{unsigned, signed, last_bits, seven_bits, u32, u64}
 use Rattle.wasm_types.specs.decoding.Numbers.{behind, GivesAt}
 use Rattle.wasm_types.specs.settings.Features.{has, Memory64}
 use Rattle.wasm_types_decoding.proofs.AtOnce.{unsigned_of_one, unsigned_of_two}
@@ -63,6 +63,139 @@ unsigned_of_five text i n inside a b c d e is = record {
         lt-ltb (get_or text (i + 4) 0) 16 e,
       ) refl;
 }
+
+-- ---- constants
+
+-- a signed number ends there
+abbrev pub Ends : ℕ → ℕ → List ℕ → ℕ → ℕ → Type 0
+Ends k r text i e = (x : ℤ) × GivesAt (signed k r) text i x e
+
+-- a number behind a byte that says that it follows
+abbrev joined : ℤ → ℕ → ℤ
+joined m b = pos 128 *ℤ m +ℤ pos (b - 128)
+
+module _ (k r : ℕ) (text : List ℕ) (i : ℕ) where
+  pub ends_at_one : i + 1 ≤ length text → get_or text i 0 < 128 → Ends (suc k) r text i (i + 1)
+  unfolding signed
+  ends_at_one inside low = (
+    seven_bits (get_or text i 0),
+    record {
+      forward = omega arith;
+      inside = inside;
+      gives = λ s same. let whole : i + 1 - i ≡ 1 = omega arith in rw (whole, first_at text i s same (omega (arith, inside)), lt-ltb (get_or text i 0) 128 low) refl;
+    },
+  )
+
+  pub ends_at_two : i + 2 ≤ length text → 128 ≤ get_or text i 0 → get_or text (i + 1) 0 < 128 → Ends (suc (suc k)) r text i (i + 2)
+  unfolding signed
+  ends_at_two inside a low = (
+    joined (seven_bits (get_or text (i + 1) 0)) (get_or text i 0),
+    record {
+      forward = omega arith;
+      inside = inside;
+      gives = λ s same.
+          let whole : i + 2 - i ≡ 2 = omega arith in
+          rw (
+            whole,
+            first_at text i s same (omega (arith, inside)),
+            le-ltb (get_or text i 0) 128 a,
+            byte_at text i 1 s same (omega (arith, inside)),
+            lt-ltb (get_or text (i + 1) 0) 128 low,
+          ) refl;
+    },
+  )
+
+  pub ends_at_three : i + 3 ≤ length text → 128 ≤ get_or text i 0 → 128 ≤ get_or text (i + 1) 0 → get_or text (i + 2) 0 < 128 → Ends (suc (suc (suc k))) r text i (i + 3)
+  unfolding signed
+  ends_at_three inside a b low = (
+    joined (joined (seven_bits (get_or text (i + 2) 0)) (get_or text (i + 1) 0)) (get_or text i 0),
+    record {
+      forward = omega arith;
+      inside = inside;
+      gives = λ s same.
+          let whole : i + 3 - i ≡ 3 = omega arith in
+          rw (
+            whole,
+            first_at text i s same (omega (arith, inside)),
+            le-ltb (get_or text i 0) 128 a,
+            byte_at text i 1 s same (omega (arith, inside)),
+            le-ltb (get_or text (i + 1) 0) 128 b,
+            byte_at text i 2 s same (omega (arith, inside)),
+            lt-ltb (get_or text (i + 2) 0) 128 low,
+          ) refl;
+    },
+  )
+
+  pub ends_at_four : i + 4 ≤ length text → 128 ≤ get_or text i 0 → 128 ≤ get_or text (i + 1) 0 → 128 ≤ get_or text (i + 2) 0 → get_or text (i + 3) 0 < 128
+      → Ends (suc (suc (suc (suc k)))) r text i (i + 4)
+  unfolding signed
+  ends_at_four inside a b c low = (
+    joined (joined (joined (seven_bits (get_or text (i + 3) 0)) (get_or text (i + 2) 0)) (get_or text (i + 1) 0)) (get_or text i 0),
+    record {
+      forward = omega arith;
+      inside = inside;
+      gives = λ s same.
+          let whole : i + 4 - i ≡ 4 = omega arith in
+          rw (
+            whole,
+            first_at text i s same (omega (arith, inside)),
+            le-ltb (get_or text i 0) 128 a,
+            byte_at text i 1 s same (omega (arith, inside)),
+            le-ltb (get_or text (i + 1) 0) 128 b,
+            byte_at text i 2 s same (omega (arith, inside)),
+            le-ltb (get_or text (i + 2) 0) 128 c,
+            byte_at text i 3 s same (omega (arith, inside)),
+            lt-ltb (get_or text (i + 3) 0) 128 low,
+          ) refl;
+    },
+  )
+
+-- four bytes that say that more follow, and what the fifth gives
+five_by : (k r : ℕ) (text : List ℕ) (i : ℕ) (y : ℤ) → i + 5 ≤ length text → 128 ≤ get_or text i 0 → 128 ≤ get_or text (i + 1) 0 → 128 ≤ get_or text (i + 2) 0
+    → 128 ≤ get_or text (i + 3) 0 → ((s : State) → s.rest ≡ drop i text → signed k r (behind 4 s) ≡ Done y (behind 5 s)) → Ends (suc (suc (suc (suc k)))) r text i (i + 5)
+unfolding signed
+five_by k r text i y inside a b c d last = (
+  joined (joined (joined (joined y (get_or text (i + 3) 0)) (get_or text (i + 2) 0)) (get_or text (i + 1) 0)) (get_or text i 0),
+  record {
+    forward = omega arith;
+    inside = inside;
+    gives = λ s same.
+        let whole : i + 5 - i ≡ 5 = omega arith in
+        rw (
+          whole,
+          first_at text i s same (omega (arith, inside)),
+          le-ltb (get_or text i 0) 128 a,
+          byte_at text i 1 s same (omega (arith, inside)),
+          le-ltb (get_or text (i + 1) 0) 128 b,
+          byte_at text i 2 s same (omega (arith, inside)),
+          le-ltb (get_or text (i + 2) 0) 128 c,
+          byte_at text i 3 s same (omega (arith, inside)),
+          le-ltb (get_or text (i + 3) 0) 128 d,
+          last s same,
+        ) refl;
+  },
+)
+
+module _ (text : List ℕ) (i : ℕ) (inside : i + 5 ≤ length text) (a : 128 ≤ get_or text i 0) (b : 128 ≤ get_or text (i + 1) 0) (c : 128 ≤ get_or text (i + 2) 0) (d : 128 ≤ get_or text (i + 3) 0) where
+  pub five_of_64 : get_or text (i + 4) 0 < 128 → Ends 9 1 text i (i + 5)
+  unfolding signed
+  five_of_64 low = five_by 5 1 text i (seven_bits (get_or text (i + 4) 0)) inside a b c d
+      (λ s same. rw (byte_at text i 4 s same (omega (arith, inside)), lt-ltb (get_or text (i + 4) 0) 128 low) refl)
+
+  pub five_low : get_or text (i + 4) 0 < 8 → Ends 4 4 text i (i + 5)
+  unfolding signed last_bits
+  five_low low = five_by 0 4 text i (pos (get_or text (i + 4) 0)) inside a b c d
+      (λ s same. rw (byte_at text i 4 s same (omega (arith, inside)), lt-ltb (get_or text (i + 4) 0) 8 low) refl)
+
+  pub five_high : 120 ≤ get_or text (i + 4) 0 → get_or text (i + 4) 0 < 128 → Ends 4 4 text i (i + 5)
+  unfolding signed last_bits
+  five_high high low = five_by 0 4 text i (pos (get_or text (i + 4) 0) -ℤ pos 128) inside a b c d
+      (λ s same. rw (
+        byte_at text i 4 s same (omega (arith, inside)),
+        le-ltb (get_or text (i + 4) 0) 8 (omega (arith, high)),
+        le-ltb (get_or text (i + 4) 0) 120 high,
+        lt-ltb (get_or text (i + 4) 0) 128 low,
+      ) refl)
 
 -- ---- arguments of accesses
 

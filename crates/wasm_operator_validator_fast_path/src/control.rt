@@ -182,7 +182,13 @@ pub(crate) fn br_if(
     let Some(types) = label(tables.known.flat.as_slice(), frame.kind, frame.sig) else {
         return None;
     };
-    if !stack.take(0) || !stack.take_all(types) || !stack.put_all(types) {
+    if !stack.take(0) {
+        return None;
+    }
+    if types.len() == 0 {
+        return Some(end);
+    }
+    if !stack.take_all(types) || !stack.put_all(types) {
         return None;
     }
     Some(end)
@@ -209,8 +215,14 @@ pub(crate) fn br_table(
     if count as usize > bytes.len() {
         return None;
     }
-    let Some((types, end)) = labels_at(tables.known.flat.as_slice(), bytes, first, count, opens)
-    else {
+    let Some((types, end)) = labels_at(
+        *tables.known.flat.allocator(),
+        tables.known.flat.as_slice(),
+        bytes,
+        first,
+        count,
+        opens,
+    ) else {
         return None;
     };
     let Some(results) = part(

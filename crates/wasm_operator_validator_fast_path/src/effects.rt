@@ -1,6 +1,6 @@
 //! What operators do to their operands, as a table by their codes. So one step takes all operators of a kind, and the loop has few arms.
 
-ghost use Rattle.std.specs.Prelude.{◌≡◌, Unit};
+ghost use Rattle.std.specs.Prelude.{ℕ};
 ghost use Rattle.wasm_operator_validator_fast_path.specs.Shapes.{IsKind, IsEffect, AreEffects};
 
 use crate::shape::{Shape, shape_of};
@@ -31,7 +31,6 @@ pub struct Effects {
 }
 
 impl Model for Effects {
-    ghost use Rattle.std.specs.Prelude.{Unit};
     ghost use Rattle.wasm_operator_validator_fast_path.specs.Shapes.{AreEffects};
 
     ghost Value = { Unit {0} };

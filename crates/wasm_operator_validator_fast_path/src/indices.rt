@@ -1,13 +1,13 @@
-//! Indices, and arguments of accesses to memory 0.
+//! Numbers at an offset: indices, arguments of accesses to memory 0, and constants, of which the loop asks only where they end.
 
-ghost use Rattle.std.specs.Prelude.{◌≡◌, ◌<◌, ◌≤◌, length, IfSome};
-ghost use Rattle.wasm_types.specs.decoding.Leb.{u32 as u32_decoder};
+ghost use Rattle.std.specs.Prelude.{◌≡◌, ◌<◌, ◌≤◌, ℤ, length, IfSome};
+ghost use Rattle.wasm_types.specs.decoding.Leb.{u32 as u32_decoder, s32, s64};
 ghost use Rattle.wasm_types.specs.decoding.Numbers.{GivesAt};
 ghost use Rattle.wasm_operator_validator_fast_path.specs.Shapes.{IsArgumentAt};
 
 use wasm_operators_frequent::access_at;
 use wasm_types::WasmFeatures;
-use wasm_types_decoding::short_u32_at;
+use wasm_types_decoding::{short_i32_at, short_i64_at, short_u32_at};
 
 /// An index, which a linker may have written in five bytes, and the offset behind it.
 #[inline(always)]
@@ -74,4 +74,67 @@ pub(crate) fn argument_at(
         return Some(at + 3);
     }
     long_argument_at(bytes, at, natural, features)
+}
+
+/// The offset behind a signed number of 32 bits.
+#[inline(always)]
+pub(crate) fn i32_end(bytes: &[u8], at: usize) -> Option<usize>
+    requires { at ≤ length bytes.now }
+    ensures { IfSome result (λ end. (x : ℤ) × GivesAt s32 bytes.now at x end) }
+{
+    if bytes.len() - at < 5 {
+        let Some((_value, end)) = short_i32_at(bytes, at) else {
+            return None;
+        };
+        return Some(end);
+    }
+    if bytes[at] < 0x80 {
+        return Some(at + 1);
+    }
+    if bytes[at + 1] < 0x80 {
+        return Some(at + 2);
+    }
+    if bytes[at + 2] < 0x80 {
+        return Some(at + 3);
+    }
+    if bytes[at + 3] < 0x80 {
+        return Some(at + 4);
+    }
+    let last = bytes[at + 4];
+    if last < 0x08 {
+        return Some(at + 5);
+    }
+    if last < 0x78 || last >= 0x80 {
+        return None;
+    }
+    Some(at + 5)
+}
+
+/// The offset behind a signed number of 64 bits.
+#[inline(always)]
+pub(crate) fn i64_end(bytes: &[u8], at: usize) -> Option<usize>
+    requires { at ≤ length bytes.now }
+    ensures { IfSome result (λ end. (x : ℤ) × GivesAt s64 bytes.now at x end) }
+{
+    if bytes.len() - at >= 5 {
+        if bytes[at] < 0x80 {
+            return Some(at + 1);
+        }
+        if bytes[at + 1] < 0x80 {
+            return Some(at + 2);
+        }
+        if bytes[at + 2] < 0x80 {
+            return Some(at + 3);
+        }
+        if bytes[at + 3] < 0x80 {
+            return Some(at + 4);
+        }
+        if bytes[at + 4] < 0x80 {
+            return Some(at + 5);
+        }
+    }
+    let Some((_value, end)) = short_i64_at(bytes, at) else {
+        return None;
+    };
+    Some(end)
 }

@@ -64,17 +64,37 @@ fn next(
         0x22 => local_tee(tables, bytes, at, stack, opens),
         0x23 => global_get(tables, bytes, at, stack, opens),
         0x24 => global_set(tables, bytes, at, stack, opens),
-        0x28 | 0x29 | 0x2a | 0x2b | 0x2c | 0x2d | 0x2e | 0x2f | 0x30 | 0x31 | 0x32 | 0x33 | 0x34 | 0x35 | 0x36 | 0x37 | 0x38 | 0x39 | 0x3a | 0x3b | 0x3c | 0x3d | 0x3e => access(code, tables, bytes, at, stack, opens),
         0x3f => memory_size(tables, bytes, at, stack, opens),
         0x40 => memory_grow(tables, bytes, at, stack, opens),
         0x41 => i32_const(tables, bytes, at, stack, opens),
         0x42 => i64_const(tables, bytes, at, stack, opens),
         0x43 => f32_const(tables, bytes, at, stack, opens),
         0x44 => f64_const(tables, bytes, at, stack, opens),
-        0x45 | 0x46 | 0x47 | 0x48 | 0x49 | 0x4a | 0x4b | 0x4c | 0x4d | 0x4e | 0x4f | 0x50 | 0x51 | 0x52 | 0x53 | 0x54 | 0x55 | 0x56 | 0x57 | 0x58 | 0x59 | 0x5a | 0x5b | 0x5c | 0x5d | 0x5e | 0x5f | 0x60 | 0x61 | 0x62 | 0x63 | 0x64 | 0x65 | 0x66 | 0x67 | 0x68 | 0x69 | 0x6a | 0x6b | 0x6c | 0x6d | 0x6e | 0x6f | 0x70 | 0x71 | 0x72 | 0x73 | 0x74 | 0x75 | 0x76 | 0x77 | 0x78 | 0x79 | 0x7a | 0x7b | 0x7c | 0x7d | 0x7e | 0x7f | 0x80 | 0x81 | 0x82 | 0x83 | 0x84 | 0x85 | 0x86 | 0x87 | 0x88 | 0x89 | 0x8a | 0x8b | 0x8c | 0x8d | 0x8e | 0x8f | 0x90 | 0x91 | 0x92 | 0x93 | 0x94 | 0x95 | 0x96 | 0x97 | 0x98 | 0x99 | 0x9a | 0x9b | 0x9c | 0x9d | 0x9e | 0x9f | 0xa0 | 0xa1 | 0xa2 | 0xa3 | 0xa4 | 0xa5 | 0xa6 | 0xa7 | 0xa8 | 0xa9 | 0xaa | 0xab | 0xac | 0xad | 0xae | 0xaf | 0xb0 | 0xb1 | 0xb2 | 0xb3 | 0xb4 | 0xb5 | 0xb6 | 0xb7 | 0xb8 | 0xb9 | 0xba | 0xbb | 0xbc | 0xbd | 0xbe | 0xbf | 0xc0 | 0xc1 | 0xc2 | 0xc3 | 0xc4 => number(code, tables, bytes, at, stack, opens),
         0xfc => prefixed(tables, bytes, at, stack, opens),
-        _ => None,
+        _ => by_effect(code, tables, bytes, at, stack, opens),
     }
+}
+
+/// Takes an operator of which a table tells what it does: numbers lie behind the other codes.
+#[inline(always)]
+fn by_effect(
+    code: u8,
+    tables: &Tables,
+    bytes: &[u8],
+    at: usize,
+    stack: &mut Stack,
+    opens: &Opens,
+) -> Option<usize>
+    requires { Begins bytes.now at code }
+    ensures leads { IfSome result (λ end. Leads bytes.now tables.now at (all opens.now) stack.old
+        end (all opens.now) stack.new) }
+    ensures forward { IfSome result (λ end. at < end) }
+    ensures inside { IfSome result (λ end. end ≤ length bytes.now) }
+{
+    if code >= 0x45 {
+        return number(code, tables, bytes, at, stack, opens);
+    }
+    access(code, tables, bytes, at, stack, opens)
 }
 
 /// Takes an operator behind the prefix `fc`.
@@ -178,7 +198,8 @@ impl Room {
         ensures { result ≡ true → (z : Settings) (g : Context) → Fits z bytes.now tables.now g → (params : ℕ)
             → (c : Code) × SpelledExpression z c (drop start bytes.now) × IsBody g params c }
     {
-        let places = bytes.len() - start + 64;
+        // a body that has more operands at a time is left to the validator of operators
+        let places = (bytes.len() - start + 64).min(8192);
         let frame = body_frame(tables.results);
         self.opens.inner = frame;
         if !self.opens.outer.begin(0, frame) || !self.stack.begin(places) {

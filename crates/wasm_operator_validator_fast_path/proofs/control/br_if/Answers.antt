@@ -1,8 +1,0 @@
-use Rattle.std.proofs.Common.{refl}
-use Rattle.wasm_operator_validator_fast_path.proofs.Rows.{took_br_if}
-use Rattle.wasm_operator_validator_fast_path.proofs.control.br_if.Goals as goal
-
-pub returns-clause-leads : goal.returns-clause-leads
-returns-clause-leads c =
-    took_br_if c.args.tables.now c.args.bytes.now c.args.at c.in-Some.end c.args.opens.now.inner c.args.opens.now.outer c.args.stack.now c.put_all.new.self c.requires c.in-Some.depth c.in-Some.ensures.found c.in-Some-frame_at.frame c.in-Some-frame_at.ensures
-    c.in-Some-label.types.now (rw c.as_slice.ensures.value at c.in-Some-label.ensures) c.take.new.self c.take_all.new.self (c.if-not-take.ensures refl) (c.if-not-take_all.ensures refl) (c.if-not-put_all.ensures refl)
