@@ -29,7 +29,8 @@ pub use casts::{cast_of, check_br_on_cast, split_label, taken_and_left};
 pub use conversions::{check_any_convert_extern, check_extern_convert_any};
 pub use either::{check_array_len, check_i31_get, check_ref_eq};
 pub use naming::{
-    abstract_reference, allocated, element_at, field_at, heap_at, reference_at, struct_at, used_type,
+    abstract_reference, allocated, element_at, field_at, heap_at, reference_at, struct_at,
+    used_type,
 };
 pub use popping::pop_fields;
 pub use segments::{

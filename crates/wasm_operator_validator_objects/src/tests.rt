@@ -70,10 +70,7 @@ pub fn check_ref_cast<R: WasmModuleResources>(
 }
 
 /// A reference to what is above all types of the hierarchy, that may be null; there is none to continuations.
-pub fn castable_top<R: WasmModuleResources>(
-    resources: &R,
-    named: &RefType,
-) -> Option<ValType>
+pub fn castable_top<R: WasmModuleResources>(resources: &R, named: &RefType) -> Option<ValType>
     ensures { MatchOption result (is_castable (heap_in (R.meaning resources.now) named.now.heap) ≡ false)
         (λ t. (is_castable (heap_in (R.meaning resources.now) named.now.heap) ≡ true)
         × (type_in (R.meaning resources.now) t ≡ ref true (top_heap

@@ -147,14 +147,14 @@ packed_in m (storage.Val t) = refl
 pub unchangeable : (m : Meaning) (σ : State) (o : SharedOperator) (a : AtomicAccess) (ts : List ValType) (f : FieldType) (b : Bool) → AccessesAt m σ o a ts f
     → IsTrue b ↔ MayChange (access_of a) f.mutable → b ≡ false → HasNoRow m σ (op.Shared o)
 unchangeable m σ o a ts f b i j n popped pushed r =
-    let (p, e, c, s, t) = (i popped pushed).0 r in
+    let (p, e, (c, s, t)) = (i popped pushed).0 r in
     let x : place_in m ts f ≡ p = cc in
     fails b j n (subst (λ (q : Place). MayChange (access_of a) q.mutable) (sym x) c)
 
 pub unstored : (m : Meaning) (σ : State) (o : SharedOperator) (a : AtomicAccess) (ts : List ValType) (f : FieldType) (b : Bool) → AccessesAt m σ o a ts f
     → IsTrue b ↔ Stores (access_of a) (storage_in m f.element_type) → b ≡ false → HasNoRow m σ (op.Shared o)
 unstored m σ o a ts f b i j n popped pushed r =
-    let (p, e, c, s, t) = (i popped pushed).0 r in
+    let (p, e, (c, s, t)) = (i popped pushed).0 r in
     let x : place_in m ts f ≡ p = cc in
     fails b j n (subst (λ (q : Place). Stores (access_of a) q.storage) (sym x) s)
 
@@ -168,11 +168,11 @@ access_row m σ o a ts f t b c i j g k h e popped pushed =
     let u : type_in m t ≡ unpacked (storage_in m f.element_type) = ap (type_in m) e ∙ unpacked_in m f.element_type in
     rw u (
       λ r. (
-          let (p, y, v, s, w) = (i popped pushed).0 r in
+          let (p, y, (v, s, w)) = (i popped pushed).0 r in
           let x : place_in m ts f ≡ p = cc in
           subst (λ (q : Place). AccessTakes a q popped pushed) (sym x) w
           ),
-      λ w. (i popped pushed).1 (place_in m ts f, refl, j.0 g, k.0 h, w),
+      λ w. (i popped pushed).1 (place_in m ts f, refl, (j.0 g, k.0 h, w)),
     )
 
 -- a place that was found, or that is not there

@@ -15,7 +15,7 @@ use Rattle.wasm_operator_validator_rules.specs.Named.{used_type}
 use Rattle.wasm_operator_validator_rules.specs.InstructionTypes.{reference_to}
 use Rattle.wasm_operator_validator_rules.specs.Taken.{Takes}
 use Rattle.wasm_operator_validator_rules.specs.Exceptions.{exception, IsExceptionTag}
-use Rattle.wasm_operator_validator_rules.specs.Continuations.{IsContinuationOf, IsContinuationType, IsContinuation, TypesBelow, IsCaught, IsSwitched, EachHandles, IsBound, IsSwitch, continued}
+use Rattle.wasm_operator_validator_rules.specs.Continuations.{IsContinuationType, IsContinuation, TypesBelow, IsCaught, IsSwitched, EachHandles, IsBound, IsSwitch, continued}
 use Rattle.wasm_operator_validator_resources.specs.Meaning.{Meaning, named_type, type_in}
 use Rattle.wasm_operator_validator_state.specs.State.{State, types_in}
 use Rattle.wasm_operator_validator_stacks.specs.determined.laws.Usable.{fails}
@@ -159,7 +159,7 @@ abbrev pub cont_new : ℕ → Op
 cont_new x = op.Continuation (op.ContNew x)
 
 pub no_cont_new : (m : Meaning) (σ : State) (x : ℕ) → ((t f : TypeTree) → used_type (here m σ) x ≡ Some t → expanded t ≡ continuation f → ⊥) → HasNoRow m σ (cont_new x)
-no_cont_new m σ x n popped pushed (t, f, b, u, (e, i), c) = n t f u e
+no_cont_new m σ x n popped pushed (t, f, b, u, e, i, c) = n t f u e
 
 function_new : (m : Meaning) (σ : State) (x : ℕ) (g : UnpackedIndex) (t f : TypeTree) → Continues m σ x g → used_type (here m σ) x ≡ Some t → expanded t ≡ continuation f
     → (t ≡ TypeAt m x) × (f ≡ named_type m g)
@@ -168,18 +168,18 @@ function_new m σ x g t f c u e =
     let z : continuation f ≡ continuation (named_type m g) = sym (subst (λ (v : TypeTree). expanded v ≡ continuation f) y e) ∙ c.1 in (y, cc)
 
 pub new_of_no_function : (m : Meaning) (σ : State) (x : ℕ) (g : UnpackedIndex) → Continues m σ x g → ((b : Signature) → IsFunctionType (named_type m g) b → ⊥) → HasNoRow m σ (cont_new x)
-new_of_no_function m σ x g c n popped pushed (t, f, b, u, (e, i), k) =
+new_of_no_function m σ x g c n popped pushed (t, f, b, u, e, i, k) =
     n b (subst (λ (v : TypeTree). IsFunctionType v b) (function_new m σ x g t f c u e).1 i)
 
 pub new_row : (m : Meaning) (σ : State) (x : ℕ) (g : UnpackedIndex) (b : Signature) (v w : ValType) → Continues m σ x g → IsFunctionType (named_type m g) b
     → type_in m v ≡ reference_to (named_type m g) → IsMade m x w → IsRow m σ (cont_new x) (types_in m (v ∷ [])) (types_in m (w ∷ []))
 new_row m σ x g b v w c i e h popped pushed = rw (e, h) (
-  λ (t, f, d, u, (k, j), r). (
+  λ (t, f, d, u, k, j, r). (
       let s = function_new m σ x g t f c u k in
       subst (λ (y : TypeTree). Takes (reference_to y ∷ []) (continued (TypeAt m x) ∷ []) popped pushed) s.1
       (subst (λ (y : TypeTree). Takes (reference_to f ∷ []) (continued y ∷ []) popped pushed) s.0 r)
       ),
-  λ r. (TypeAt m x, named_type m g, b, c.0, (c.1, i), r),
+  λ r. (TypeAt m x, named_type m g, b, c.0, c.1, i, r),
 )
 
 -- suspend

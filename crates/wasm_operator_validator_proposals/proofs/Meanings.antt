@@ -1,11 +1,11 @@
 -- What indices mean, as the code looks them up.
-use Rattle.std.proofs.Common.{◌≡◌, ◌∙◌, ℕ, zero, suc, List, [], ◌∷◌, length, map, Option, Some, None, option_map, option_and_then, slice_get, refl, sym, ap, subst, ⊎_elim}
+use Rattle.std.proofs.Common.{◌≡◌, ◌∙◌, ℕ, zero, suc, List, [], ◌∷◌, length, map, Option, Some, None, option_map, option_and_then, slice_get, get_or, refl, sym, ap, subst, ⊎_elim}
 use Rattle.std.proofs.lemmas.Bool.{cases_lt}
 use Rattle.std.proofs.lemmas.Option.{slice_get_past, get_or_from_slice_get}
 use Rattle.wasm_types.specs.trees.declared.index.CoreTypeId.{CoreTypeId}
 use Rattle.wasm_types.specs.trees.declared.index.UnpackedIndex.{UnpackedIndex}
 use Rattle.wasm_types.specs.trees.Types.{InnerOf, EntryOf, function, continuation, value_map}
-use Rattle.wasm_types.specs.trees.Trees.{TypeTree, opened, past_the_end}
+use Rattle.wasm_types.specs.trees.Trees.{TypeTree, opened, past_the_end, group_tree}
 use Rattle.wasm_types.specs.trees.Below.{expanded}
 use Rattle.wasm_types.specs.trees.ValidGroup.{type_at}
 use Rattle.wasm_types.specs.values.Values.{value_of}
@@ -24,15 +24,17 @@ use Rattle.wasm_operator_validator_proposals.specs.Named.{signature}
 -- ---- lists of types
 
 -- past the end of a list of types stands a type of no group
-none_there : (space : List TypeTree) (i : ℕ) → slice_get space i ≡ None → opened (type_at space i) ≡ past_the_end
+past_end : (space : List TypeTree) (i : ℕ) (t : TypeTree) → slice_get space i ≡ None → get_or space i t ≡ t
+past_end [] i t e = refl
+past_end (u ∷ space) zero t e = cc
+past_end (u ∷ space) (suc i) t e = past_end space i t e
+
+nothing_opened : (i : ℕ) → opened (record { group = group_tree []; place = i }) ≡ past_the_end
 unfolding opened
-none_there [] i e = refl
-none_there (t ∷ space) zero e = cc
-none_there (t ∷ space) (suc i) e = of_rest space i e
-  where
-    of_rest : (xs : List TypeTree) (j : ℕ) → slice_get xs j ≡ None → opened (type_at (t ∷ xs) (suc j)) ≡ past_the_end
-    of_rest [] j f = refl
-    of_rest (x ∷ xs) j f = cc
+nothing_opened i = refl
+
+none_there : (space : List TypeTree) (i : ℕ) → slice_get space i ≡ None → opened (type_at space i) ≡ past_the_end
+none_there space i e = ap opened (past_end space i (record { group = group_tree []; place = i }) e) ∙ nothing_opened i
 
 past : (space : List TypeTree) (i : ℕ) → ◌≡◌ {A = Option (EntryOf TypeTree)} None (option_map opened (slice_get space i)) → opened (type_at space i) ≡ past_the_end
 past space i e = by_case (slice_get space i) refl e

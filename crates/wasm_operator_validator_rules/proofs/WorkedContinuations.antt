@@ -7,7 +7,7 @@ use Rattle.wasm_types.specs.trees.Below.{Below, itself, expanded}
 use Rattle.wasm_operator_validator_rules.specs.Operands.{ValueType, known}
 use Rattle.wasm_operator_validator_rules.specs.Context.{Signature, IsFunctionType}
 use Rattle.wasm_operator_validator_rules.specs.Named.{used_type}
-use Rattle.wasm_operator_validator_rules.specs.Continuations.{IsContinuationOf, IsContinuationType, IsContinuation, IsTag, TypesBelow, IsCaught}
+use Rattle.wasm_operator_validator_rules.specs.Continuations.{IsContinuationType, IsContinuation, IsTag, TypesBelow, IsCaught}
 use Rattle.wasm_operator_validator_rules.specs.worked.References.{null_to, to, cell}
 use Rattle.wasm_operator_validator_rules.specs.worked.Continuations.{from_to, started, resumed, resumed_otherwise, of_two, passed, passed_otherwise, passed_on, passed_exactly, null_cell, full_cell, full_to_null, full_to_full, null_to_null, more_null_to_full, more_full_to_null, giving_null, giving_full, switching, shared_started, shared_function, there, there_shared, below, on_label, ContinuationsWorked, HandlersWorked, SwitchesWorked}
 
@@ -104,10 +104,10 @@ left_agrees u a ts n t b c l k j = same_continuation u b c (subst (λ (z : TypeT
 pub continuations_worked : ContinuationsWorked
 unfolding has opened
 continuations_worked = record {
-  new = (started, from_to [] (number i32 ∷ []), taking [] (number i32 ∷ []), refl, (refl, refl), (refl, refl));
+  new = (started, from_to [] (number i32 ∷ []), taking [] (number i32 ∷ []), refl, refl, refl, (refl, refl));
   new_function = search rules;
   new_of_no_function = search rules;
-  new_shared = (shared_started, shared_function, taking [] (number i32 ∷ []), refl, (refl, refl), (refl, refl));
+  new_shared = (shared_started, shared_function, taking [] (number i32 ∷ []), refl, refl, refl, (refl, refl));
   new_not_shared = search rules;
   suspend = (taking (number i64 ∷ []) (number f64 ∷ []), (_, refl, refl), (refl, refl));
   suspend_other = search rules;

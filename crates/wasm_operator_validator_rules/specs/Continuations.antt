@@ -17,11 +17,8 @@ use Rattle.wasm_operator_validator_rules.specs.Exceptions.{IsExceptionTag, excep
 -- ---- what is named
 
 -- what a continuation takes and gives: what its function does
-abbrev pub IsContinuationOf : TypeTree → TypeTree → Signature → Type 0
-IsContinuationOf t f b = (expanded t ≡ continuation f) × IsFunctionType f b
-
 abbrev pub IsContinuationType : TypeTree → Signature → Type 0
-IsContinuationType t b = (f : TypeTree) × IsContinuationOf t f b
+IsContinuationType t b = (f : TypeTree) × (expanded t ≡ continuation f) × IsFunctionType f b
 
 -- a continuation type of the module
 abbrev pub IsContinuation : Context → ℕ → TypeTree → Signature → Type 0
@@ -101,7 +98,7 @@ pub record IsSwitch (g : Context) (x e : ℕ) (t : TypeTree) (carried : List Val
   pub back : TypesBelow tag own.results
 
 abbrev pub ContinuationRow : Context → ContinuationTree → List Operand → List Operand → Type 0
-ContinuationRow g (op.ContNew x) popped pushed = (t f : TypeTree) × (b : Signature) × (used_type g x ≡ Some t) × IsContinuationOf t f b
+ContinuationRow g (op.ContNew x) popped pushed = (t f : TypeTree) × (b : Signature) × (used_type g x ≡ Some t) × (expanded t ≡ continuation f) × IsFunctionType f b
     × Takes (reference_to f ∷ []) (continued t ∷ []) popped pushed
 ContinuationRow g (op.ContBind x y) popped pushed = (t u : TypeTree) × (bound : List ValueType) × IsBound g x y t u bound
     × Takes (bound ++ reference_to t ∷ []) (continued u ∷ []) popped pushed

@@ -1,5 +1,5 @@
 -- Rows of atomic accesses to globals, tables, structs and arrays (the proposal on shared everything).
-use Rattle.std.specs.Prelude.{◌≡◌, true, IsTrue, Bool, List, [], ◌∷◌, ◌++◌, Option, Some}
+use Rattle.std.specs.Prelude.{◌≡◌, true, false, IsTrue, Bool, List, [], ◌∷◌, ◌++◌, Option, Some}
 use Rattle.wasm_types.specs.trees.Types.{i32, i64, i31, Abstract, any, eq, number, ref, abstract, StorageOf, i8, i16, value}
 use Rattle.wasm_types.specs.trees.Trees.{TypeTree}
 use Rattle.wasm_types.specs.trees.Below.{Below}

@@ -63,11 +63,13 @@ impl<'a, 'v, 'r, R: WasmModuleResources, A: AnswerAs> VisitSimdFloats<'a>
     }
 
     fn visit_f32x4_demote_f64x2_zero(&mut self) -> A::Output {
-        self.visitor.simd_numeric(SimdNumericOperator::F32x4DemoteF64x2Zero)
+        self.visitor
+            .simd_numeric(SimdNumericOperator::F32x4DemoteF64x2Zero)
     }
 
     fn visit_f64x2_promote_low_f32x4(&mut self) -> A::Output {
-        self.visitor.simd_numeric(SimdNumericOperator::F64x2PromoteLowF32x4)
+        self.visitor
+            .simd_numeric(SimdNumericOperator::F64x2PromoteLowF32x4)
     }
 
     fn visit_f32x4_ceil(&mut self) -> A::Output {
@@ -191,50 +193,62 @@ impl<'a, 'v, 'r, R: WasmModuleResources, A: AnswerAs> VisitSimdFloats<'a>
     }
 
     fn visit_f32x4_convert_i32x4_s(&mut self) -> A::Output {
-        self.visitor.simd_numeric(SimdNumericOperator::F32x4ConvertI32x4S)
+        self.visitor
+            .simd_numeric(SimdNumericOperator::F32x4ConvertI32x4S)
     }
 
     fn visit_f32x4_convert_i32x4_u(&mut self) -> A::Output {
-        self.visitor.simd_numeric(SimdNumericOperator::F32x4ConvertI32x4U)
+        self.visitor
+            .simd_numeric(SimdNumericOperator::F32x4ConvertI32x4U)
     }
 
     fn visit_f64x2_convert_low_i32x4_s(&mut self) -> A::Output {
-        self.visitor.simd_numeric(SimdNumericOperator::F64x2ConvertLowI32x4S)
+        self.visitor
+            .simd_numeric(SimdNumericOperator::F64x2ConvertLowI32x4S)
     }
 
     fn visit_f64x2_convert_low_i32x4_u(&mut self) -> A::Output {
-        self.visitor.simd_numeric(SimdNumericOperator::F64x2ConvertLowI32x4U)
+        self.visitor
+            .simd_numeric(SimdNumericOperator::F64x2ConvertLowI32x4U)
     }
 
     fn visit_f32x4_relaxed_madd(&mut self) -> A::Output {
-        self.visitor.simd_numeric(SimdNumericOperator::F32x4RelaxedMadd)
+        self.visitor
+            .simd_numeric(SimdNumericOperator::F32x4RelaxedMadd)
     }
 
     fn visit_f32x4_relaxed_nmadd(&mut self) -> A::Output {
-        self.visitor.simd_numeric(SimdNumericOperator::F32x4RelaxedNmadd)
+        self.visitor
+            .simd_numeric(SimdNumericOperator::F32x4RelaxedNmadd)
     }
 
     fn visit_f64x2_relaxed_madd(&mut self) -> A::Output {
-        self.visitor.simd_numeric(SimdNumericOperator::F64x2RelaxedMadd)
+        self.visitor
+            .simd_numeric(SimdNumericOperator::F64x2RelaxedMadd)
     }
 
     fn visit_f64x2_relaxed_nmadd(&mut self) -> A::Output {
-        self.visitor.simd_numeric(SimdNumericOperator::F64x2RelaxedNmadd)
+        self.visitor
+            .simd_numeric(SimdNumericOperator::F64x2RelaxedNmadd)
     }
 
     fn visit_f32x4_relaxed_min(&mut self) -> A::Output {
-        self.visitor.simd_numeric(SimdNumericOperator::F32x4RelaxedMin)
+        self.visitor
+            .simd_numeric(SimdNumericOperator::F32x4RelaxedMin)
     }
 
     fn visit_f32x4_relaxed_max(&mut self) -> A::Output {
-        self.visitor.simd_numeric(SimdNumericOperator::F32x4RelaxedMax)
+        self.visitor
+            .simd_numeric(SimdNumericOperator::F32x4RelaxedMax)
     }
 
     fn visit_f64x2_relaxed_min(&mut self) -> A::Output {
-        self.visitor.simd_numeric(SimdNumericOperator::F64x2RelaxedMin)
+        self.visitor
+            .simd_numeric(SimdNumericOperator::F64x2RelaxedMin)
     }
 
     fn visit_f64x2_relaxed_max(&mut self) -> A::Output {
-        self.visitor.simd_numeric(SimdNumericOperator::F64x2RelaxedMax)
+        self.visitor
+            .simd_numeric(SimdNumericOperator::F64x2RelaxedMax)
     }
 }

@@ -119,35 +119,43 @@ impl<'a, 'v, 'r, R: WasmModuleResources, A: AnswerAs> VisitSimd<'a>
     }
 
     fn visit_v128_load8_lane(&mut self, memarg: MemArg, lane: u8) -> A::Output {
-        self.visitor.simd(SimdOperator::V128Load8Lane { memarg, lane })
+        self.visitor
+            .simd(SimdOperator::V128Load8Lane { memarg, lane })
     }
 
     fn visit_v128_load16_lane(&mut self, memarg: MemArg, lane: u8) -> A::Output {
-        self.visitor.simd(SimdOperator::V128Load16Lane { memarg, lane })
+        self.visitor
+            .simd(SimdOperator::V128Load16Lane { memarg, lane })
     }
 
     fn visit_v128_load32_lane(&mut self, memarg: MemArg, lane: u8) -> A::Output {
-        self.visitor.simd(SimdOperator::V128Load32Lane { memarg, lane })
+        self.visitor
+            .simd(SimdOperator::V128Load32Lane { memarg, lane })
     }
 
     fn visit_v128_load64_lane(&mut self, memarg: MemArg, lane: u8) -> A::Output {
-        self.visitor.simd(SimdOperator::V128Load64Lane { memarg, lane })
+        self.visitor
+            .simd(SimdOperator::V128Load64Lane { memarg, lane })
     }
 
     fn visit_v128_store8_lane(&mut self, memarg: MemArg, lane: u8) -> A::Output {
-        self.visitor.simd(SimdOperator::V128Store8Lane { memarg, lane })
+        self.visitor
+            .simd(SimdOperator::V128Store8Lane { memarg, lane })
     }
 
     fn visit_v128_store16_lane(&mut self, memarg: MemArg, lane: u8) -> A::Output {
-        self.visitor.simd(SimdOperator::V128Store16Lane { memarg, lane })
+        self.visitor
+            .simd(SimdOperator::V128Store16Lane { memarg, lane })
     }
 
     fn visit_v128_store32_lane(&mut self, memarg: MemArg, lane: u8) -> A::Output {
-        self.visitor.simd(SimdOperator::V128Store32Lane { memarg, lane })
+        self.visitor
+            .simd(SimdOperator::V128Store32Lane { memarg, lane })
     }
 
     fn visit_v128_store64_lane(&mut self, memarg: MemArg, lane: u8) -> A::Output {
-        self.visitor.simd(SimdOperator::V128Store64Lane { memarg, lane })
+        self.visitor
+            .simd(SimdOperator::V128Store64Lane { memarg, lane })
     }
 
     fn visit_v128_load32_zero(&mut self, memarg: MemArg) -> A::Output {
@@ -179,7 +187,8 @@ impl<'a, 'v, 'r, R: WasmModuleResources, A: AnswerAs> VisitSimd<'a>
     }
 
     fn visit_v128_bitselect(&mut self) -> A::Output {
-        self.visitor.simd_numeric(SimdNumericOperator::V128Bitselect)
+        self.visitor
+            .simd_numeric(SimdNumericOperator::V128Bitselect)
     }
 
     fn visit_v128_any_true(&mut self) -> A::Output {

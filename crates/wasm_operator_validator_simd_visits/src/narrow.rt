@@ -119,11 +119,13 @@ impl<'a, 'v, 'r, R: WasmModuleResources, A: AnswerAs> VisitSimdNarrow<'a>
     }
 
     fn visit_i8x16_narrow_i16x8_s(&mut self) -> A::Output {
-        self.visitor.simd_numeric(SimdNumericOperator::I8x16NarrowI16x8S)
+        self.visitor
+            .simd_numeric(SimdNumericOperator::I8x16NarrowI16x8S)
     }
 
     fn visit_i8x16_narrow_i16x8_u(&mut self) -> A::Output {
-        self.visitor.simd_numeric(SimdNumericOperator::I8x16NarrowI16x8U)
+        self.visitor
+            .simd_numeric(SimdNumericOperator::I8x16NarrowI16x8U)
     }
 
     fn visit_i8x16_shl(&mut self) -> A::Output {
@@ -183,11 +185,13 @@ impl<'a, 'v, 'r, R: WasmModuleResources, A: AnswerAs> VisitSimdNarrow<'a>
     }
 
     fn visit_i16x8_extadd_pairwise_i8x16_s(&mut self) -> A::Output {
-        self.visitor.simd_numeric(SimdNumericOperator::I16x8ExtAddPairwiseI8x16S)
+        self.visitor
+            .simd_numeric(SimdNumericOperator::I16x8ExtAddPairwiseI8x16S)
     }
 
     fn visit_i16x8_extadd_pairwise_i8x16_u(&mut self) -> A::Output {
-        self.visitor.simd_numeric(SimdNumericOperator::I16x8ExtAddPairwiseI8x16U)
+        self.visitor
+            .simd_numeric(SimdNumericOperator::I16x8ExtAddPairwiseI8x16U)
     }
 
     fn visit_i16x8_abs(&mut self) -> A::Output {
@@ -199,7 +203,8 @@ impl<'a, 'v, 'r, R: WasmModuleResources, A: AnswerAs> VisitSimdNarrow<'a>
     }
 
     fn visit_i16x8_q15mulr_sat_s(&mut self) -> A::Output {
-        self.visitor.simd_numeric(SimdNumericOperator::I16x8Q15MulrSatS)
+        self.visitor
+            .simd_numeric(SimdNumericOperator::I16x8Q15MulrSatS)
     }
 
     fn visit_i16x8_all_true(&mut self) -> A::Output {
@@ -211,27 +216,33 @@ impl<'a, 'v, 'r, R: WasmModuleResources, A: AnswerAs> VisitSimdNarrow<'a>
     }
 
     fn visit_i16x8_narrow_i32x4_s(&mut self) -> A::Output {
-        self.visitor.simd_numeric(SimdNumericOperator::I16x8NarrowI32x4S)
+        self.visitor
+            .simd_numeric(SimdNumericOperator::I16x8NarrowI32x4S)
     }
 
     fn visit_i16x8_narrow_i32x4_u(&mut self) -> A::Output {
-        self.visitor.simd_numeric(SimdNumericOperator::I16x8NarrowI32x4U)
+        self.visitor
+            .simd_numeric(SimdNumericOperator::I16x8NarrowI32x4U)
     }
 
     fn visit_i16x8_extend_low_i8x16_s(&mut self) -> A::Output {
-        self.visitor.simd_numeric(SimdNumericOperator::I16x8ExtendLowI8x16S)
+        self.visitor
+            .simd_numeric(SimdNumericOperator::I16x8ExtendLowI8x16S)
     }
 
     fn visit_i16x8_extend_high_i8x16_s(&mut self) -> A::Output {
-        self.visitor.simd_numeric(SimdNumericOperator::I16x8ExtendHighI8x16S)
+        self.visitor
+            .simd_numeric(SimdNumericOperator::I16x8ExtendHighI8x16S)
     }
 
     fn visit_i16x8_extend_low_i8x16_u(&mut self) -> A::Output {
-        self.visitor.simd_numeric(SimdNumericOperator::I16x8ExtendLowI8x16U)
+        self.visitor
+            .simd_numeric(SimdNumericOperator::I16x8ExtendLowI8x16U)
     }
 
     fn visit_i16x8_extend_high_i8x16_u(&mut self) -> A::Output {
-        self.visitor.simd_numeric(SimdNumericOperator::I16x8ExtendHighI8x16U)
+        self.visitor
+            .simd_numeric(SimdNumericOperator::I16x8ExtendHighI8x16U)
     }
 
     fn visit_i16x8_shl(&mut self) -> A::Output {
@@ -295,38 +306,47 @@ impl<'a, 'v, 'r, R: WasmModuleResources, A: AnswerAs> VisitSimdNarrow<'a>
     }
 
     fn visit_i16x8_extmul_low_i8x16_s(&mut self) -> A::Output {
-        self.visitor.simd_numeric(SimdNumericOperator::I16x8ExtMulLowI8x16S)
+        self.visitor
+            .simd_numeric(SimdNumericOperator::I16x8ExtMulLowI8x16S)
     }
 
     fn visit_i16x8_extmul_high_i8x16_s(&mut self) -> A::Output {
-        self.visitor.simd_numeric(SimdNumericOperator::I16x8ExtMulHighI8x16S)
+        self.visitor
+            .simd_numeric(SimdNumericOperator::I16x8ExtMulHighI8x16S)
     }
 
     fn visit_i16x8_extmul_low_i8x16_u(&mut self) -> A::Output {
-        self.visitor.simd_numeric(SimdNumericOperator::I16x8ExtMulLowI8x16U)
+        self.visitor
+            .simd_numeric(SimdNumericOperator::I16x8ExtMulLowI8x16U)
     }
 
     fn visit_i16x8_extmul_high_i8x16_u(&mut self) -> A::Output {
-        self.visitor.simd_numeric(SimdNumericOperator::I16x8ExtMulHighI8x16U)
+        self.visitor
+            .simd_numeric(SimdNumericOperator::I16x8ExtMulHighI8x16U)
     }
 
     fn visit_i8x16_relaxed_swizzle(&mut self) -> A::Output {
-        self.visitor.simd_numeric(SimdNumericOperator::I8x16RelaxedSwizzle)
+        self.visitor
+            .simd_numeric(SimdNumericOperator::I8x16RelaxedSwizzle)
     }
 
     fn visit_i8x16_relaxed_laneselect(&mut self) -> A::Output {
-        self.visitor.simd_numeric(SimdNumericOperator::I8x16RelaxedLaneselect)
+        self.visitor
+            .simd_numeric(SimdNumericOperator::I8x16RelaxedLaneselect)
     }
 
     fn visit_i16x8_relaxed_laneselect(&mut self) -> A::Output {
-        self.visitor.simd_numeric(SimdNumericOperator::I16x8RelaxedLaneselect)
+        self.visitor
+            .simd_numeric(SimdNumericOperator::I16x8RelaxedLaneselect)
     }
 
     fn visit_i16x8_relaxed_q15mulr_s(&mut self) -> A::Output {
-        self.visitor.simd_numeric(SimdNumericOperator::I16x8RelaxedQ15mulrS)
+        self.visitor
+            .simd_numeric(SimdNumericOperator::I16x8RelaxedQ15mulrS)
     }
 
     fn visit_i16x8_relaxed_dot_i8x16_i7x16_s(&mut self) -> A::Output {
-        self.visitor.simd_numeric(SimdNumericOperator::I16x8RelaxedDotI8x16I7x16S)
+        self.visitor
+            .simd_numeric(SimdNumericOperator::I16x8RelaxedDotI8x16I7x16S)
     }
 }

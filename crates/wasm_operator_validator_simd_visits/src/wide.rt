@@ -55,11 +55,13 @@ impl<'a, 'v, 'r, R: WasmModuleResources, A: AnswerAs> VisitSimdWide<'a>
     }
 
     fn visit_i32x4_extadd_pairwise_i16x8_s(&mut self) -> A::Output {
-        self.visitor.simd_numeric(SimdNumericOperator::I32x4ExtAddPairwiseI16x8S)
+        self.visitor
+            .simd_numeric(SimdNumericOperator::I32x4ExtAddPairwiseI16x8S)
     }
 
     fn visit_i32x4_extadd_pairwise_i16x8_u(&mut self) -> A::Output {
-        self.visitor.simd_numeric(SimdNumericOperator::I32x4ExtAddPairwiseI16x8U)
+        self.visitor
+            .simd_numeric(SimdNumericOperator::I32x4ExtAddPairwiseI16x8U)
     }
 
     fn visit_i32x4_abs(&mut self) -> A::Output {
@@ -79,19 +81,23 @@ impl<'a, 'v, 'r, R: WasmModuleResources, A: AnswerAs> VisitSimdWide<'a>
     }
 
     fn visit_i32x4_extend_low_i16x8_s(&mut self) -> A::Output {
-        self.visitor.simd_numeric(SimdNumericOperator::I32x4ExtendLowI16x8S)
+        self.visitor
+            .simd_numeric(SimdNumericOperator::I32x4ExtendLowI16x8S)
     }
 
     fn visit_i32x4_extend_high_i16x8_s(&mut self) -> A::Output {
-        self.visitor.simd_numeric(SimdNumericOperator::I32x4ExtendHighI16x8S)
+        self.visitor
+            .simd_numeric(SimdNumericOperator::I32x4ExtendHighI16x8S)
     }
 
     fn visit_i32x4_extend_low_i16x8_u(&mut self) -> A::Output {
-        self.visitor.simd_numeric(SimdNumericOperator::I32x4ExtendLowI16x8U)
+        self.visitor
+            .simd_numeric(SimdNumericOperator::I32x4ExtendLowI16x8U)
     }
 
     fn visit_i32x4_extend_high_i16x8_u(&mut self) -> A::Output {
-        self.visitor.simd_numeric(SimdNumericOperator::I32x4ExtendHighI16x8U)
+        self.visitor
+            .simd_numeric(SimdNumericOperator::I32x4ExtendHighI16x8U)
     }
 
     fn visit_i32x4_shl(&mut self) -> A::Output {
@@ -135,23 +141,28 @@ impl<'a, 'v, 'r, R: WasmModuleResources, A: AnswerAs> VisitSimdWide<'a>
     }
 
     fn visit_i32x4_dot_i16x8_s(&mut self) -> A::Output {
-        self.visitor.simd_numeric(SimdNumericOperator::I32x4DotI16x8S)
+        self.visitor
+            .simd_numeric(SimdNumericOperator::I32x4DotI16x8S)
     }
 
     fn visit_i32x4_extmul_low_i16x8_s(&mut self) -> A::Output {
-        self.visitor.simd_numeric(SimdNumericOperator::I32x4ExtMulLowI16x8S)
+        self.visitor
+            .simd_numeric(SimdNumericOperator::I32x4ExtMulLowI16x8S)
     }
 
     fn visit_i32x4_extmul_high_i16x8_s(&mut self) -> A::Output {
-        self.visitor.simd_numeric(SimdNumericOperator::I32x4ExtMulHighI16x8S)
+        self.visitor
+            .simd_numeric(SimdNumericOperator::I32x4ExtMulHighI16x8S)
     }
 
     fn visit_i32x4_extmul_low_i16x8_u(&mut self) -> A::Output {
-        self.visitor.simd_numeric(SimdNumericOperator::I32x4ExtMulLowI16x8U)
+        self.visitor
+            .simd_numeric(SimdNumericOperator::I32x4ExtMulLowI16x8U)
     }
 
     fn visit_i32x4_extmul_high_i16x8_u(&mut self) -> A::Output {
-        self.visitor.simd_numeric(SimdNumericOperator::I32x4ExtMulHighI16x8U)
+        self.visitor
+            .simd_numeric(SimdNumericOperator::I32x4ExtMulHighI16x8U)
     }
 
     fn visit_i64x2_abs(&mut self) -> A::Output {
@@ -171,19 +182,23 @@ impl<'a, 'v, 'r, R: WasmModuleResources, A: AnswerAs> VisitSimdWide<'a>
     }
 
     fn visit_i64x2_extend_low_i32x4_s(&mut self) -> A::Output {
-        self.visitor.simd_numeric(SimdNumericOperator::I64x2ExtendLowI32x4S)
+        self.visitor
+            .simd_numeric(SimdNumericOperator::I64x2ExtendLowI32x4S)
     }
 
     fn visit_i64x2_extend_high_i32x4_s(&mut self) -> A::Output {
-        self.visitor.simd_numeric(SimdNumericOperator::I64x2ExtendHighI32x4S)
+        self.visitor
+            .simd_numeric(SimdNumericOperator::I64x2ExtendHighI32x4S)
     }
 
     fn visit_i64x2_extend_low_i32x4_u(&mut self) -> A::Output {
-        self.visitor.simd_numeric(SimdNumericOperator::I64x2ExtendLowI32x4U)
+        self.visitor
+            .simd_numeric(SimdNumericOperator::I64x2ExtendLowI32x4U)
     }
 
     fn visit_i64x2_extend_high_i32x4_u(&mut self) -> A::Output {
-        self.visitor.simd_numeric(SimdNumericOperator::I64x2ExtendHighI32x4U)
+        self.visitor
+            .simd_numeric(SimdNumericOperator::I64x2ExtendHighI32x4U)
     }
 
     fn visit_i64x2_shl(&mut self) -> A::Output {
@@ -235,62 +250,77 @@ impl<'a, 'v, 'r, R: WasmModuleResources, A: AnswerAs> VisitSimdWide<'a>
     }
 
     fn visit_i64x2_extmul_low_i32x4_s(&mut self) -> A::Output {
-        self.visitor.simd_numeric(SimdNumericOperator::I64x2ExtMulLowI32x4S)
+        self.visitor
+            .simd_numeric(SimdNumericOperator::I64x2ExtMulLowI32x4S)
     }
 
     fn visit_i64x2_extmul_high_i32x4_s(&mut self) -> A::Output {
-        self.visitor.simd_numeric(SimdNumericOperator::I64x2ExtMulHighI32x4S)
+        self.visitor
+            .simd_numeric(SimdNumericOperator::I64x2ExtMulHighI32x4S)
     }
 
     fn visit_i64x2_extmul_low_i32x4_u(&mut self) -> A::Output {
-        self.visitor.simd_numeric(SimdNumericOperator::I64x2ExtMulLowI32x4U)
+        self.visitor
+            .simd_numeric(SimdNumericOperator::I64x2ExtMulLowI32x4U)
     }
 
     fn visit_i64x2_extmul_high_i32x4_u(&mut self) -> A::Output {
-        self.visitor.simd_numeric(SimdNumericOperator::I64x2ExtMulHighI32x4U)
+        self.visitor
+            .simd_numeric(SimdNumericOperator::I64x2ExtMulHighI32x4U)
     }
 
     fn visit_i32x4_trunc_sat_f32x4_s(&mut self) -> A::Output {
-        self.visitor.simd_numeric(SimdNumericOperator::I32x4TruncSatF32x4S)
+        self.visitor
+            .simd_numeric(SimdNumericOperator::I32x4TruncSatF32x4S)
     }
 
     fn visit_i32x4_trunc_sat_f32x4_u(&mut self) -> A::Output {
-        self.visitor.simd_numeric(SimdNumericOperator::I32x4TruncSatF32x4U)
+        self.visitor
+            .simd_numeric(SimdNumericOperator::I32x4TruncSatF32x4U)
     }
 
     fn visit_i32x4_trunc_sat_f64x2_s_zero(&mut self) -> A::Output {
-        self.visitor.simd_numeric(SimdNumericOperator::I32x4TruncSatF64x2SZero)
+        self.visitor
+            .simd_numeric(SimdNumericOperator::I32x4TruncSatF64x2SZero)
     }
 
     fn visit_i32x4_trunc_sat_f64x2_u_zero(&mut self) -> A::Output {
-        self.visitor.simd_numeric(SimdNumericOperator::I32x4TruncSatF64x2UZero)
+        self.visitor
+            .simd_numeric(SimdNumericOperator::I32x4TruncSatF64x2UZero)
     }
 
     fn visit_i32x4_relaxed_trunc_f32x4_s(&mut self) -> A::Output {
-        self.visitor.simd_numeric(SimdNumericOperator::I32x4RelaxedTruncF32x4S)
+        self.visitor
+            .simd_numeric(SimdNumericOperator::I32x4RelaxedTruncF32x4S)
     }
 
     fn visit_i32x4_relaxed_trunc_f32x4_u(&mut self) -> A::Output {
-        self.visitor.simd_numeric(SimdNumericOperator::I32x4RelaxedTruncF32x4U)
+        self.visitor
+            .simd_numeric(SimdNumericOperator::I32x4RelaxedTruncF32x4U)
     }
 
     fn visit_i32x4_relaxed_trunc_f64x2_s_zero(&mut self) -> A::Output {
-        self.visitor.simd_numeric(SimdNumericOperator::I32x4RelaxedTruncF64x2SZero)
+        self.visitor
+            .simd_numeric(SimdNumericOperator::I32x4RelaxedTruncF64x2SZero)
     }
 
     fn visit_i32x4_relaxed_trunc_f64x2_u_zero(&mut self) -> A::Output {
-        self.visitor.simd_numeric(SimdNumericOperator::I32x4RelaxedTruncF64x2UZero)
+        self.visitor
+            .simd_numeric(SimdNumericOperator::I32x4RelaxedTruncF64x2UZero)
     }
 
     fn visit_i32x4_relaxed_laneselect(&mut self) -> A::Output {
-        self.visitor.simd_numeric(SimdNumericOperator::I32x4RelaxedLaneselect)
+        self.visitor
+            .simd_numeric(SimdNumericOperator::I32x4RelaxedLaneselect)
     }
 
     fn visit_i64x2_relaxed_laneselect(&mut self) -> A::Output {
-        self.visitor.simd_numeric(SimdNumericOperator::I64x2RelaxedLaneselect)
+        self.visitor
+            .simd_numeric(SimdNumericOperator::I64x2RelaxedLaneselect)
     }
 
     fn visit_i32x4_relaxed_dot_i8x16_i7x16_add_s(&mut self) -> A::Output {
-        self.visitor.simd_numeric(SimdNumericOperator::I32x4RelaxedDotI8x16I7x16AddS)
+        self.visitor
+            .simd_numeric(SimdNumericOperator::I32x4RelaxedDotI8x16I7x16AddS)
     }
 }

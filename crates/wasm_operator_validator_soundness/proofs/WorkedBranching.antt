@@ -144,7 +144,7 @@ module _ (x : ℤ) where
     reference_from = starts 2 (by_reference x) refl;
     clause_from = starts 3 (by_clause x) refl;
     looped = (_, (_, tt, refl, (_, tt, refl, (_, (((tt, refl), tt), tt), refl, (_, tt, refl, (_, (((tt, refl), tt), tt), refl, (_, tt, refl, (_, (((tt, refl), tt), tt), refl, (_, tt, refl, (_, (((tt, refl), tt), tt), refl, refl))))))))), tt, refl);
-    cast_branches = (_, (_, tt, refl, (_, (((tt, refl), tt), tt), refl, (_, (((tt, (tt, (refl, same))), tt), tt), refl, (_, (λ e. (tt, (tt, (refl, same))), tt), refl, (_, (((tt, refl), tt), tt), refl, refl))))), tt, refl);
+    cast_branches = (_, (_, tt, refl, (_, (((tt, refl), tt), tt), refl, (_, (((tt, (tt, (refl, same))), tt), tt), refl, (_, (λ e. (tt, (tt, (refl, same))), tt), refl, (_, tt, refl, refl))))), tt, refl);
     cast_stays = (_, (_, tt, refl, (_, (((tt, refl), tt), tt), refl, (_, (((tt, (tt, (refl, same))), tt), tt), refl, (_, (λ e. absurd (true≢false (sym e)), tt), refl, (_, tt, refl, refl))))), tt, refl);
     thrown_by_reference = (_, (_, tt, refl, (_, tt, refl, (_, (((tt, refl), tt), tt), refl, (_, tt, refl, refl)))), (((tt, refl), tt), tt), refl);
     thrown_by_clause = (_, (_, tt, refl, (_, (((tt, refl), tt), tt), refl, (_, tt, refl, refl))), (((tt, refl), tt), tt), refl);

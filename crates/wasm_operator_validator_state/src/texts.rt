@@ -316,7 +316,8 @@ pub fn reason_text(reason: Reason) -> &'static str {
         Reason::AtomicComparable => {
             "invalid type: only `i32`, `i64` and subtypes of `eqref` can be compared atomically"
         }
-        Reason::HandlerLabel => "type mismatch: a handler's label must end with a continuation type",
+        Reason::HandlerLabel =>
+            "type mismatch: a handler's label must end with a continuation type",
         Reason::HandlerCarries => "type mismatch between tag type and label type",
         Reason::HandlerContinues => "type mismatch in continuation type",
         Reason::SwitchCarries => "type mismatch: non-empty tag parameter type",

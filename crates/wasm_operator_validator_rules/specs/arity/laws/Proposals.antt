@@ -174,7 +174,7 @@ and_one ts u c = ap (λ (n : ℕ). just n c) (sym (length-append ts (u ∷ [])))
 
 pub continuation_operator_counted : (k : Known) (g : Context) (o : ContinuationTree) (p q : List Operand) → k.«module» ≡ g.«module» → ContinuationRow g o p q
     → counts_of k (op.Continuation o) ≡ Some (length p, length q)
-continuation_operator_counted k g (op.ContNew x) p q m r = takes_counted _ (reference_to r.1 ∷ []) (continued r.0 ∷ []) p q r.5 refl
+continuation_operator_counted k g (op.ContNew x) p q m r = takes_counted _ (reference_to r.1 ∷ []) (continued r.0 ∷ []) p q r.6 refl
 continuation_operator_counted k g (op.ContBind x y) p q m r =
     let b = r.3 in
     let old = named_counted g x r.0 b.old b.old_named in
