@@ -215,14 +215,8 @@ pub(crate) fn br_table(
     if count as usize > bytes.len() {
         return None;
     }
-    let Some((types, end)) = labels_at(
-        *tables.known.flat.allocator(),
-        tables.known.flat.as_slice(),
-        bytes,
-        first,
-        count,
-        opens,
-    ) else {
+    let Some((types, end)) = labels_at(tables.known.flat.as_slice(), bytes, first, count, opens)
+    else {
         return None;
     };
     let Some(results) = part(
