@@ -22,10 +22,14 @@ allowed_index true text i n e is g = g
 allowed_index false text i n e is g = absurd cc
 
 -- an index that is 0 is read where indices may be
-pub first_index : (allowed refused : Bool) (text : List ℕ) (i n e : ℕ) → refused ≡ allowed → refused ≡ true → GivesAt u32 text i n e → n ≡ 0
+pub long_first : (allowed refused : Bool) (text : List ℕ) (i n e : ℕ) → refused ≡ allowed → refused ≡ true → GivesAt u32 text i n e → n ≡ 0
     → GivesAt (index_or_zero allowed) text i 0 e
-first_index allowed refused text i n e same is g zero =
+long_first allowed refused text i n e same is g zero =
     subst (λ (k : ℕ). GivesAt (index_or_zero allowed) text i k e) zero (allowed_index allowed text i n e (sym same ∙ is) g)
+
+-- one that is read wherever an index or a zero is
+pub short_first : (allowed : Bool) (text : List ℕ) (i n e : ℕ) → n ≡ 0 → ((b : Bool) → GivesAt (index_or_zero b) text i n e) → GivesAt (index_or_zero allowed) text i 0 e
+short_first allowed text i n e zero g = subst (λ (k : ℕ). GivesAt (index_or_zero allowed) text i k e) zero (g allowed)
 
 -- ---- five bytes
 

@@ -327,6 +327,7 @@ pub(crate) fn call(
 
 // The offset behind the index 0 of a table. Linkers write it in five bytes, which the features may allow.
 #[inline(always)]
+#[tactic(auto, using(crate::proofs::Indexed::short_first, crate::proofs::Indexed::long_first))]
 fn first_table_at(bytes: &[u8], at: usize, features: WasmFeatures) -> Option<usize>
     requires { at ≤ length bytes.now }
     ensures { IfSome result (λ end. GivesAt (index_or_zero (may_index features.0 TableSpace)) bytes.now at 0 end) }
