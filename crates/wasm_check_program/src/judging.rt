@@ -1,7 +1,6 @@
 //! Inputs are judged by the validator of modules.
 ghost use Rattle.std.specs.Prelude.{◌≡◌, IfOk, IfErr};
 ghost use Rattle.wasm_module_validator.specs.rules.Accepts.{AcceptsUnder};
-ghost use Rattle.wasm_module_validator.specs.soundness.Soundness.{AcceptedIsSound};
 ghost use Rattle.wasm_types.specs.settings.Limits.{IsWithinCeilings};
 ghost use Rattle.wasm_check_command.specs.Modes.{HasPieces, ruling_by};
 ghost use Rattle.wasm_check_command.specs.Reports.{sources_of, IsReported, Stops};
@@ -69,9 +68,6 @@ fn unjudged(fault: ReadError) -> Unjudged
 
 /// Judges each input by a validator of its own with these features and limits, in order, and writes a line for each. Inputs are read
 /// whole, or judged as they come, as the mode says.
-///
-/// Each module that is called valid runs soundly, whatever the features and limits (`AcceptedIsSound`): if the features are those of the
-/// standard, no run of it is stuck (WebAssembly 3.0, appendix, soundness).
 pub fn check<R: Read + Drop, W: Write>(
     alloc: Global,
     inputs: Vec<Input<'_, R>>,
@@ -88,7 +84,6 @@ pub fn check<R: Read + Drop, W: Write>(
     ensures err { IfErr result (Stops (ruling_by AcceptsUnder features.0 limits mode)
         (sources_of R.remaining inputs.entry.items)
         (W.contents out.old) (W.contents out.new)) }
-    ensures sound { AcceptedIsSound }
 {
     check_by(&Validating, alloc, inputs, features, limits, mode, out)
 }
