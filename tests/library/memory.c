@@ -1,4 +1,5 @@
-// Refuses each allocation of a validation in turn, until one meets no refusal: the answer is "out of memory" and nothing else until then.
+// Refuses each allocation of a validation in turn, and all that come after it, until one meets no refusal. The answer is "out of memory",
+// or that of a validation with ample memory, since a type's ancestors are looked for one by one if there is no memory to keep them.
 // It is linked with the archive of proved code alone, whose three functions of memory are defined here. usage: memory FILE..
 #include <durskeyl.h>
 #include <stdbool.h>
@@ -37,7 +38,7 @@ int main(int count, char **words) {
     durskeyl_settings settings;
     durskeyl_fault fault;
     static uint8_t bytes[1 << 20];
-    long tried = 0;
+    long tried = 0, without = 0;
     durskeyl_settings_default(&settings);
     for (int i = 1; i < count; i++) {
         FILE *file = fopen(words[i], "rb");
@@ -61,13 +62,15 @@ int main(int count, char **words) {
                 }
                 break;
             }
-            if (kind != DURSKEYL_OUT_OF_MEMORY) {
-                printf("%s: kind %u where allocation %ld is refused\n", words[i], kind, n);
+            if (kind != DURSKEYL_OUT_OF_MEMORY && kind != wanted) {
+                printf("%s: kind %u in the place of %u where allocation %ld is refused\n", words[i], kind, wanted, n);
                 return 1;
             }
+            without += kind == wanted;
             tried++;
         }
     }
-    printf("%ld allocations refused in turn\n", tried);
-    return 0;
+    printf("%ld allocations refused in turn; %ld validations did without\n", tried, without);
+    // few can do so: were it most, a refusal would not be told
+    return without * 10 < tried ? 0 : 1;
 }

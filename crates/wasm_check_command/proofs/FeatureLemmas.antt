@@ -7,7 +7,8 @@ use Rattle.std.proofs.lemmas.Simd.{map-map}
 use Rattle.std.proofs.lemmas.List.{at_drop_more, at_drop_all}
 use Rattle.bitflags.specs.declared.traits.Flag.{Flag}
 use Rattle.wasm_types.specs.settings.declared.features.WasmFeatures.{WasmFeatures}
-use Rattle.wasm_check_command.specs.FeatureLists.{word_of, named, feature_words, set_after, feature_step}
+use Rattle.wasm_check_command.specs.FeatureLists.{word_of, named, set_after, feature_step}
+use Rattle.wasm_check_lines.specs.FeatureWords.{feature_words}
 
 -- the flags as rows of words
 abbrev pub rows_of : List (Flag WasmFeatures) → List (List ℕ × ℕ)

@@ -1,5 +1,5 @@
 -- What clap finds in the words, as the files that they name.
-use Rattle.std.proofs.Common.{◌≡◌, ◌==◌, true, false, arith, ℕ, ◌<◌, List, [], ◌∷◌, length, map, ap, sym, subst, refl, inl, inr, ◌∙◌}
+use Rattle.std.proofs.Common.{◌≡◌, ◌==◌, ◌⊎◌, Bool, true, false, arith, ℕ, ◌<◌, List, [], ◌∷◌, length, map, ap, sym, subst, refl, inl, inr, ◌∙◌, lit≤}
 use Rattle.std.specs.Prelude.{codes, Option, Some, None, Result, Ok, Err, IfOk, IfErr, IsSomeAnd, option_map, unwrap_or}
 use Rattle.clap.specs.Words.{FailsBy, fault_of, is_simple_and_free}
 use Rattle.clap.specs.declared.error.Error.{Error}
@@ -10,13 +10,17 @@ use Rattle.clap.specs.Walk.{all_of, first_of, rows_of}
 use Rattle.clap.specs.Matches.{found_of, matched_of, raw_values, first_value}
 use Rattle.clap.proofs.WalkLemmas.{raw_values-rows, first_value-rows}
 use Rattle.clap.specs.declared.parser.matches.ArgMatches.{ArgMatches}
-use Rattle.wasm_check_command.specs.Words.{wasm_check, IsHelp, AsksForHelp, features_list, limits_list, files_of, matches_on, refusals_of}
+use Rattle.wasm_check_command.specs.Words.{wasm_check, IsHelp, AsksForHelp, AsksForTable, files_of, matches_on, refusals_of}
 use Rattle.wasm_check_command.specs.declared.command.Fault.{Fault}
 use Rattle.wasm_check_command.specs.declared.judging.Status.{Status}
 use Rattle.wasm_check_command.specs.declared.judging.Status.TheVariants.{AllValid, SomeInvalid}
 use Rattle.wasm_types.specs.settings.Settings.{Settings}
-use Rattle.wasm_check_command.specs.Settings.{Asked, asked_by}
-use Rattle.wasm_check_command.specs.Files.{texts, asked_of, code_of, ReportsBy, StopsBy, IsStopped, Reports, HasNoStatus, IsUnshown}
+use Rattle.wasm_check_command.specs.Settings.{Asked, IsGiven, asked_by, manner_by, settings_of}
+use Rattle.wasm_check_command.specs.Modes.{manner_of, ruled, ruling_of}
+use Rattle.wasm_check_command.specs.declared.judging.Chosen.{Chosen}
+use Rattle.wasm_check_command.specs.Files.{texts, lists_in, code_of, code_of_ended, ReportsBy, ReportsEnd, StopsBy, Reports, HasNoStatus, IsUnshown, EndsRun, EndsBy, GoesOn, StopsFiles, StopsGoingBy}
+use Rattle.wasm_check_command.specs.declared.files.Ended.{Ended}
+use Rattle.wasm_check_lines.specs.declared.forms.Form.{Form}
 use Rattle.wasm_check_command.specs.declared.command.Fault.TheVariants as faults
 use Rattle.std.specs.Io.KnownBytes.{Keeps}
 use Rattle.clap.specs.Kinds.{HasKind, IsAmong}
@@ -49,24 +53,24 @@ pub some_texts : (names : List (Bor (List ℕ))) → false ≡ (length names == 
 some_texts [] e = absurd cc
 some_texts (n ∷ names) e = omega arith
 
--- the list that the matches have for an option, as that of the words
+-- the value that the matches have for an option, as that of the words
 pub listed_by : (name : List ℕ) (words : List (List ℕ)) (m : ArgMatches) (o : Option (Bor (List ℕ))) → rows_of (found_of m) ≡ matches_on words
     → option_map (λ s. s.now) o ≡ first_value (found_of m) name → option_map (λ s. s.now) o ≡ first_of name (matches_on words)
 listed_by name words m o r g = g ∙ first_value-rows (found_of m) name ∙ ap (first_of name) r
 
-with_values : Option (List ℕ) → Option (List ℕ) → Option (List ℕ) → Asked
-with_values f l n = record { features = f; limits = l; pieces = n }
+-- the lists that they have
+pub lists_by : (name : List ℕ) (words : List (List ℕ)) (m : ArgMatches) (o : Option (Bor (List (Bor (List ℕ))))) → rows_of (found_of m) ≡ matches_on words
+    → option_map (λ s. map (λ v. v.now) s.now) o ≡ option_map raw_values (matched_of (found_of m) name)
+    → lists_in o ≡ unwrap_or (all_of name (matches_on words)) []
+lists_by name words m None r g = ap (λ (x : Option (List (List ℕ))). unwrap_or x []) (g ∙ raw_values-rows (found_of m) name ∙ ap (all_of name) r)
+lists_by name words m (Some lists) r g = ap (λ (x : Option (List (List ℕ))). unwrap_or x []) (g ∙ raw_values-rows (found_of m) name ∙ ap (all_of name) r)
 
--- the values that the matches have, as those of the words
-pub asks_by : (words : List (List ℕ)) (m : ArgMatches) (features limits pieces : Option (Bor (List ℕ))) → rows_of (found_of m) ≡ matches_on words
-    → option_map (λ s. s.now) features ≡ first_value (found_of m) (codes "features") → option_map (λ s. s.now) limits ≡ first_value (found_of m) (codes "limits")
-    → option_map (λ s. s.now) pieces ≡ first_value (found_of m) (codes "pieces")
-    → asked_of (record { features = features; limits = limits; pieces = pieces }) ≡ asked_by words
-unfolding with_values
-asks_by words m features limits pieces r f l n =
-    ap (λ x. with_values x (option_map (λ s. s.now) limits) (option_map (λ s. s.now) pieces)) (listed_by (codes "features") words m features r f)
-    ∙ ap (λ x. with_values (features_list words) x (option_map (λ s. s.now) pieces)) (listed_by (codes "limits") words m limits r l)
-    ∙ ap (with_values (features_list words) (limits_list words)) (listed_by (codes "pieces") words m pieces r n)
+-- what the options ask for, part by part
+pub asks_alike : {f g l k : List (List ℕ)} {n o : Option (List ℕ)} {v w : Bool} {m p : Form} {x y : Bool} {q r : Bool}
+    → f ≡ g → l ≡ k → n ≡ o → v ≡ w → m ≡ p → x ≡ y → q ≡ r
+    → ◌≡◌ {A = Asked} (record { features = f; limits = l; pieces = n; vectors = v; form = m; explains = x; goes_on = q })
+    (record { features = g; limits = k; pieces = o; vectors = w; form = p; explains = y; goes_on = r })
+asks_alike a b c d e f g = rw (a, b, c, d, e, f, g) refl
 
 -- the matches have no file
 pub no_names : (words : List (List ℕ)) (m : ArgMatches) (o : Option (Bor (List (Bor (List ℕ))))) → rows_of (found_of m) ≡ matches_on words
@@ -89,7 +93,7 @@ module _ (accepts : Settings → List ℕ → Type 0) (words : List (List ℕ)) 
 
   -- memory ran out
   no_memory : HasNoStatus accepts words old new
-  no_memory = inr (inr (faults.OutOfMemory, inl (inr (inr refl), kept)))
+  no_memory = inr (inr (inl (faults.OutOfMemory, inl (inr (inr refl), kept))))
 
   -- clap refused the words
   refused_words : (e : Error) → HasKind (refusals_of words) e → HasNoStatus accepts words old new
@@ -100,8 +104,8 @@ module _ (accepts : Settings → List ℕ → Type 0) (words : List (List ℕ)) 
 pub asked_for : (words : List (List ℕ)) (e : Error) → HasKind (refusals_of words) e → IsHelp (kind_of e) → AsksForHelp words
 asked_for words e (inl h) (inl p) = absurd cc
 asked_for words e (inl h) (inr p) = absurd cc
-asked_for words e (inr h) (inl p) = inl (subst (λ k. IsAmong k (refusals_of words)) p h)
-asked_for words e (inr h) (inr p) = inr (subst (λ k. IsAmong k (refusals_of words)) p h)
+asked_for words e (inr h) (inl p) = inl (inl (subst (λ k. IsAmong k (refusals_of words)) p h))
+asked_for words e (inr h) (inr p) = inl (inr (subst (λ k. IsAmong k (refusals_of words)) p h))
 
 -- what clap answered was not shown as help
 pub unshown : (accepts : Settings → List ℕ → Type 0) (words : List (List ℕ)) (old new : Option (List ℕ)) (e : Error) → HasKind (refusals_of words) e
@@ -111,30 +115,77 @@ unshown accepts words old new e h (inr p) = inr (inl (asked_for words e h p.0, p
 
 module _ (accepts : Settings → List ℕ → Type 0) (words : List (List ℕ)) (asked : Asked) (names : List (List ℕ)) (old new : Option (List ℕ))
     (asks : asked ≡ asked_by words) (named : names ≡ files_of words) where
-  -- status 2 of what was judged is a fault's
-  pub judged_stopped : (r : Result Status Fault) (n : ℕ) → IfErr r (StopsBy accepts asked names old new) → n ≡ code_of r → n ≡ 2 → IsStopped accepts words old new
-  judged_stopped (Ok AllValid) n h q z = absurd (omega (arith, q, z))
-  judged_stopped (Ok SomeInvalid) n h q z = absurd (omega (arith, q, z))
-  judged_stopped (Err f) n h q z =
-      (f, subst (λ a. StopsBy accepts a (files_of words) old new f) asks (subst (λ ns. StopsBy accepts asked ns old new f) named h))
-
   -- what was judged is what the words ask for
-  judged_as : (status : Status) → 0 < length names → ReportsBy accepts asked names old new status → Reports accepts words old new status
-  judged_as status some reported = record {
+  judged_as : (status : Status) (lost : Bool) → ReportsBy accepts asked names old new status lost → ReportsBy accepts (asked_by words) (files_of words) old new status lost
+  judged_as status lost reported =
+      subst (λ a. ReportsBy accepts a (files_of words) old new status lost) asks (subst (λ ns. ReportsBy accepts asked ns old new status lost) named reported)
+
+  reports_as : (status : Status) → 0 < length names → ReportsBy accepts asked names old new status false → Reports accepts words old new status
+  reports_as status some reported = record {
     some = subst (λ (ns : List (List ℕ)). 0 < length ns) named some;
-    reported = subst (λ a. ReportsBy accepts a (files_of words) old new status) asks (subst (λ ns. ReportsBy accepts asked ns old new status) named reported);
+    reported = judged_as status false reported;
   }
 
-  -- what status 0 promises of what was judged
-  pub judged_valid : (r : Result Status Fault) (n : ℕ) → 0 < length names → IfOk r (ReportsBy accepts asked names old new) → n ≡ code_of r → n ≡ 0
-      → Reports accepts words old new AllValid
-  judged_valid (Ok AllValid) n some h q z = judged_as AllValid some h
-  judged_valid (Ok SomeInvalid) n some h q z = absurd (omega (arith, q, z))
-  judged_valid (Err f) n some h q z = absurd (omega (arith, q, z))
+  -- a fault stopped the run
+  stopped_as : (f : Fault) → StopsBy accepts asked names old new f → HasNoStatus accepts words old new
+  stopped_as f h = inr (inr (inl (f, subst (λ a. StopsBy accepts a (files_of words) old new f) asks (subst (λ ns. StopsBy accepts asked ns old new f) named h))))
 
-  -- what status 1 promises of it
-  pub judged_invalid : (r : Result Status Fault) (n : ℕ) → 0 < length names → IfOk r (ReportsBy accepts asked names old new) → n ≡ code_of r → n ≡ 1
-      → Reports accepts words old new SomeInvalid
-  judged_invalid (Ok AllValid) n some h q z = absurd (omega (arith, q, z))
-  judged_invalid (Ok SomeInvalid) n some h q z = judged_as SomeInvalid some h
-  judged_invalid (Err f) n some h q z = absurd (omega (arith, q, z))
+  -- how a run that judged ends
+  ends_by : (n : ℕ) (status : Status) (lost : Bool) → 0 < length names → ReportsBy accepts asked names old new status lost → n ≡ code_of_ended lost status
+      → EndsRun accepts words old new n
+  ends_by n status true some h e =
+      (omega (arith, e), λ z. absurd (omega (arith, e, z)), λ z. absurd (omega (arith, e, z)), λ z. inr (inr (inr (status, judged_as status true h))))
+  ends_by n AllValid false some h e =
+      (omega (arith, e), λ z. reports_as AllValid some h, λ z. absurd (omega (arith, e, z)), λ z. absurd (omega (arith, e, z)))
+  ends_by n SomeInvalid false some h e =
+      (omega (arith, e), λ z. absurd (omega (arith, e, z)), λ z. reports_as SomeInvalid some h, λ z. absurd (omega (arith, e, z)))
+
+  pub ends_run : (r : Result Ended Fault) (n : ℕ) → 0 < length names → IfOk r (ReportsEnd accepts asked names old new) → IfErr r (StopsBy accepts asked names old new)
+      → n ≡ code_of r → EndsRun accepts words old new n
+  ends_run (Ok e) n some h f q = ends_by n e.status e.lost some h q
+  ends_run (Err f) n some h g q = (omega (arith, q), λ z. absurd (omega (arith, q, z)), λ z. absurd (omega (arith, q, z)), λ z. stopped_as f g)
+
+-- the words name no files: status 2
+pub ends_nameless : (accepts : Settings → List ℕ → Type 0) (words : List (List ℕ)) (old new : Option (List ℕ)) → Keeps old new → files_of words ≡ []
+    → EndsRun accepts words old new 2
+ends_nameless accepts words old new kept none = (lit≤ tt, λ z. absurd (omega (arith, z)), λ z. absurd (omega (arith, z)), λ z. no_files accepts words old new kept none)
+
+-- a run that was answered by the help, and by what a fault leaves
+pub asks_table : (words : List (List ℕ)) → AsksForTable (codes "features") words ⊎ AsksForTable (codes "limits") words → AsksForHelp words
+asks_table words h = inr h
+
+-- ---- what the options ask for
+module _ (accepts : Settings → List ℕ → Type 0) (asked : Asked) (c : Chosen) (names : List (List ℕ)) (old new : Option (List ℕ)) (r : Result Ended Fault)
+    (given : IsGiven asked (settings_of c) c.mode) (same : manner_of c ≡ manner_by asked) where
+  pub judged_by : IfOk r (λ e. EndsBy (ruling_of accepts c) names old new e × ((e.lost ≡ false) ⊎ (asked.goes_on ≡ true))) → IfOk r (ReportsEnd accepts asked names old new)
+  judged_by = at r
+    where
+      at : (r : Result Ended Fault) → IfOk r (λ e. EndsBy (ruling_of accepts c) names old new e × ((e.lost ≡ false) ⊎ (asked.goes_on ≡ true)))
+          → IfOk r (ReportsEnd accepts asked names old new)
+      at (Ok e) h = record {
+        settings = settings_of c;
+        mode = c.mode;
+        given = given;
+        reported = subst (λ m. GoesOn (ruled m c.mode (accepts (settings_of c))) names old new e.status e.lost) same h.0;
+        allowed = h.1;
+      }
+      at (Err f) h = tt
+
+  pub stopped_by : IfErr r (λ f. StopsFiles (ruling_of accepts c) names old new f ⊎ ((asked.goes_on ≡ true) × StopsGoingBy (ruling_of accepts c) names old new f))
+      → IfErr r (StopsBy accepts asked names old new)
+  stopped_by = at r
+    where
+      at : (r : Result Ended Fault) → IfErr r (λ f. StopsFiles (ruling_of accepts c) names old new f ⊎ ((asked.goes_on ≡ true) × StopsGoingBy (ruling_of accepts c) names old new f))
+          → IfErr r (StopsBy accepts asked names old new)
+      at (Ok e) h = tt
+      at (Err f) h = inr (
+        settings_of c,
+        c.mode,
+        given,
+        subst (λ m. StopsFiles (ruled m c.mode (accepts (settings_of c))) names old new f ⊎ ((asked.goes_on ≡ true) × StopsGoingBy (ruled m c.mode (accepts (settings_of c))) names old new f)) same h,
+      )
+
+-- what is told of a fault, more weakly
+pub err_weaker : {T E : Type 0} (r : Result T E) (P Q : E → Type 0) → ((e : E) → P e → Q e) → IfErr r P → IfErr r Q
+err_weaker (Ok x) P Q f h = tt
+err_weaker (Err e) P Q f h = f e h

@@ -1,10 +1,10 @@
 -- On files that are judged one after another.
-use Rattle.std.proofs.Common.{◌≡◌, ℕ, suc, ◌<◌, ◌≤◌, List, [], ◌∷◌, ◌++◌, Bool, true, false, IfOk, IfErr, Some, None, Option, Result, Ok, Err, ◌⊎◌, inl, inr}
+use Rattle.std.proofs.Common.{◌≡◌, ℕ, zero, suc, ◌<◌, ◌≤◌, List, [], ◌∷◌, ◌++◌, Bool, true, false, IfOk, IfErr, Some, None, Option, Result, Ok, Err, ◌⊎◌, inl, inr}
 use Rattle.std.proofs.Common.{length, take, map, min, slice_get, get_or, option_map, refl, sym, ap, subst, ◌+◌, ◌∙◌, arith}
 use Rattle.std.specs.Borrow.{Bor}
 use Rattle.std.specs.Prelude.{Contains}
-use Rattle.std.specs.Io.KnownBytes.{Keeps}
-use Rattle.std.proofs.KnownBytes.{Appends-kept, Keeps-refl, Keeps-trans}
+use Rattle.std.specs.Io.KnownBytes.{Appends, Keeps}
+use Rattle.std.proofs.KnownBytes.{Appends-kept, Appends-nil, Keeps-refl, Keeps-trans}
 use Rattle.std.proofs.Math.Seq.{take-suc, take-append_seam, get_or-append_seam}
 use Rattle.std.proofs.lemmas.List.{length-map, length-take, length-take-le, length_push, map-append, map-id, take-map, take-take, take_all, take_min, get_or-take}
 use Rattle.std.proofs.lemmas.List.Elements.{Contains-get_or, Contains-append_left, Contains-append_right}
@@ -15,11 +15,18 @@ use Rattle.wasm_check_command.specs.declared.judging.Input.{Input}
 use Rattle.wasm_check_command.specs.declared.judging.Status.{Status}
 use Rattle.wasm_check_command.specs.declared.judging.Status.TheVariants.{AllValid, SomeInvalid}
 use Rattle.wasm_check_command.specs.declared.command.Fault.{Fault}
+use Rattle.wasm_check_command.specs.declared.files.Ended.{Ended}
 use Rattle.wasm_check_command.specs.declared.command.Fault.TheVariants as faults
-use Rattle.wasm_check_command.specs.Modes.{Ruling}
+use Rattle.wasm_types.specs.settings.Settings.{Settings}
+use Rattle.wasm_check_command.specs.Settings.{settings_by}
+use Rattle.wasm_check_command.specs.Manners.{Manner}
+use Rattle.wasm_check_command.specs.declared.judging.Chosen.{Chosen}
+use Rattle.wasm_check_command.specs.declared.judging.Mode.{Mode}
+use Rattle.wasm_check_command.specs.declared.judging.Mode.TheVariants.{Whole, Pieces}
+use Rattle.wasm_check_command.specs.Modes.{Ruling, manner_of, ruled, ruling_of}
 use Rattle.wasm_check_command.specs.Verdict.{FailsAt}
 use Rattle.wasm_check_command.specs.Reports.{Source}
-use Rattle.wasm_check_command.specs.Files.{texts, joined, IsNamed, CannotOpen, FailsOpening, JudgesFile, FailsFile, FailsAgain, ReportsFiles, StopsChecking, StopsFiles}
+use Rattle.wasm_check_command.specs.Files.{texts, joined, IsNamed, CannotOpen, FailsOpening, JudgesFile, FailsFile, FailsAgain, ReportsFiles, EndsFiles, IsEnough, is_enough, StopsChecking, StopsFiles, select, has_unset, GoesOn, GoesSoFar, LosesFile, StopsGoing, StopsGoingBy, EndsBy, is_unwritten}
 use Rattle.wasm_check_command.proofs.ReportLemmas.{IsReported-none, IsReported-valid, IsReported-invalid, Stops-after, Stops-kept, flush_failed}
 
 -- a file as a contract sees it
@@ -76,6 +83,7 @@ pub fails_among : (some all : List (List ℕ)) (f : Fault) → ((name : List ℕ
 fails_among some all (faults.CannotOpen name reason) among h = among name.now h
 fails_among some all (faults.Stopped error name reason) among h = absurd h
 fails_among some all faults.OutOfMemory among h = tt
+fails_among some all (faults.CannotHold reason) among h = absurd h
 fails_among some all (faults.UnknownFeature word) among h = absurd h
 fails_among some all (faults.WrongPieces word) among h = absurd h
 fails_among some all (faults.WrongLimit wrong word) among h = absurd h
@@ -85,6 +93,7 @@ fails_named : (names : List (List ℕ)) (name : List ℕ) (f : Fault) → Contai
 fails_named names name (faults.CannotOpen told reason) has h = rw h has
 fails_named names name (faults.Stopped error told reason) has h = absurd h
 fails_named names name faults.OutOfMemory has h = absurd h
+fails_named names name (faults.CannotHold reason) has h = absurd h
 fails_named names name (faults.UnknownFeature word) has h = absurd h
 fails_named names name (faults.WrongPieces word) has h = absurd h
 fails_named names name (faults.WrongLimit wrong word) has h = absurd h
@@ -136,6 +145,65 @@ still_kept old mid new (inl e) (inl f) = inl (f ∙ e)
 still_kept old mid new (inr e) (inl f) = inr (f ∙ e)
 still_kept old mid new h (inr f) = inr f
 
+-- ---- flags
+
+-- a file more that was judged
+select_judged : (flags : List Bool) (all : List (List ℕ)) (name : List ℕ) → slice_get all (length flags) ≡ Some name
+    → select (flags ++ true ∷ []) all ≡ select flags all ++ name ∷ []
+select_judged [] [] name found = absurd cc
+select_judged [] (x ∷ all) name found = ap (λ n. n ∷ []) (some_same x name found)
+  where
+    some_same : (x y : List ℕ) → Some x ≡ Some y → x ≡ y
+    some_same x y e = cc
+select_judged (b ∷ flags) [] name found = absurd cc
+select_judged (true ∷ flags) (x ∷ all) name found = ap (λ ns. x ∷ ns) (select_judged flags all name found)
+select_judged (false ∷ flags) (x ∷ all) name found = select_judged flags all name found
+
+-- one more that was not
+select_lost : (flags : List Bool) (all : List (List ℕ)) → select (flags ++ false ∷ []) all ≡ select flags all
+select_lost [] [] = refl
+select_lost [] (x ∷ all) = refl
+select_lost (b ∷ flags) [] = refl
+select_lost (true ∷ flags) (x ∷ all) = ap (λ ns. x ∷ ns) (select_lost flags all)
+select_lost (false ∷ flags) (x ∷ all) = select_lost flags all
+
+unset_judged : (flags : List Bool) → has_unset (flags ++ true ∷ []) ≡ has_unset flags
+unset_judged [] = refl
+unset_judged (true ∷ flags) = unset_judged flags
+unset_judged (false ∷ flags) = refl
+
+unset_lost : (flags : List Bool) → has_unset (flags ++ false ∷ []) ≡ true
+unset_lost [] = refl
+unset_lost (true ∷ flags) = unset_lost flags
+unset_lost (false ∷ flags) = refl
+
+-- so many flags that are set
+abbrev pub all_set : ℕ → List Bool
+all_set zero = []
+all_set (suc n) = true ∷ all_set n
+
+length_all_set : (n : ℕ) → length (all_set n) ≡ n
+length_all_set zero = refl
+length_all_set (suc n) = ap suc (length_all_set n)
+
+none_unset : (n : ℕ) → has_unset (all_set n) ≡ false
+none_unset zero = refl
+none_unset (suc n) = none_unset n
+
+select_all : (n : ℕ) (all : List (List ℕ)) → n ≤ length all → select (all_set n) all ≡ take n all
+select_all zero all h = refl
+select_all (suc n) [] h = refl
+select_all (suc n) (x ∷ all) h = ap (λ ns. x ∷ ns) (select_all n all (omega (arith, h)))
+
+-- however inputs are read, lines are written in the manner that was chosen
+pub enough_by : (accepts : Settings → List ℕ → Type 0) (c : Chosen) (status : Status) (b : Bool) → b ≡ is_enough c.form status
+    → is_enough (ruling_of accepts c).manner.form status ≡ b
+enough_by accepts c status b e = ap (λ (m : Manner). is_enough m.form status) (same c.mode (accepts (settings_by c.features.0 c.limits))) ∙ sym e
+  where
+    same : (mode : Mode) (valid : List ℕ → Type 0) → (ruled (manner_of c) mode valid).manner ≡ manner_of c
+    same Whole valid = refl
+    same (Pieces piece) valid = refl
+
 -- ---- over any judge of bytes
 module _ (ruling : Ruling) where
   -- no file was judged yet
@@ -165,9 +233,36 @@ module _ (ruling : Ruling) where
       (reports_more (take index all) name old mid new status valid r j))
 
   -- all files
-  pub reports_all : (all : List (List ℕ)) (index : ℕ) (old new : Option (List ℕ)) (status : Status) → ReportsFiles ruling (take index all) old new status
-      → length all ≤ index → ReportsFiles ruling all old new status
-  reports_all all index old new status r past = subst (λ ns. ReportsFiles ruling ns old new status) (take_all index all past) r
+  pub ends_all : (all : List (List ℕ)) (index : ℕ) (old new : Option (List ℕ)) (status : Status) → ReportsFiles ruling (take index all) old new status
+      → length all ≤ index → EndsFiles ruling all old new status
+  ends_all all index old new status r past = record { judged = index; reported = r; whole = inl past }
+
+  -- as many as it takes
+  pub ends_enough : (all : List (List ℕ)) (index : ℕ) (old new : Option (List ℕ)) (status : Status) → ReportsFiles ruling (take index all) old new status
+      → IsEnough ruling status → EndsFiles ruling all old new status
+  ends_enough all index old new status r enough = record { judged = index; reported = r; whole = inr enough }
+
+  -- all of some, if more have to be judged
+  pub ends_whole : (some : List (List ℕ)) (old new : Option (List ℕ)) (status : Status) → EndsFiles ruling some old new status
+      → is_enough ruling.manner.form status ≡ false → ReportsFiles ruling some old new status
+  ends_whole some old new status h more = by_part h.whole
+    where
+      by_part : (length some ≤ h.judged) ⊎ IsEnough ruling status → ReportsFiles ruling some old new status
+      by_part (inl past) = subst (λ ns. ReportsFiles ruling ns old new status) (take_all h.judged some past) h.reported
+      by_part (inr enough) = absurd cc
+
+  -- the first of some are the first of all
+  pub ends_first : (some all : List (List ℕ)) (n : ℕ) (old new : Option (List ℕ)) (status : Status) → EndsFiles ruling some old new status
+      → some ≡ take n all → is_enough ruling.manner.form status ≡ true → EndsFiles ruling all old new status
+  ends_first some all n old new status h front enough =
+      let size = length (take n all) in
+      let inside : min h.judged size ≤ n = omega (arith, length-take n all) in
+      record {
+        judged = min h.judged size;
+        reported = subst (λ ns. ReportsFiles ruling ns old new status)
+            (ap (take h.judged) front ∙ sym (take_min h.judged (take n all)) ∙ take-take (min h.judged size) n all inside) h.reported;
+        whole = inr enough;
+      }
 
   -- nothing more was written
   pub reports_kept : (names : List (List ℕ)) (old mid new : Option (List ℕ)) (status : Status)
@@ -225,6 +320,7 @@ module _ (ruling : Ruling) where
         place = placed all name told.now index h.1.0 mid new e h.0 found h.1.1;
       }
   stops_at all name index old mid new status faults.OutOfMemory r found h = absurd h
+  stops_at all name index old mid new status (faults.CannotHold reason) r found h = absurd h
   stops_at all name index old mid new status (faults.UnknownFeature word) r found h = absurd h
   stops_at all name index old mid new status (faults.WrongPieces word) r found h = absurd h
   stops_at all name index old mid new status (faults.WrongLimit wrong word) r found h = absurd h
@@ -235,6 +331,7 @@ module _ (ruling : Ruling) where
   fails_again index name old (faults.Stopped e told reason) h =
       (h.0, (None, subst (λ x. FailsAt ruling index name None old old x) (sym h.1) (refl, Keeps-refl old)))
   fails_again index name old faults.OutOfMemory h = absurd h
+  fails_again index name old (faults.CannotHold reason) h = absurd h
   fails_again index name old (faults.UnknownFeature word) h = absurd h
   fails_again index name old (faults.WrongPieces word) h = absurd h
   fails_again index name old (faults.WrongLimit wrong word) h = absurd h
@@ -259,9 +356,10 @@ module _ (ruling : Ruling) where
 
   -- whatever was answered before a flush failed
   pub files_unflushed : (r : Result Status Fault) (names : List (List ℕ)) (old mid new : Option (List ℕ)) (told : List ℕ)
-      → IfOk r (ReportsFiles ruling names old mid) → IfErr r (StopsFiles ruling names old mid) → Keeps mid new → StopsChecking ruling names old new Write told
+      → IfOk r (EndsFiles ruling names old mid) → IfErr r (StopsFiles ruling names old mid) → Keeps mid new → StopsChecking ruling names old new Write told
   files_unflushed (Ok status) names old mid new told h e kept =
-      after_files names names (length names) old mid new status told h (sym (take_all (length names) names (omega arith))) refl kept
+      after_files names (take h.judged names) (length (take h.judged names)) old mid new status told h.reported
+      (sym (take_min h.judged names) ∙ ap (λ n. take n names) (sym (length-take h.judged names))) refl kept
   files_unflushed (Err (faults.CannotOpen name reason)) names old mid new told h (inl e) kept = after_nothing names old mid new told e.1 kept
   files_unflushed (Err (faults.CannotOpen name reason)) names old mid new told h (inr e) kept =
       let inside : e.index < length names = slice_get_within names e.index name.now e.found in
@@ -273,14 +371,19 @@ module _ (ruling : Ruling) where
     place = tt;
   }
   files_unflushed (Err faults.OutOfMemory) names old mid new told h e kept = after_nothing names old mid new told e kept
+  files_unflushed (Err (faults.CannotHold reason)) names old mid new told h e kept = after_nothing names old mid new told e kept
   files_unflushed (Err (faults.UnknownFeature word)) names old mid new told h e kept = absurd e
   files_unflushed (Err (faults.WrongPieces word)) names old mid new told h e kept = absurd e
   files_unflushed (Err (faults.WrongLimit wrong word)) names old mid new told h e kept = absurd e
 
   -- a flush changes nothing
   pub files_flushed : (r : Result Status Fault) (names : List (List ℕ)) (old mid new : Option (List ℕ))
-      → IfOk r (ReportsFiles ruling names old mid) → Keeps mid new → IfOk r (ReportsFiles ruling names old new)
-  files_flushed (Ok status) names old mid new h kept = reports_kept names old mid new status h kept
+      → IfOk r (EndsFiles ruling names old mid) → Keeps mid new → IfOk r (EndsFiles ruling names old new)
+  files_flushed (Ok status) names old mid new h kept = record {
+    judged = h.judged;
+    reported = reports_kept (take h.judged names) old mid new status h.reported kept;
+    whole = h.whole;
+  }
   files_flushed (Err f) names old mid new h kept = tt
 
   pub faults_flushed : (r : Result Status Fault) (names : List (List ℕ)) (old mid new : Option (List ℕ))
@@ -301,6 +404,194 @@ module _ (ruling : Ruling) where
     place = h.place;
   }
   faults_flushed (Err faults.OutOfMemory) names old mid new h kept = Keeps-trans old mid new h kept
+  faults_flushed (Err (faults.CannotHold reason)) names old mid new h kept = Keeps-trans old mid new h kept
   faults_flushed (Err (faults.UnknownFeature word)) names old mid new h kept = absurd h
   faults_flushed (Err (faults.WrongPieces word)) names old mid new h kept = absurd h
   faults_flushed (Err (faults.WrongLimit wrong word)) names old mid new h kept = absurd h
+
+  -- ---- files of which some come to no verdict
+  -- nothing was judged yet
+  pub goes_none : (all : List (List ℕ)) (old : Option (List ℕ)) → GoesSoFar ruling all 0 old old AllValid false
+  goes_none all old = record { flags = []; counted = refl; reported = reports_none old; told = refl }
+
+  -- one file more was judged
+  pub goes_more : (all : List (List ℕ)) (name : List ℕ) (place : ℕ) (old mid new : Option (List ℕ)) (status next : Status) (lost valid : Bool)
+      → GoesSoFar ruling all place old mid status lost → slice_get all place ≡ Some name → JudgesFile ruling name mid new valid → next ≡ joined status valid
+      → GoesSoFar ruling all (place + 1) old new next lost
+  goes_more all name place old mid new status next lost valid g found j same = record {
+    flags = g.flags ++ true ∷ [];
+    counted = length_push g.flags true ∙ ap (λ n. n + 1) g.counted;
+    reported = rw same (subst (λ ns. ReportsFiles ruling ns old new (joined status valid)) (sym (select_judged g.flags all name (rw g.counted found)))
+        (reports_more (select g.flags all) name old mid new status valid g.reported j));
+    told = g.told ∙ sym (unset_judged g.flags);
+  }
+
+  -- one file more came to no verdict
+  pub goes_lost : (all : List (List ℕ)) (place : ℕ) (old mid new : Option (List ℕ)) (status : Status) (lost : Bool)
+      → GoesSoFar ruling all place old mid status lost → Keeps mid new → GoesSoFar ruling all (place + 1) old new status true
+  goes_lost all place old mid new status lost g kept = record {
+    flags = g.flags ++ false ∷ [];
+    counted = length_push g.flags false ∙ ap (λ n. n + 1) g.counted;
+    reported = subst (λ ns. ReportsFiles ruling ns old new status) (sym (select_lost g.flags all)) (reports_kept (select g.flags all) old mid new status g.reported kept);
+    told = sym (unset_lost g.flags);
+  }
+
+  -- then it ended
+  pub goes_ended : (all : List (List ℕ)) (place : ℕ) (old new : Option (List ℕ)) (status : Status) (lost : Bool)
+      → GoesSoFar ruling all place old new status lost → place ≤ length all → (length all ≤ place) ⊎ IsEnough ruling status → GoesOn ruling all old new status lost
+  goes_ended all place old new status lost g inside whole = record {
+    flags = g.flags;
+    counted = omega (arith, g.counted, inside);
+    reported = g.reported;
+    told = g.told;
+    whole = until whole;
+  }
+    where
+      until : (length all ≤ place) ⊎ IsEnough ruling status → (length all ≤ length g.flags) ⊎ IsEnough ruling status
+      until (inl past) = inl (omega (arith, g.counted, past))
+      until (inr enough) = inr enough
+
+  -- a line could not be written
+  pub goes_unwritten : (all : List (List ℕ)) (name : List ℕ) (place : ℕ) (old mid new : Option (List ℕ)) (status : Status) (lost : Bool) (f : Fault)
+      → GoesSoFar ruling all place old mid status lost → slice_get all place ≡ Some name → LosesFile ruling name mid new f → is_unwritten f ≡ true
+      → StopsGoingBy ruling all old new f
+  goes_unwritten all name place old mid new status lost (faults.CannotOpen told reason) g found h w = absurd cc
+  goes_unwritten all name place old mid new status lost (faults.Stopped (Read i) told reason) g found h w = absurd cc
+  goes_unwritten all name place old mid new status lost (faults.Stopped (TooLong i) told reason) g found h w = absurd cc
+  goes_unwritten all name place old mid new status lost (faults.Stopped (OutOfMemory i) told reason) g found h w = absurd cc
+  goes_unwritten all name place old mid new status lost (faults.Stopped Write told reason) g found h w = (
+    refl,
+    record {
+      flags = g.flags;
+      counted = omega (arith, g.counted, slice_get_within all place name found);
+      status = status;
+      middle = mid;
+      before = g.reported;
+      name = name;
+      said = h.0;
+      front = h.1;
+      next = h.2;
+      found = inl (ap (slice_get all) g.counted ∙ found);
+      appended = h.3;
+    },
+  )
+  goes_unwritten all name place old mid new status lost faults.OutOfMemory g found h w = absurd h
+  goes_unwritten all name place old mid new status lost (faults.CannotHold reason) g found h w = absurd h
+  goes_unwritten all name place old mid new status lost (faults.UnknownFeature word) g found h w = absurd h
+  goes_unwritten all name place old mid new status lost (faults.WrongPieces word) g found h w = absurd h
+  goes_unwritten all name place old mid new status lost (faults.WrongLimit wrong word) g found h w = absurd h
+
+  -- nothing was written of it
+  pub loses_kept : (name : List ℕ) (old new : Option (List ℕ)) (f : Fault) → LosesFile ruling name old new f → is_unwritten f ≡ false → Keeps old new
+  loses_kept name old new (faults.CannotOpen told reason) h w = h
+  loses_kept name old new (faults.Stopped (Read i) told reason) h w = h
+  loses_kept name old new (faults.Stopped (TooLong i) told reason) h w = h
+  loses_kept name old new (faults.Stopped (OutOfMemory i) told reason) h w = h
+  loses_kept name old new (faults.Stopped Write told reason) h w = absurd cc
+  loses_kept name old new faults.OutOfMemory h w = absurd h
+  loses_kept name old new (faults.CannotHold reason) h w = absurd h
+  loses_kept name old new (faults.UnknownFeature word) h w = absurd h
+  loses_kept name old new (faults.WrongPieces word) h w = absurd h
+  loses_kept name old new (faults.WrongLimit wrong word) h w = absurd h
+
+  -- what stops one file, if the others are judged all the same
+  pub loses_by : (index : ℕ) (name : List ℕ) (old new : Option (List ℕ)) (f : Fault) → FailsFile ruling index name old new f → LosesFile ruling name old new f
+  loses_by index name old new (faults.CannotOpen told reason) h = h.2
+  loses_by index name old new (faults.Stopped (Read i) told reason) h = h.1.1.1
+  loses_by index name old new (faults.Stopped (TooLong i) told reason) h = h.1.1.2
+  loses_by index name old new (faults.Stopped (OutOfMemory i) told reason) h = h.1.1.1
+  loses_by index name old new (faults.Stopped Write told reason) h = (h.1.0, h.1.1.0, h.1.1.1, h.1.1.2)
+  loses_by index name old new faults.OutOfMemory h = absurd h
+  loses_by index name old new (faults.CannotHold reason) h = absurd h
+  loses_by index name old new (faults.UnknownFeature word) h = absurd h
+  loses_by index name old new (faults.WrongPieces word) h = absurd h
+  loses_by index name old new (faults.WrongLimit wrong word) h = absurd h
+
+  -- files that all came to a verdict
+  pub goes_whole : (all : List (List ℕ)) (old new : Option (List ℕ)) (status : Status) → EndsFiles ruling all old new status → GoesOn ruling all old new status false
+  goes_whole all old new status h =
+      let many = min h.judged (length all) in
+      record {
+        flags = all_set many;
+        counted = omega (arith, length_all_set many);
+        reported = subst (λ ns. ReportsFiles ruling ns old new status) (sym (take_min h.judged all) ∙ sym (select_all many all (omega arith))) h.reported;
+        told = sym (none_unset many);
+        whole = until h.whole;
+      }
+    where
+      until : (length all ≤ h.judged) ⊎ IsEnough ruling status → (length all ≤ length (all_set (min h.judged (length all)))) ⊎ IsEnough ruling status
+      until (inl past) = inl (omega (arith, past, length_all_set (min h.judged (length all))))
+      until (inr enough) = inr enough
+
+  -- a flush changes nothing
+  pub going_flushed : (r : Result Ended Fault) (names : List (List ℕ)) (old mid new : Option (List ℕ))
+      → IfOk r (EndsBy ruling names old mid) → Keeps mid new → IfOk r (EndsBy ruling names old new)
+  going_flushed (Ok e) names old mid new h kept = record {
+    flags = h.flags;
+    counted = h.counted;
+    reported = reports_kept (select h.flags names) old mid new e.status h.reported kept;
+    told = h.told;
+    whole = h.whole;
+  }
+  going_flushed (Err f) names old mid new h kept = tt
+
+  pub going_faults_flushed : (r : Result Ended Fault) (names : List (List ℕ)) (old mid new : Option (List ℕ))
+      → IfErr r (StopsGoingBy ruling names old mid) → Keeps mid new → IfErr r (StopsGoingBy ruling names old new)
+  going_faults_flushed (Ok e) names old mid new h kept = tt
+  going_faults_flushed (Err (faults.CannotOpen name reason)) names old mid new h kept = absurd h
+  going_faults_flushed (Err (faults.Stopped error name reason)) names old mid new h kept = (
+    h.0,
+    record {
+      flags = h.1.flags;
+      counted = h.1.counted;
+      status = h.1.status;
+      middle = h.1.middle;
+      before = h.1.before;
+      name = h.1.name;
+      said = h.1.said;
+      front = h.1.front;
+      next = h.1.next;
+      found = h.1.found;
+      appended = Appends-kept h.1.middle mid new h.1.front h.1.appended kept;
+    },
+  )
+  going_faults_flushed (Err faults.OutOfMemory) names old mid new h kept = absurd h
+  going_faults_flushed (Err (faults.CannotHold reason)) names old mid new h kept = Keeps-trans old mid new h kept
+  going_faults_flushed (Err (faults.UnknownFeature word)) names old mid new h kept = absurd h
+  going_faults_flushed (Err (faults.WrongPieces word)) names old mid new h kept = absurd h
+  going_faults_flushed (Err (faults.WrongLimit wrong word)) names old mid new h kept = absurd h
+
+  -- nothing more is an empty text more
+  Appends-nothing : (mid new : Option (List ℕ)) → Keeps mid new → Appends mid new []
+  Appends-nothing mid new kept = Appends-kept mid mid new [] (Appends-nil mid) kept
+
+  -- some lines were written, and then a flush failed
+  unflushed_after : (names : List (List ℕ)) (flags : List Bool) (old mid new : Option (List ℕ)) (status : Status) → length flags ≤ length names
+      → ReportsFiles ruling (select flags names) old mid status → Keeps mid new → StopsGoing ruling names old new
+  unflushed_after names flags old mid new status counted r kept = record {
+    flags = flags;
+    counted = counted;
+    status = status;
+    middle = mid;
+    before = r;
+    name = [];
+    said = None;
+    front = [];
+    next = inl refl;
+    found = inr refl;
+    appended = Appends-nothing mid new kept;
+  }
+
+  -- whatever was answered before a flush failed
+  pub going_unflushed : (r : Result Ended Fault) (names : List (List ℕ)) (old mid new : Option (List ℕ))
+      → IfOk r (EndsBy ruling names old mid) → IfErr r (StopsGoingBy ruling names old mid) → Keeps mid new → StopsGoing ruling names old new
+  going_unflushed (Ok e) names old mid new h f kept = unflushed_after names h.flags old mid new e.status h.counted h.reported kept
+  going_unflushed (Err (faults.CannotOpen name reason)) names old mid new h f kept = absurd f
+  going_unflushed (Err (faults.Stopped error name reason)) names old mid new h f kept =
+      let stays = going_faults_flushed (Err (faults.Stopped error name reason)) names old mid new f kept in stays.1
+  going_unflushed (Err faults.OutOfMemory) names old mid new h f kept = absurd f
+  going_unflushed (Err (faults.CannotHold reason)) names old mid new h f kept =
+      unflushed_after names [] old mid new AllValid (omega arith) (reports_kept [] old old mid AllValid (reports_none old) f) kept
+  going_unflushed (Err (faults.UnknownFeature word)) names old mid new h f kept = absurd f
+  going_unflushed (Err (faults.WrongPieces word)) names old mid new h f kept = absurd f
+  going_unflushed (Err (faults.WrongLimit wrong word)) names old mid new h f kept = absurd f

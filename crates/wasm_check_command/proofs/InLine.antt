@@ -1,18 +1,18 @@
--- What is shown stays within its line.
-use Rattle.std.proofs.Common.{◌≡◌, ◌<◌, ◌≤◌, ◌+◌, ◌/◌, ◌%◌, ◌==◌, ℕ, zero, suc, Bool, true, false, List, [], ◌∷◌, ◌++◌, cond, sym, refl, length, encode_utf8, codes, flat_map, get_or, append-nil, append_assoc, arith, nat_lt, nat_le, ◌⊎◌, inl, inr, rules}
-use Rattle.std.proofs.lemmas.Bool.{cases_lt}
-use Rattle.std.proofs.lemmas.Grind.{common_steps}
-use Rattle.std.specs.List.{list_all}
-use Rattle.std.proofs.lemmas.List.Sums.{AllPass-from_list_all}
-use Rattle.std.specs.Fmt.{digits, digits_onto, digit_glyph}
-use Rattle.std.specs.Str.{chars}
-use Rattle.std.proofs.lemmas.Str.{inside_one}
-use Rattle.std.proofs.lemmas.List.Elements.{All-weaker, All-append, All-cons, All-nil, All-from_get_or}
-use Rattle.wasm_check_command.specs.Shown.{shown, shown_char, is_unshown, escape}
-use Rattle.wasm_check_command.specs.ShownRows.{ShownRows}
-use Rattle.wasm_check_command.specs.LineLaws.{StaysInLine, IsOneLine, LinesEndOnce}
-use Rattle.wasm_check_command.specs.Lines.{valid_line, invalid_line}
-use Rattle.wasm_check_command.specs.Files.{stopped_text, fault_text}
+-- What is told of a fault stays within its line.
+use Rattle.std.proofs.Common.{ℕ, ◌≤◌, List, [], ◌++◌, refl, codes, Option, Some, None}
+use Rattle.std.specs.Fmt.{decimal}
+use Rattle.std.proofs.lemmas.List.Elements.{All-append}
+use Rattle.wasm_check_lines.specs.Shown.{shown}
+use Rattle.wasm_check_lines.specs.LineLaws.{StaysInLine}
+use Rattle.wasm_check_lines.proofs.InLine.{digits_stay, literal, shown_stays, word_stays, stays_if}
+use Rattle.wasm_check_lines.specs.FeatureWords.{word_for}
+use Rattle.wasm_types.specs.settings.Limits.{ceilings}
+use Rattle.std.specs.Prelude.{option_and_then}
+use Rattle.wasm_check_command.specs.FeatureLists.{meant_by}
+use Rattle.wasm_check_command.specs.LimitLists.{field_of, limit_name, limit_of}
+use Rattle.wasm_check_command.specs.declared.limits.Field.{Field}
+use Rattle.wasm_check_command.specs.LineLaws.{FaultsStayInLine}
+use Rattle.wasm_check_command.specs.Files.{stopped_text, unopened_text, fault_text, meant_text, ceiling_text}
 use Rattle.wasm_check_command.specs.declared.error.CheckError.{CheckError}
 use Rattle.wasm_check_command.specs.declared.error.CheckError.TheVariants.{Read, TooLong, OutOfMemory, Write}
 use Rattle.wasm_check_command.specs.declared.limits.Wrong.TheVariants.{Unknown, BadValue}
@@ -23,89 +23,11 @@ use Rattle.wasm_check_command.specs.Reasons.{reason_text}
 use Rattle.wasm_check_command.specs.declared.command.Fault.{Fault}
 use Rattle.wasm_check_command.specs.declared.command.Fault.TheVariants as faults
 
--- either of two
-chosen : (b : Bool) (xs ys : List ℕ) → StaysInLine xs → StaysInLine ys → StaysInLine (cond b xs ys)
-chosen true xs ys p q = p
-chosen false xs ys p q = q
-
 both : (xs ys : List ℕ) → StaysInLine xs → StaysInLine ys → StaysInLine (xs ++ ys)
 both = All-append (λ b. 32 ≤ b)
 
-one_more : (b : ℕ) (xs : List ℕ) → 32 ≤ b → StaysInLine xs → StaysInLine (b ∷ xs)
-one_more = All-cons (λ b. 32 ≤ b)
-
 nothing : StaysInLine []
-nothing = All-nil (λ b. 32 ≤ b)
-
-glyph : (d : ℕ) → 32 ≤ digit_glyph false d
-glyph d = chosen_glyph (nat_lt d 10)
-  where
-    chosen_glyph : (b : Bool) → 32 ≤ cond b (48 + d) (87 + d)
-    chosen_glyph true = omega arith
-    chosen_glyph false = omega arith
-
-onto : (k base n : ℕ) (acc : List ℕ) → StaysInLine acc → StaysInLine (digits_onto k base false n acc)
-onto zero base n acc h = h
-onto (suc k) base n acc h =
-    let more = one_more (digit_glyph false (n % base)) acc (glyph (n % base)) h in
-    chosen (n / base == 0) _ _ more (onto k base (n / base) (digit_glyph false (n % base) ∷ acc) more)
-
-pub digits_stay : (base n : ℕ) → StaysInLine (digits base false n)
-unfolding digits
-digits_stay base n = onto 64 base n [] nothing
-
--- a character that is shown
-below_space : (c : ℕ) → c < 32 → is_unshown c ≡ true
-below_space c h = grind (arith, common_steps)
-
-other_stays : (c : ℕ) → is_unshown c ≡ false → StaysInLine (encode_utf8 c)
-other_stays c e = All-from_get_or (λ b. 32 ≤ b) (encode_utf8 c) 0 (λ k h. at k h (cases_lt (get_or (encode_utf8 c) k 0) 32))
-  where
-    at : (k : ℕ) → k < length (encode_utf8 c) → (get_or (encode_utf8 c) k 0 < 32) ⊎ (32 ≤ get_or (encode_utf8 c) k 0) → 32 ≤ get_or (encode_utf8 c) k 0
-    at k h (inr p) = p
-    at k h (inl p) =
-        let same : c ≡ get_or (encode_utf8 c) k 0 = inside_one c [] (encode_utf8 c) k (sym (append-nil (encode_utf8 c))) h (omega (arith, p)) in
-        let low : is_unshown c ≡ true = below_space c (omega (arith, p, same)) in
-        absurd cc
-
-escape_stays : (c : ℕ) → StaysInLine (escape c)
-escape_stays c = both (codes "\\u{" ++ digits 16 false c) (codes "}") (both (codes "\\u{") (digits 16 false c) (search rules) (digits_stay 16 c)) (search rules)
-
-char_stays : (c : ℕ) → StaysInLine (shown_char c)
-char_stays c = by_kind (is_unshown c) refl
-  where
-    by_kind : (b : Bool) → is_unshown c ≡ b → StaysInLine (cond b (escape c) (encode_utf8 c))
-    by_kind true e = escape_stays c
-    by_kind false e = other_stays c e
-
-chars_stay : (cs : List ℕ) → StaysInLine (flat_map shown_char cs)
-chars_stay [] = nothing
-chars_stay (c ∷ cs) = both (shown_char c) (flat_map shown_char cs) (char_stays c) (chars_stay cs)
-
-pub shown_stays : (text : List ℕ) → StaysInLine (shown text)
-unfolding shown
-shown_stays text = chars_stay (chars text)
-
--- ---- the lines
-
--- a literal, by computing
-literal : (text : List ℕ) → list_all (λ b. nat_le 32 b) text ≡ true → StaysInLine text
-literal text e = All-weaker (λ b. nat_le 32 b ≡ true) (λ b. 32 ≤ b) (λ b t. grind (arith, common_steps)) text (AllPass-from_list_all (λ b. nat_le 32 b) text e)
-
-valid_ends : (name : List ℕ) → IsOneLine (valid_line name)
-valid_ends name = record {
-  front = shown name ++ codes ": valid";
-  inside = both (shown name) (codes ": valid") (shown_stays name) (literal (codes ": valid") refl);
-  ended = sym (append_assoc (shown name) (codes ": valid") (10 ∷ []));
-}
-
-invalid_ends : (name : List ℕ) (offset : ℕ) (message : List ℕ) → IsOneLine (invalid_line name offset message)
-invalid_ends name offset message = record {
-  front = shown name ++ codes ": invalid at 0x" ++ digits 16 false offset ++ codes ": " ++ shown message;
-  inside = both _ _ (both _ _ (both _ _ (both _ _ (shown_stays name) (literal (codes ": invalid at 0x") refl)) (digits_stay 16 offset))
-      (literal (codes ": ") refl)) (shown_stays message);
-  ended = refl;
-}
+nothing = literal [] refl
 
 told_of : (name after : List ℕ) → StaysInLine after → StaysInLine (codes "wasm-check: " ++ shown name ++ after)
 told_of name after h =
@@ -131,35 +53,38 @@ stopped_told Write name r = literal (codes "wasm-check: cannot write") refl
 quoted : (before word : List ℕ) → StaysInLine before → StaysInLine (before ++ shown word ++ codes "`")
 quoted before word h = both (before ++ shown word) (codes "`") (both before (shown word) h (shown_stays word)) (literal (codes "`") refl)
 
+unopened_told : (name : List ℕ) (r : Reason) → StaysInLine (unopened_text name r)
+unopened_told name r = told_of name (codes ": cannot open" ++ reason_text r)
+    (both (codes ": cannot open") (reason_text r) (literal (codes ": cannot open") refl) (reason_stays r))
+
+meant_told : (o : Option (List ℕ)) → stays_if o → StaysInLine (meant_text o)
+meant_told None h = nothing
+meant_told (Some word) h = both (codes " (did you mean `" ++ word) (codes "`?)")
+    (both (codes " (did you mean `") word (literal (codes " (did you mean `") refl) h) (literal (codes "`?)") refl)
+
+meant_stays : (o : Option ℕ) → stays_if (option_and_then word_for o)
+meant_stays None = tt
+meant_stays (Some bits) = word_stays bits
+
+ceiling_told : (o : Option Field) → StaysInLine (ceiling_text o)
+ceiling_told None = nothing
+ceiling_told (Some f) = both (codes " (at most " ++ decimal (limit_of f ceilings)) (codes ")")
+    (both (codes " (at most ") (decimal (limit_of f ceilings)) (literal (codes " (at most ") refl) (digits_stay 10 (limit_of f ceilings))) (literal (codes ")") refl)
+
 fault_told : (f : Fault) → StaysInLine (fault_text f)
-fault_told (faults.CannotOpen name reason) =
-    told_of name.now (codes ": cannot open" ++ reason_text reason)
-    (both (codes ": cannot open") (reason_text reason) (literal (codes ": cannot open") refl) (reason_stays reason))
+fault_told (faults.CannotOpen name reason) = unopened_told name.now reason
 fault_told (faults.Stopped error name reason) = stopped_told error name.now reason
-fault_told (faults.UnknownFeature word) = quoted (codes "wasm-check: unknown feature `") word.now (literal (codes "wasm-check: unknown feature `") refl)
+fault_told (faults.CannotHold reason) = unopened_told (codes "/dev/null") reason
+fault_told (faults.UnknownFeature word) =
+    both (codes "wasm-check: unknown feature `" ++ shown word.now ++ codes "`") (meant_text (option_and_then word_for (meant_by word.now)))
+    (quoted (codes "wasm-check: unknown feature `") word.now (literal (codes "wasm-check: unknown feature `") refl))
+    (meant_told (option_and_then word_for (meant_by word.now)) (meant_stays (meant_by word.now)))
 fault_told (faults.WrongPieces word) = quoted (codes "wasm-check: bad piece size `") word.now (literal (codes "wasm-check: bad piece size `") refl)
-fault_told (faults.WrongLimit Unknown word) = quoted (codes "wasm-check: unknown limit `") word.now (literal (codes "wasm-check: unknown limit `") refl)
-fault_told (faults.WrongLimit BadValue word) = quoted (codes "wasm-check: bad limit `") word.now (literal (codes "wasm-check: bad limit `") refl)
+fault_told (faults.WrongLimit Unknown word) = quoted (codes "wasm-check: unknown limit `") (limit_name word.now) (literal (codes "wasm-check: unknown limit `") refl)
+fault_told (faults.WrongLimit BadValue word) =
+    both (codes "wasm-check: bad limit `" ++ shown word.now ++ codes "`") (ceiling_text (field_of (limit_name word.now)))
+    (quoted (codes "wasm-check: bad limit `") word.now (literal (codes "wasm-check: bad limit `") refl)) (ceiling_told (field_of (limit_name word.now)))
 fault_told faults.OutOfMemory = literal (codes "wasm-check: out of memory") refl
 
-pub lines_end_once : LinesEndOnce
-lines_end_once = record { valid = valid_ends; invalid = invalid_ends; told = fault_told }
-
--- ---- worked texts
-pub shown_rows : ShownRows
-unfolding shown chars digits lib.Utf8.encode
-shown_rows = record {
-  plain = refl;
-  feed = refl;
-  first_and_last = refl;
-  escape = refl;
-  past_ascii = refl;
-  separators = refl;
-  order = refl;
-  marks = refl;
-  isolates = refl;
-  letters = refl;
-  backslash = refl;
-  named = refl;
-  refused = refl;
-}
+pub faults_stay : FaultsStayInLine
+faults_stay = record { told = fault_told }

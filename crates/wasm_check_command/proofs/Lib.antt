@@ -1,5 +1,5 @@
-pub mod ShownLemmas
 pub mod InLine
+pub mod WordLemmas
 pub mod LineLemmas
 pub mod ReportLemmas
 pub mod FileReports

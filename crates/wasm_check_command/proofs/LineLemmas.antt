@@ -1,7 +1,5 @@
 -- On the line of one input.
-use Rattle.std.proofs.Common.{◌≡◌, ◌≤◌, ◌^◌, ℕ, ◌+◌, ◌-◌, List, ◌++◌, IfOk, IfErr, IfSome, Some, Option, Result, Ok, Err, inr, sym, subst, take, drop, length, append_assoc, take-append-drop, length-append, arith}
-use Rattle.std.specs.Fmt.{◌++?◌}
-use Rattle.std.proofs.lemmas.Result.{IfOk-weaker}
+use Rattle.std.proofs.Common.{◌≤◌, ◌^◌, ℕ, ◌+◌, ◌-◌, List, ◌++◌, IfErr, Option, Result, Ok, Err, inr, sym, subst, take, drop, length, take-append-drop, length-append, arith}
 use Rattle.std.specs.Io.KnownBytes.{Appends, Consumes, Keeps}
 use Rattle.std.proofs.Math.Seq.{take-add}
 use Rattle.std.proofs.lemmas.List.{take_rest, length-take}
@@ -12,12 +10,6 @@ use Rattle.wasm_check_command.specs.Faults.{FailsReading}
 use Rattle.wasm_check_command.specs.Modes.{Ruling, ReadsWithin}
 use Rattle.wasm_check_command.specs.Lines.{HasBytes}
 use Rattle.wasm_check_command.specs.Verdict.{WritesFront, FailsWriting, FailsAt}
-
--- a text that was formatted of six parts
-pub text_of_parts : {S E : Type 0} (bytes : S → List ℕ) (r : Result S E) (u v w x y z : List ℕ)
-    → IfOk r (λ s. IfSome (Some u ++? Some v ++? Some w ++? Some x ++? Some y ++? Some z) (λ bs. bytes s ≡ bs))
-    → IfOk r (λ s. bytes s ≡ u ++ v ++ w ++ x ++ y ++ z)
-text_of_parts bytes r u v w x y z h = IfOk-weaker r _ _ (λ s e. simp append_assoc e) h
 
 -- what a reader gave so far, and what one read more gave
 pub reads_within : (a b c : Option (List ℕ)) (got chunk : List ℕ) (count : ℕ) → Consumes a b got → Consumes b c (take count chunk) → length got + count ≤ 2 ^ 30 + 1

@@ -1,14 +1,16 @@
 -- Lists of words between commas, cut at their first comma.
-use Rattle.std.proofs.Common.{◌≡◌, ◌∙◌, ◌+◌, ◌-◌, ◌≤◌, ◌==◌, false, ℕ, List, [], ◌∷◌, ap, sym, subst, refl, length, take, drop, arith}
+use Rattle.std.proofs.Common.{◌≡◌, ◌∙◌, ◌+◌, ◌-◌, ◌<◌, ◌≤◌, ◌==◌, false, ℕ, List, [], ◌∷◌, ap, sym, subst, refl, length, take, drop, get_or, slice_get, arith}
 use Rattle.std.specs.Prelude.{Option, Some, None, IfSome, MatchOption, option_map, Result, Ok, Err}
 use Rattle.std.specs.Borrow.{Bor}
 use Rattle.std.specs.List.{position_or_len, after_first}
-use Rattle.std.proofs.lemmas.List.{drop-drop, length-take-le, length-drop}
+use Rattle.std.specs.Prelude.{Contains}
+use Rattle.std.proofs.lemmas.List.{at_drop_all, at_drop_more, drop-drop, length-take-le, length-drop}
+use Rattle.std.proofs.lemmas.Option.{slice_get_within, get_or_from_slice_get}
 use Rattle.std.proofs.lemmas.List.Splits.{slice_split_none, slice_split_first}
 use Rattle.std.proofs.lemmas.List.Sums.{fails_before_first}
-use Rattle.std.proofs.lemmas.List.Elements.{All-from_get_or}
+use Rattle.std.proofs.lemmas.List.Elements.{All-from_get_or, Contains-get_or}
 use Rattle.std.proofs.lemmas.Str.Pattern.{IsSplitOnceResult, split_once_first}
-use Rattle.wasm_check_command.specs.Lists.{Place, IsWordAt, words_of, words_after, place_of, through}
+use Rattle.wasm_check_command.specs.Lists.{Place, IsWordAt, words_of, words_after, place_of, through, through_lists}
 
 -- the words of a list, by its first comma
 pub words_by_split : (list : List ℕ) (r : Option (Bor (List ℕ) × Bor (List ℕ))) → IsSplitOnceResult 44 list r
@@ -119,3 +121,44 @@ module _ (list word : List ℕ) (cut : Option (Bor (List ℕ))) where
       → (length word + 1 + length more.now ≡ length list) × (more.now ≡ drop (length word + 1) list)
   rest_shorter more h some =
       subst (λ (o : Option (Bor (List ℕ))). IfSome o (λ r. (length word + 1 + length r.now ≡ length list) × (r.now ≡ drop (length word + 1) list))) some h
+
+-- ---- several lists
+module _ {S F : Type 0} (along : List ℕ → S → Result S F) (lists : List (List ℕ)) (place : ℕ) (list : List ℕ) (found : slice_get lists place ≡ Some list) where
+  first_list : (list : List ℕ) (rest : List (List ℕ)) (s t : S) → along list s ≡ Ok t → through_lists along (list ∷ rest) s ≡ through_lists along rest t
+  unfolding through_lists
+  first_list list rest s t e = ap (λ (r : Result S F). elim r [ Ok u ↦ through_lists along rest u | Err f ↦ Err f ]) e
+
+  first_fault : (list : List ℕ) (rest : List (List ℕ)) (s : S) (f : F) → along list s ≡ Err f → through_lists along (list ∷ rest) s ≡ Err f
+  unfolding through_lists
+  first_fault list rest s f e = ap (λ (r : Result S F). elim r [ Ok u ↦ through_lists along rest u | Err g ↦ Err g ]) e
+
+  here : get_or lists place list ≡ list
+  here = get_or_from_slice_get lists place list list found
+
+  within : place < length lists
+  within = slice_get_within lists place list found
+
+  -- the list at this place is taken
+  pub list_taken : (s t : S) → along list s ≡ Ok t → through_lists along (drop place lists) s ≡ through_lists along (drop (place + 1) lists) t
+  list_taken s t e =
+      at_drop_more (λ (ls : List (List ℕ)). through_lists along ls s) lists place list within
+      ∙ first_list (get_or lists place list) (drop (place + 1) lists) s t (ap (λ l. along l s) here ∙ e)
+
+  -- it is at fault
+  pub list_fault : (s : S) (f : F) → along list s ≡ Err f → through_lists along (drop place lists) s ≡ Err f
+  list_fault s f e =
+      at_drop_more (λ (ls : List (List ℕ)). through_lists along ls s) lists place list within
+      ∙ first_fault (get_or lists place list) (drop (place + 1) lists) s f (ap (λ l. along l s) here ∙ e)
+
+  -- it is one of them
+  pub list_there : Contains lists list
+  list_there = subst (Contains lists) here (Contains-get_or lists place list within)
+
+-- none is left
+no_lists : {S F : Type 0} (along : List ℕ → S → Result S F) (s : S) → through_lists along [] s ≡ Ok s
+unfolding through_lists
+no_lists along s = refl
+
+pub lists_end : {S F : Type 0} (along : List ℕ → S → Result S F) (lists : List (List ℕ)) (place : ℕ) (s : S) → length lists ≤ place
+    → through_lists along (drop place lists) s ≡ Ok s
+lists_end along lists place s past = at_drop_all (λ (ls : List (List ℕ)). through_lists along ls s) lists place past ∙ no_lists along s

@@ -1,13 +1,14 @@
 -- The rows of `ListRows`, each by computing it.
 use Rattle.std.proofs.Common.{refl}
-use Rattle.wasm_check_command.specs.Lists.{through}
+use Rattle.wasm_check_command.specs.Lists.{through, through_lists}
 use Rattle.wasm_types.specs.settings.Limits.{default_limits, ceilings}
-use Rattle.wasm_check_command.specs.LimitLists.{limits_of}
-use Rattle.wasm_check_command.specs.FeatureLists.{feature_words, features_of}
+use Rattle.wasm_check_command.specs.LimitLists.{limits_along}
+use Rattle.wasm_check_command.specs.FeatureLists.{features_along}
+use Rattle.wasm_check_lines.specs.FeatureWords.{feature_words}
 use Rattle.wasm_check_command.specs.ListRows.{FeatureRows, LimitRows}
 
 pub feature_rows : FeatureRows
-unfolding through feature_words features_of
+unfolding through feature_words features_along through_lists
 feature_rows = record {
   set = refl;
   added = refl;
@@ -19,6 +20,13 @@ feature_rows = record {
   set_last = refl;
   added_last = refl;
   by_default = refl;
+  all = refl;
+  none = refl;
+  two_lists = refl;
+  second_list = refl;
+  meant = refl;
+  meant_underscore = refl;
+  meant_nothing = refl;
   unknown = refl;
   first_unknown = refl;
   empty = refl;
@@ -32,10 +40,11 @@ feature_rows = record {
 }
 
 pub limit_rows : LimitRows
-unfolding through limits_of default_limits ceilings
+unfolding through limits_along through_lists default_limits ceilings
 limit_rows = record {
   two = refl;
   later_wins = refl;
+  two_lists = refl;
   hyphen = refl;
   none_at_all = refl;
   ten_digits = refl;

@@ -1,9 +1,9 @@
 -- Worked command lines: what clap answers to them, which files they name, and which lists their options have.
-use Rattle.std.specs.Prelude.{◌≡◌, List, [], ◌∷◌, Option, Some, None, codes, ℕ}
-use Rattle.clap.specs.declared.error.kind.ErrorKind.TheVariants.{ArgumentConflict, DisplayHelp, DisplayVersion, InvalidValue, MissingRequiredArgument, UnknownArgument}
+use Rattle.std.specs.Prelude.{◌≡◌, List, [], ◌∷◌, Some, None, true, false, codes, ℕ}
+use Rattle.clap.specs.declared.error.kind.ErrorKind.TheVariants.{ArgumentConflict, DisplayHelp, DisplayVersion, InvalidValue, MissingRequiredArgument, TooManyValues, UnknownArgument}
 use Rattle.wasm_check_command.specs.declared.judging.Mode.TheVariants.{Whole, Pieces}
 use Rattle.wasm_check_command.specs.Settings.{mode_by}
-use Rattle.wasm_check_command.specs.Words.{refusals_of, files_of, features_list, limits_list, pieces_number}
+use Rattle.wasm_check_command.specs.Words.{refusals_of, files_of, features_lists, limits_lists, has_flag, pieces_number}
 
 -- these words behind the program's own
 abbrev pub line_of : List (List ℕ) → List (List ℕ)
@@ -15,10 +15,10 @@ pub record Names (words files : List (List ℕ)) : Type 0 where
   pub named : files_of words ≡ files
 
 -- they name this one file, and have these lists
-pub record NamesOne (words : List (List ℕ)) (file : List ℕ) (features limits : Option (List ℕ)) : Type 0 where
+pub record NamesOne (words : List (List ℕ)) (file : List ℕ) (features limits : List (List ℕ)) : Type 0 where
   pub names : Names words (file ∷ [])
-  pub features_are : features_list words ≡ features
-  pub limits_are : limits_list words ≡ limits
+  pub features_are : features_lists words ≡ features
+  pub limits_are : limits_lists words ≡ limits
 
 -- they name this one file, and have this number of bytes for a piece
 pub record NamesPieces (words : List (List ℕ)) (file number : List ℕ) : Type 0 where
@@ -33,17 +33,17 @@ pub record AreRead : Type 0 where
   pub version : refusals_of (line_of (codes "--version" ∷ [])) ≡ DisplayVersion ∷ []
   pub none : refusals_of (line_of []) ≡ MissingRequiredArgument ∷ []
   pub unknown : refusals_of (line_of (codes "--all" ∷ codes "a" ∷ [])) ≡ UnknownArgument ∷ []
-  pub no_list : NamesOne (line_of (codes "a" ∷ [])) (codes "a") None None
-  pub list : NamesOne (line_of (codes "--features" ∷ codes "mvp,gc" ∷ codes "a" ∷ [])) (codes "a") (Some (codes "mvp,gc")) None
-  pub list_behind : NamesOne (line_of (codes "a" ∷ codes "--features" ∷ codes "mvp" ∷ [])) (codes "a") (Some (codes "mvp")) None
-  pub list_in_one_word : NamesOne (line_of (codes "--features=mvp" ∷ codes "a" ∷ [])) (codes "a") (Some (codes "mvp")) None
-  pub empty_list : NamesOne (line_of (codes "--features=" ∷ codes "a" ∷ [])) (codes "a") (Some []) None
-  pub two_lists : refusals_of (line_of (codes "--features=mvp" ∷ codes "--features=gc" ∷ codes "a" ∷ [])) ≡ ArgumentConflict ∷ []
+  pub no_list : NamesOne (line_of (codes "a" ∷ [])) (codes "a") [] []
+  pub list : NamesOne (line_of (codes "--features" ∷ codes "mvp,gc" ∷ codes "a" ∷ [])) (codes "a") (codes "mvp,gc" ∷ []) []
+  pub list_behind : NamesOne (line_of (codes "a" ∷ codes "--features" ∷ codes "mvp" ∷ [])) (codes "a") (codes "mvp" ∷ []) []
+  pub list_in_one_word : NamesOne (line_of (codes "--features=mvp" ∷ codes "a" ∷ [])) (codes "a") (codes "mvp" ∷ []) []
+  pub empty_list : NamesOne (line_of (codes "--features=" ∷ codes "a" ∷ [])) (codes "a") ([] ∷ []) []
+  pub two_lists : NamesOne (line_of (codes "--features=mvp" ∷ codes "a" ∷ codes "--features=gc" ∷ [])) (codes "a") (codes "mvp" ∷ codes "gc" ∷ []) []
   pub list_lacks : refusals_of (line_of (codes "a" ∷ codes "--features" ∷ [])) ≡ InvalidValue ∷ []
-  pub limits : NamesOne (line_of (codes "--limits" ∷ codes "locals=10" ∷ codes "a" ∷ [])) (codes "a") None (Some (codes "locals=10"))
+  pub limits : NamesOne (line_of (codes "--limits" ∷ codes "locals=10" ∷ codes "a" ∷ [])) (codes "a") [] (codes "locals=10" ∷ [])
   pub limits_in_one_word : NamesOne (line_of (codes "a" ∷ codes "--limits=locals=10" ∷ codes "--features" ∷ codes "gc" ∷ [])) (codes "a")
-      (Some (codes "gc"))
-      (Some (codes "locals=10"))
+      (codes "gc" ∷ [])
+      (codes "locals=10" ∷ [])
   pub pieces : NamesPieces (line_of (codes "--pieces" ∷ codes "4096" ∷ codes "a" ∷ [])) (codes "a") (codes "4096")
   pub pieces_in_one_word : NamesPieces (line_of (codes "a" ∷ codes "--pieces=1" ∷ [])) (codes "a") (codes "1")
   pub two_pieces : refusals_of (line_of (codes "--pieces=1" ∷ codes "--pieces=2" ∷ codes "a" ∷ [])) ≡ ArgumentConflict ∷ []
@@ -53,4 +53,12 @@ pub record AreRead : Type 0 where
   pub more_bytes : mode_by (Some (codes "1048577")) ≡ None
   pub no_number : mode_by (Some (codes "4k")) ≡ None
   pub whole : mode_by None ≡ Some Whole
-  pub two_limits : refusals_of (line_of (codes "--limits=locals=1" ∷ codes "--limits=tags=1" ∷ codes "a" ∷ [])) ≡ ArgumentConflict ∷ []
+  pub two_limits : NamesOne (line_of (codes "--limits=locals=1" ∷ codes "--limits=tags=1" ∷ codes "a" ∷ [])) (codes "a") []
+      (codes "locals=1" ∷ codes "tags=1" ∷ [])
+  pub no_flag : has_flag (codes "vectors") (line_of (codes "a" ∷ [])) ≡ false
+  pub flag : has_flag (codes "vectors") (line_of (codes "--vectors" ∷ codes "a" ∷ [])) ≡ true
+  pub flag_behind : has_flag (codes "keep-going") (line_of (codes "a" ∷ codes "--keep-going" ∷ [])) ≡ true
+  pub other_flag : has_flag (codes "json") (line_of (codes "--quiet" ∷ codes "a" ∷ [])) ≡ false
+  pub flag_as_file : has_flag (codes "json") (line_of (codes "--" ∷ codes "--json" ∷ [])) ≡ false
+  pub flag_with_value : refusals_of (line_of (codes "--json=yes" ∷ codes "a" ∷ [])) ≡ TooManyValues ∷ []
+  pub two_flags : refusals_of (line_of (codes "--json" ∷ codes "--json" ∷ codes "a" ∷ [])) ≡ ArgumentConflict ∷ []

@@ -4,13 +4,21 @@ use Rattle.std.specs.Char.{to_ascii_lowercase}
 use Rattle.std.specs.Option.{ok_or}
 use Rattle.std.specs.Int.RustNames.{bit_or}
 use Rattle.bitflags.specs.Sets.{without}
-use Rattle.wasm_types.specs.settings.Features.{mask, MutableGlobal, SaturatingFloatToInt, SignExtension, ReferenceTypes, MultiValue, BulkMemory}
+use Rattle.wasm_types.specs.settings.Features.{Feature, MutableGlobal, SaturatingFloatToInt, SignExtension, ReferenceTypes, MultiValue, BulkMemory}
 use Rattle.wasm_types.specs.settings.Features.{Simd, RelaxedSimd, Threads, SharedEverythingThreads, TailCall, Floats, MultiMemory, Exceptions}
 use Rattle.wasm_types.specs.settings.Features.{Memory64, ExtendedConst, ComponentModel, FunctionReferences, MemoryControl, Gc, CustomPageSizes}
 use Rattle.wasm_types.specs.settings.Features.{LegacyExceptions, GcTypes, StackSwitching, WideArithmetic, CallIndirectOverlong, BulkMemoryOpt}
 use Rattle.wasm_types.specs.settings.Features.{CustomDescriptors}
 use Rattle.wasm_types.specs.settings.Sets.{bits_of, mvp, wasm1, wasm2, wasm3, lime1, default_features}
-use Rattle.wasm_check_command.specs.Lists.{Place, words_of, through}
+use Rattle.wasm_check_lines.specs.FeatureWords.{feature_words}
+use Rattle.wasm_check_command.specs.Lists.{Place, words_of, through, through_lists}
+
+-- all features
+abbrev pub all_features : List Feature
+all_features = MutableGlobal ∷ SaturatingFloatToInt ∷ SignExtension ∷ ReferenceTypes ∷ MultiValue ∷ BulkMemory ∷ Simd ∷ RelaxedSimd
+    ∷ Threads ∷ SharedEverythingThreads ∷ TailCall ∷ Floats ∷ MultiMemory ∷ Exceptions ∷ Memory64 ∷ ExtendedConst ∷ ComponentModel
+    ∷ FunctionReferences ∷ MemoryControl ∷ Gc ∷ CustomPageSizes ∷ LegacyExceptions ∷ GcTypes ∷ StackSwitching ∷ WideArithmetic
+    ∷ CallIndirectOverlong ∷ BulkMemoryOpt ∷ CustomDescriptors ∷ []
 
 -- the sets that have a name
 abbrev pub set_words : List (List ℕ × ℕ)
@@ -20,38 +28,7 @@ set_words = (codes "mvp", bits_of mvp)
     ∷ (codes "wasm3", bits_of wasm3)
     ∷ (codes "lime1", bits_of lime1)
     ∷ (codes "default", bits_of default_features)
-    ∷ []
-
--- the features, each with all bits that its name stands for
-unfoldable pub feature_words : List (List ℕ × ℕ)
-feature_words = (codes "mutable-global", mask MutableGlobal)
-    ∷ (codes "saturating-float-to-int", mask SaturatingFloatToInt)
-    ∷ (codes "sign-extension", mask SignExtension)
-    ∷ (codes "reference-types", mask ReferenceTypes)
-    ∷ (codes "multi-value", mask MultiValue)
-    ∷ (codes "bulk-memory", mask BulkMemory)
-    ∷ (codes "simd", mask Simd)
-    ∷ (codes "relaxed-simd", mask RelaxedSimd)
-    ∷ (codes "threads", mask Threads)
-    ∷ (codes "shared-everything-threads", mask SharedEverythingThreads)
-    ∷ (codes "tail-call", mask TailCall)
-    ∷ (codes "floats", mask Floats)
-    ∷ (codes "multi-memory", mask MultiMemory)
-    ∷ (codes "exceptions", mask Exceptions)
-    ∷ (codes "memory64", mask Memory64)
-    ∷ (codes "extended-const", mask ExtendedConst)
-    ∷ (codes "component-model", mask ComponentModel)
-    ∷ (codes "function-references", mask FunctionReferences)
-    ∷ (codes "memory-control", mask MemoryControl)
-    ∷ (codes "gc", mask Gc)
-    ∷ (codes "custom-page-sizes", mask CustomPageSizes)
-    ∷ (codes "legacy-exceptions", mask LegacyExceptions)
-    ∷ (codes "gc-types", mask GcTypes)
-    ∷ (codes "stack-switching", mask StackSwitching)
-    ∷ (codes "wide-arithmetic", mask WideArithmetic)
-    ∷ (codes "call-indirect-overlong", mask CallIndirectOverlong)
-    ∷ (codes "bulk-memory-opt", mask BulkMemoryOpt)
-    ∷ (codes "custom-descriptors", mask CustomDescriptors)
+    ∷ (codes "all", bits_of all_features)
     ∷ []
 
 -- The name of a constant as a word: in lower case, with hyphens (45) for underscores (95). So the words of the features are the names of
@@ -98,6 +75,20 @@ set_after word bits = option_map (λ change. changed change bits) (change_of wor
 abbrev pub feature_step : Place → List ℕ → ℕ → Result ℕ Place
 feature_step place word bits = ok_or (set_after word bits) place
 
--- the set that a list stands for, or where its first unknown word is
-unfoldable pub features_of : List ℕ → Result ℕ Place
-features_of list = through feature_step 0 (words_of list) (bits_of default_features)
+-- the set that a list makes of a set, or where its first unknown word is
+unfoldable pub features_along : List ℕ → ℕ → Result ℕ Place
+features_along list bits = through feature_step 0 (words_of list) bits
+
+-- the set that a list stands for
+abbrev pub features_of : List ℕ → Result ℕ Place
+features_of list = features_along list (bits_of default_features)
+
+-- the set that several lists make of a set, one after another, or the place of the first unknown word in its list
+abbrev pub features_through : List (List ℕ) → ℕ → Result ℕ Place
+features_through lists bits = through_lists features_along lists bits
+
+-- ---- a word that is unknown
+
+-- the bits of the feature that is meant by a word in capital letters or with underscores
+abbrev pub meant_by : List ℕ → Option ℕ
+meant_by word = named feature_words (word_of word)

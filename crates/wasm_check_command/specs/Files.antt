@@ -1,5 +1,5 @@
 -- What the program does with the files that it is given.
-use Rattle.std.specs.Prelude.{◌≡◌, ℕ, Bool, true, false, ◌<◌, ◌≤◌, ◌⊎◌, codes, length, List, ◌++◌, map, take, Contains, slice_get, option_map, Option, Some, None, Result, Ok, Err}
+use Rattle.std.specs.Prelude.{◌≡◌, ℕ, Bool, IsTrue, true, false, ◌<◌, ◌≤◌, ◌⊎◌, codes, length, List, [], ◌∷◌, ◌++◌, option_and_then, map, take, Contains, slice_get, option_map, Option, Some, None, Result, Ok, Err}
 use Rattle.std.specs.Borrow.{Bor}
 use Rattle.std.specs.Io.KnownBytes.{Appends, Keeps}
 use Rattle.clap.specs.declared.error.kind.ErrorKind.{ErrorKind}
@@ -10,13 +10,23 @@ use Rattle.wasm_check_command.specs.declared.judging.Status.{Status}
 use Rattle.wasm_check_command.specs.declared.judging.Status.TheVariants.{AllValid, SomeInvalid}
 use Rattle.wasm_check_command.specs.declared.command.Fault.{Fault}
 use Rattle.wasm_check_command.specs.declared.command.Options.{Options}
+use Rattle.wasm_check_command.specs.declared.files.Ended.{Ended}
 use Rattle.wasm_check_command.specs.declared.command.Fault.TheVariants as faults
 use Rattle.wasm_check_command.specs.declared.reason.Reason.{Reason}
 use Rattle.wasm_check_command.specs.Reasons.{reason_text}
-use Rattle.wasm_check_command.specs.Shown.{shown}
+use Rattle.wasm_check_lines.specs.Shown.{shown}
 use Rattle.wasm_types.specs.settings.Settings.{Settings}
 use Rattle.wasm_check_command.specs.Words.{files_of, IsHelp, AsksForHelp, NamesNoFiles}
-use Rattle.wasm_check_command.specs.Settings.{Asked, IsGiven, IsUnknownIn, IsWrongIn, asked_by, features_by, mode_by}
+use Rattle.wasm_check_command.specs.Settings.{Asked, IsGiven, IsUnknownIn, IsWrongIn, asked_by, manner_by, features_by, mode_by}
+use Rattle.wasm_check_command.specs.LimitLists.{limit_name, limit_of, field_of}
+use Rattle.wasm_check_command.specs.FeatureLists.{meant_by}
+use Rattle.wasm_check_command.specs.Lines.{BeginsLineOf}
+use Rattle.wasm_check_command.specs.declared.limits.Field.{Field}
+use Rattle.wasm_check_lines.specs.FeatureWords.{word_for}
+use Rattle.wasm_check_lines.specs.declared.forms.Form.{Form}
+use Rattle.wasm_check_lines.specs.declared.forms.Form.TheVariants.{Lines, Json, Quiet}
+use Rattle.wasm_types.specs.settings.Limits.{ceilings}
+use Rattle.std.specs.Fmt.{decimal}
 use Rattle.wasm_check_command.specs.declared.limits.Wrong.TheVariants.{Unknown, BadValue}
 use Rattle.wasm_check_command.specs.Modes.{Ruling, ruled}
 use Rattle.wasm_check_command.specs.Opened.{kept_open}
@@ -44,6 +54,52 @@ pub record ReportsFiles (ruling : Ruling) (names : List (List ℕ)) (old new : O
   pub sources : List Source
   pub named : map (λ s. s.name) sources ≡ names
   pub reported : IsReported ruling sources old new status
+
+-- the last word is said: nothing is written, and a file is invalid
+abbrev pub is_enough : Form → Status → Bool
+is_enough Quiet SomeInvalid = true
+is_enough Quiet AllValid = false
+is_enough Lines status = false
+is_enough Json status = false
+
+abbrev pub IsEnough : Ruling → Status → Type 0
+IsEnough ruling status = IsTrue (is_enough ruling.manner.form status)
+
+-- These files were judged in order, all of them or as many as it takes to say the status.
+pub record EndsFiles (ruling : Ruling) (names : List (List ℕ)) (old new : Option (List ℕ)) (status : Status) : Type 0 where
+  pub judged : ℕ
+  pub reported : ReportsFiles ruling (take judged names) old new status
+  pub whole : (length names ≤ judged) ⊎ IsEnough ruling status
+
+-- those of some names whose flag is set
+abbrev pub select : List Bool → List (List ℕ) → List (List ℕ)
+select [] names = []
+select (b ∷ flags) [] = []
+select (true ∷ flags) (name ∷ names) = name ∷ select flags names
+select (false ∷ flags) (name ∷ names) = select flags names
+
+-- some flag is not set
+abbrev pub has_unset : List Bool → Bool
+has_unset [] = false
+has_unset (true ∷ flags) = has_unset flags
+has_unset (false ∷ flags) = true
+
+-- So many files from the first on were judged, except for those that came to no verdict: a flag for each says whether it was. `lost` says
+-- whether one was not.
+pub record GoesSoFar (ruling : Ruling) (names : List (List ℕ)) (place : ℕ) (old new : Option (List ℕ)) (status : Status) (lost : Bool) : Type 0 where
+  pub flags : List Bool
+  pub counted : length flags ≡ place
+  pub reported : ReportsFiles ruling (select flags names) old new status
+  pub told : lost ≡ has_unset flags
+
+-- These files were judged in order, all of them or as many as it takes to say the status, except for those that came to no verdict: a flag for
+-- each says whether it was judged. `lost` says whether one was not.
+pub record GoesOn (ruling : Ruling) (names : List (List ℕ)) (old new : Option (List ℕ)) (status : Status) (lost : Bool) : Type 0 where
+  pub flags : List Bool
+  pub counted : length flags ≤ length names
+  pub reported : ReportsFiles ruling (select flags names) old new status
+  pub told : lost ≡ has_unset flags
+  pub whole : (length names ≤ length flags) ⊎ IsEnough ruling status
 
 -- The file of this name was judged: its line was written, and the answer is its verdict.
 abbrev pub JudgesFile : Ruling → List ℕ → Option (List ℕ) → Option (List ℕ) → Bool → Type 0
@@ -73,6 +129,7 @@ FailsFile ruling index name old new (faults.CannotOpen told reason) = (told.now 
 FailsFile ruling index name old new (faults.Stopped error told reason) =
     (told.now ≡ name) × ((said : Option (List ℕ)) × FailsAt ruling index name said old new error)
 FailsFile ruling index name old new faults.OutOfMemory = ⊥
+FailsFile ruling index name old new (faults.CannotHold reason) = ⊥
 FailsFile ruling index name old new (faults.UnknownFeature word) = ⊥
 FailsFile ruling index name old new (faults.WrongPieces word) = ⊥
 FailsFile ruling index name old new (faults.WrongLimit wrong word) = ⊥
@@ -83,6 +140,7 @@ abbrev pub FailsAgain : ℕ → List ℕ → Fault → Type 0
 FailsAgain index name (faults.CannotOpen told reason) = (told.now ≡ name) × (kept_open ≤ index)
 FailsAgain index name (faults.Stopped error told reason) = (told.now ≡ name) × (error ≡ Read index)
 FailsAgain index name faults.OutOfMemory = ⊥
+FailsAgain index name (faults.CannotHold reason) = ⊥
 FailsAgain index name (faults.UnknownFeature word) = ⊥
 FailsAgain index name (faults.WrongPieces word) = ⊥
 FailsAgain index name (faults.WrongLimit wrong word) = ⊥
@@ -92,6 +150,7 @@ abbrev pub CannotOpen : List ℕ → Fault → Type 0
 CannotOpen name (faults.CannotOpen told reason) = told.now ≡ name
 CannotOpen name (faults.Stopped error told reason) = ⊥
 CannotOpen name faults.OutOfMemory = ⊥
+CannotOpen name (faults.CannotHold reason) = ⊥
 CannotOpen name (faults.UnknownFeature word) = ⊥
 CannotOpen name (faults.WrongPieces word) = ⊥
 CannotOpen name (faults.WrongLimit wrong word) = ⊥
@@ -101,6 +160,7 @@ abbrev pub FailsOpening : List (List ℕ) → Fault → Type 0
 FailsOpening names (faults.CannotOpen name reason) = Contains names name.now
 FailsOpening names (faults.Stopped error name reason) = ⊥
 FailsOpening names faults.OutOfMemory = Unit {0}
+FailsOpening names (faults.CannotHold reason) = ⊥
 FailsOpening names (faults.UnknownFeature word) = ⊥
 FailsOpening names (faults.WrongPieces word) = ⊥
 FailsOpening names (faults.WrongLimit wrong word) = ⊥
@@ -111,9 +171,67 @@ StopsFiles ruling names old new (faults.CannotOpen name reason) =
     (Contains names name.now × Keeps old new) ⊎ StopsOpening ruling names old new name.now
 StopsFiles ruling names old new (faults.Stopped error name reason) = StopsChecking ruling names old new error name.now
 StopsFiles ruling names old new faults.OutOfMemory = Keeps old new
+StopsFiles ruling names old new (faults.CannotHold reason) = Keeps old new
 StopsFiles ruling names old new (faults.UnknownFeature word) = ⊥
 StopsFiles ruling names old new (faults.WrongPieces word) = ⊥
 StopsFiles ruling names old new (faults.WrongLimit wrong word) = ⊥
+
+-- The file of this name came to no verdict, and nothing was written of it; or its line could not be written: at most a front of it was.
+abbrev pub LosesFile : Ruling → List ℕ → Option (List ℕ) → Option (List ℕ) → Fault → Type 0
+LosesFile ruling name old new (faults.CannotOpen told reason) = Keeps old new
+LosesFile ruling name old new (faults.Stopped (Read i) told reason) = Keeps old new
+LosesFile ruling name old new (faults.Stopped (TooLong i) told reason) = Keeps old new
+LosesFile ruling name old new (faults.Stopped (OutOfMemory i) told reason) = Keeps old new
+LosesFile ruling name old new (faults.Stopped Write told reason) =
+    (said : Option (List ℕ)) × (front : List ℕ) × BeginsLineOf ruling name said front × Appends old new front
+LosesFile ruling name old new faults.OutOfMemory = ⊥
+LosesFile ruling name old new (faults.CannotHold reason) = ⊥
+LosesFile ruling name old new (faults.UnknownFeature word) = ⊥
+LosesFile ruling name old new (faults.WrongPieces word) = ⊥
+LosesFile ruling name old new (faults.WrongLimit wrong word) = ⊥
+
+-- the fault is that a line could not be written
+abbrev pub is_unwritten : Fault → Bool
+is_unwritten (faults.CannotOpen told reason) = false
+is_unwritten (faults.Stopped (Read i) told reason) = false
+is_unwritten (faults.Stopped (TooLong i) told reason) = false
+is_unwritten (faults.Stopped (OutOfMemory i) told reason) = false
+is_unwritten (faults.Stopped Write told reason) = true
+is_unwritten faults.OutOfMemory = false
+is_unwritten (faults.CannotHold reason) = false
+is_unwritten (faults.UnknownFeature word) = false
+is_unwritten (faults.WrongPieces word) = false
+is_unwritten (faults.WrongLimit wrong word) = false
+
+-- The writing failed while files were judged of which some came to no verdict: what stands written are the lines of those that were judged
+-- before some place, whole, and at most a front of the line of the file there.
+pub record StopsGoing (ruling : Ruling) (names : List (List ℕ)) (old new : Option (List ℕ)) : Type 0 where
+  pub flags : List Bool
+  pub counted : length flags ≤ length names
+  pub status : Status
+  pub middle : Option (List ℕ)
+  pub before : ReportsFiles ruling (select flags names) old middle status
+  pub name : List ℕ
+  pub said : Option (List ℕ)
+  pub front : List ℕ
+  pub next : BeginsLineOf ruling name said front
+  pub found : (slice_get names (length flags) ≡ Some name) ⊎ (front ≡ [])
+  pub appended : Appends middle new front
+
+-- how judging ended: its status, and whether a file came to no verdict
+abbrev pub EndsBy : Ruling → List (List ℕ) → Option (List ℕ) → Option (List ℕ) → Ended → Type 0
+EndsBy ruling names old new e = GoesOn ruling names old new e.status e.lost
+
+-- what a fault leaves, if the judging goes on after files that come to no verdict: it is that standard input cannot be held, or that a line
+-- could not be written
+abbrev pub StopsGoingBy : Ruling → List (List ℕ) → Option (List ℕ) → Option (List ℕ) → Fault → Type 0
+StopsGoingBy ruling names old new (faults.CannotHold reason) = Keeps old new
+StopsGoingBy ruling names old new (faults.CannotOpen told reason) = ⊥
+StopsGoingBy ruling names old new (faults.Stopped error told reason) = (error ≡ Write) × StopsGoing ruling names old new
+StopsGoingBy ruling names old new faults.OutOfMemory = ⊥
+StopsGoingBy ruling names old new (faults.UnknownFeature word) = ⊥
+StopsGoingBy ruling names old new (faults.WrongPieces word) = ⊥
+StopsGoingBy ruling names old new (faults.WrongLimit wrong word) = ⊥
 
 -- this number of `--pieces` is refused
 abbrev pub RefusesPieces : Option (List ℕ) → Fault → Type 0
@@ -123,24 +241,27 @@ RefusesPieces number (faults.WrongLimit wrong word) = ⊥
 RefusesPieces number (faults.CannotOpen name reason) = ⊥
 RefusesPieces number (faults.Stopped error name reason) = ⊥
 RefusesPieces number faults.OutOfMemory = ⊥
+RefusesPieces number (faults.CannotHold reason) = ⊥
 
--- this list of `--features` is refused
-abbrev pub RefusesFeatures : Option (List ℕ) → Fault → Type 0
-RefusesFeatures list (faults.UnknownFeature word) = IsUnknownIn list word.now
-RefusesFeatures list (faults.WrongPieces word) = ⊥
-RefusesFeatures list (faults.WrongLimit wrong word) = ⊥
-RefusesFeatures list (faults.CannotOpen name reason) = ⊥
-RefusesFeatures list (faults.Stopped error name reason) = ⊥
-RefusesFeatures list faults.OutOfMemory = ⊥
+-- one of these lists of `--features` is refused
+abbrev pub RefusesFeatures : List (List ℕ) → Fault → Type 0
+RefusesFeatures lists (faults.UnknownFeature word) = IsUnknownIn lists word.now
+RefusesFeatures lists (faults.WrongPieces word) = ⊥
+RefusesFeatures lists (faults.WrongLimit wrong word) = ⊥
+RefusesFeatures lists (faults.CannotOpen name reason) = ⊥
+RefusesFeatures lists (faults.Stopped error name reason) = ⊥
+RefusesFeatures lists faults.OutOfMemory = ⊥
+RefusesFeatures lists (faults.CannotHold reason) = ⊥
 
--- this list of `--limits` is
-abbrev pub RefusesLimits : Option (List ℕ) → Fault → Type 0
-RefusesLimits list (faults.UnknownFeature word) = ⊥
-RefusesLimits list (faults.WrongPieces word) = ⊥
-RefusesLimits list (faults.WrongLimit wrong word) = IsWrongIn list wrong word.now
-RefusesLimits list (faults.CannotOpen name reason) = ⊥
-RefusesLimits list (faults.Stopped error name reason) = ⊥
-RefusesLimits list faults.OutOfMemory = ⊥
+-- one of these lists of `--limits` is
+abbrev pub RefusesLimits : List (List ℕ) → Fault → Type 0
+RefusesLimits lists (faults.UnknownFeature word) = ⊥
+RefusesLimits lists (faults.WrongPieces word) = ⊥
+RefusesLimits lists (faults.WrongLimit wrong word) = IsWrongIn lists wrong word.now
+RefusesLimits lists (faults.CannotOpen name reason) = ⊥
+RefusesLimits lists (faults.Stopped error name reason) = ⊥
+RefusesLimits lists faults.OutOfMemory = ⊥
+RefusesLimits lists (faults.CannotHold reason) = ⊥
 
 -- a list is refused: that of `--features`; or it is not, and that of `--limits` is
 abbrev pub RefusesLists : Asked → Fault → Type 0
@@ -152,33 +273,61 @@ abbrev pub StopsEarly : Asked → Fault → Type 0
 StopsEarly asked fault = RefusesPieces asked.pieces fault
     ⊎ ((((mode : Mode) × (mode_by asked.pieces ≡ Some mode)) × RefusesLists asked fault) ⊎ (fault ≡ faults.OutOfMemory))
 
--- the exit status
-abbrev pub code_of : Result Status Fault → ℕ
-code_of (Ok AllValid) = 0
-code_of (Ok SomeInvalid) = 1
+-- the exit status: a file that came to no verdict goes before one that is invalid
+abbrev pub code_of_status : Status → ℕ
+code_of_status AllValid = 0
+code_of_status SomeInvalid = 1
+
+abbrev pub code_of_ended : Bool → Status → ℕ
+code_of_ended true status = 2
+code_of_ended false status = code_of_status status
+
+abbrev pub code_of : Result Ended Fault → ℕ
+code_of (Ok e) = code_of_ended e.lost e.status
 code_of (Err fault) = 2
+
+-- the lists of an option, none if it is not there
+abbrev pub lists_in : Option (Bor (List (Bor (List ℕ)))) → List (List ℕ)
+lists_in None = []
+lists_in (Some lists) = texts lists.now
 
 -- the values of the options, as contracts see them
 abbrev pub asked_of : Options → Asked
 asked_of o = record {
-  features = option_map (λ l. l.now) o.features;
-  limits = option_map (λ l. l.now) o.limits;
+  features = lists_in o.features;
+  limits = lists_in o.limits;
   pieces = option_map (λ n. n.now) o.pieces;
+  vectors = o.vectors;
+  form = o.form;
+  explains = o.explains;
+  goes_on = o.goes_on;
 }
 
--- What is asked for was done: these files were judged by the settings that the options give, each with a line.
+-- What is asked for was done: these files were judged by the settings that the options give, each with a line; or, if `lost` says so, some of
+-- them came to no verdict, which only `--keep-going` allows.
 pub record ReportsBy (accepts : Settings → List ℕ → Type 0) (asked : Asked) (names : List (List ℕ)) (old new : Option (List ℕ))
-    (status : Status) : Type 0 where
+    (status : Status) (lost : Bool) : Type 0 where
   pub settings : Settings
   pub mode : Mode
   pub given : IsGiven asked settings mode
-  pub reported : ReportsFiles (ruled mode (accepts settings)) names old new status
+  pub reported : GoesOn (ruled (manner_by asked) mode (accepts settings)) names old new status lost
+  pub allowed : (lost ≡ false) ⊎ (asked.goes_on ≡ true)
+
+-- what an ending says
+abbrev pub ReportsEnd : (Settings → List ℕ → Type 0) → Asked → List (List ℕ) → Option (List ℕ) → Option (List ℕ) → Ended → Type 0
+ReportsEnd accepts asked names old new e = ReportsBy accepts asked names old new e.status e.lost
 
 -- What a fault leaves: nothing was written, if it came before the files were opened; any other came while they were opened, and judged
 -- by the settings that the options give.
 abbrev pub StopsBy : (Settings → List ℕ → Type 0) → Asked → List (List ℕ) → Option (List ℕ) → Option (List ℕ) → Fault → Type 0
 StopsBy accepts asked names old new fault = (StopsEarly asked fault × Keeps old new)
-    ⊎ ((z : Settings) × (mode : Mode) × IsGiven asked z mode × StopsFiles (ruled mode (accepts z)) names old new fault)
+    ⊎ ((z : Settings) × (mode : Mode) × IsGiven asked z mode
+    × (StopsFiles (ruled (manner_by asked) mode (accepts z)) names old new fault
+    ⊎ ((asked.goes_on ≡ true) × StopsGoingBy (ruled (manner_by asked) mode (accepts z)) names old new fault)))
+
+-- some file of these words came to no verdict, and those that did have their lines
+abbrev pub LosesSome : (Settings → List ℕ → Type 0) → List (List ℕ) → Option (List ℕ) → Option (List ℕ) → Type 0
+LosesSome accepts words old new = (status : Status) × ReportsBy accepts (asked_by words) (files_of words) old new status true
 
 -- some fault stopped the run on these words, and left this
 abbrev pub IsStopped : (Settings → List ℕ → Type 0) → List (List ℕ) → Option (List ℕ) → Option (List ℕ) → Type 0
@@ -189,7 +338,7 @@ IsStopped accepts words old new = (fault : Fault) × StopsBy accepts (asked_by w
 pub record Reports (accepts : Settings → List ℕ → Type 0) (words : List (List ℕ)) (old new : Option (List ℕ))
     (status : Status) : Type 0 where
   pub some : 0 < length (files_of words)
-  pub reported : ReportsBy accepts (asked_by words) (files_of words) old new status
+  pub reported : ReportsBy accepts (asked_by words) (files_of words) old new status false
 
 -- some text was written, and nothing else
 abbrev pub Grows : Option (List ℕ) → Option (List ℕ) → Type 0
@@ -203,9 +352,11 @@ ShowsHelp words old new = AsksForHelp words × Grows old new
 abbrev pub ReportsWords : List (List ℕ) → Option (List ℕ) → Option (List ℕ) → Type 0
 ReportsWords words old new = NamesNoFiles words × Keeps old new
 
--- These words lead to no status of files: they name none; their help could not be shown; or a fault stopped the run.
+-- These words lead to no status of files: they name none; their help could not be shown; a fault stopped the run; or a file came to no
+-- verdict, and the judging went on.
 abbrev pub HasNoStatus : (Settings → List ℕ → Type 0) → List (List ℕ) → Option (List ℕ) → Option (List ℕ) → Type 0
-HasNoStatus accepts words old new = ReportsWords words old new ⊎ (ShowsHelp words old new ⊎ IsStopped accepts words old new)
+HasNoStatus accepts words old new = ReportsWords words old new
+    ⊎ (ShowsHelp words old new ⊎ (IsStopped accepts words old new ⊎ LosesSome accepts words old new))
 
 -- Where clap's answer was not shown as help: nothing was written, or it is the help, of which some was.
 abbrev pub IsUnshown : ErrorKind → Option (List ℕ) → Option (List ℕ) → Type 0
@@ -222,12 +373,30 @@ stopped_text Write name reason = codes "wasm-check: cannot write"
 abbrev pub unopened_text : List ℕ → Reason → List ℕ
 unopened_text name reason = codes "wasm-check: " ++ shown name ++ (codes ": cannot open" ++ reason_text reason)
 
+-- which word is meant, if one is
+abbrev pub meant_text : Option (List ℕ) → List ℕ
+meant_text None = []
+meant_text (Some word) = codes " (did you mean `" ++ word ++ codes "`?)"
+
+-- the most that a limit may be, if it is one
+abbrev pub ceiling_text : Option Field → List ℕ
+ceiling_text None = []
+ceiling_text (Some f) = codes " (at most " ++ decimal (limit_of f ceilings) ++ codes ")"
+
 -- what a fault writes
 abbrev pub fault_text : Fault → List ℕ
 fault_text (faults.CannotOpen name reason) = unopened_text name.now reason
 fault_text (faults.Stopped error name reason) = stopped_text error name.now reason
-fault_text (faults.UnknownFeature word) = codes "wasm-check: unknown feature `" ++ shown word.now ++ codes "`"
+fault_text (faults.CannotHold reason) = unopened_text (codes "/dev/null") reason
+fault_text (faults.UnknownFeature word) =
+    codes "wasm-check: unknown feature `" ++ shown word.now ++ codes "`" ++ meant_text (option_and_then word_for (meant_by word.now))
 fault_text (faults.WrongPieces word) = codes "wasm-check: bad piece size `" ++ shown word.now ++ codes "`"
-fault_text (faults.WrongLimit Unknown word) = codes "wasm-check: unknown limit `" ++ shown word.now ++ codes "`"
-fault_text (faults.WrongLimit BadValue word) = codes "wasm-check: bad limit `" ++ shown word.now ++ codes "`"
+fault_text (faults.WrongLimit Unknown word) = codes "wasm-check: unknown limit `" ++ shown (limit_name word.now) ++ codes "`"
+fault_text (faults.WrongLimit BadValue word) =
+    codes "wasm-check: bad limit `" ++ shown word.now ++ codes "`" ++ ceiling_text (field_of (limit_name word.now))
 fault_text faults.OutOfMemory = codes "wasm-check: out of memory"
+
+-- how a run over the files of these words ends, by its status
+abbrev pub EndsRun : (Settings → List ℕ → Type 0) → List (List ℕ) → Option (List ℕ) → Option (List ℕ) → ℕ → Type 0
+EndsRun accepts words old new status = (status ≤ 2) × (status ≡ 0 → Reports accepts words old new AllValid)
+    × (status ≡ 1 → Reports accepts words old new SomeInvalid) × (status ≡ 2 → HasNoStatus accepts words old new)

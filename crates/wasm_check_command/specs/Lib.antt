@@ -1,5 +1,6 @@
--- Rules: what the program promises, in reading order. `Commands`, `ListRows` and `ShownRows` have worked rows, `LineLaws` laws of the lines.
-pub mod Shown
+-- Rules: what the program promises, in reading order. `Commands` and `ListRows` have worked rows, `LineLaws` laws of the lines.
+-- The texts of lines are those of `wasm_check_lines`.
+pub mod Manners
 pub mod Modes
 pub mod Lines
 pub mod Faults
@@ -15,5 +16,4 @@ pub mod Commands
 pub mod Opened
 pub mod Files
 pub mod LineLaws
-pub mod ShownRows
 pub mod ListRows

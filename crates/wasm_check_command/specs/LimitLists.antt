@@ -11,7 +11,7 @@ use Rattle.wasm_check_command.specs.declared.limits.Wrong.{Wrong}
 use Rattle.wasm_check_command.specs.declared.limits.Wrong.TheVariants.{Unknown, BadValue}
 use Rattle.wasm_check_command.specs.declared.limits.LimitFault.{LimitFault}
 use Rattle.wasm_check_command.specs.declared.limits.LimitFault.TheVariants as faults
-use Rattle.wasm_check_command.specs.Lists.{Place, words_of, through}
+use Rattle.wasm_check_command.specs.Lists.{Place, words_of, through, through_lists}
 
 -- the limits of types and names, by their names
 abbrev pub type_words : List (List ℕ × Field)
@@ -153,9 +153,17 @@ pub record ListFault : Type 0 where
 abbrev pub limit_step : Place → List ℕ → Limits → Result Limits ListFault
 limit_step place word l = elim (limits_after word l) [ Ok m ↦ Ok m | Err w ↦ Err (record { wrong = w; place = place }) ]
 
--- the limits that a list stands for, or its first fault
-unfoldable pub limits_of : List ℕ → Result Limits ListFault
-limits_of list = through limit_step 0 (words_of list) default_limits
+-- what a list makes of limits, or its first fault
+unfoldable pub limits_along : List ℕ → Limits → Result Limits ListFault
+limits_along list l = through limit_step 0 (words_of list) l
+
+-- the limits that a list stands for
+abbrev pub limits_of : List ℕ → Result Limits ListFault
+limits_of list = limits_along list default_limits
+
+-- what several lists make of limits, one after another, or the first fault of them
+abbrev pub limits_through : List (List ℕ) → Limits → Result Limits ListFault
+limits_through lists l = through_lists limits_along lists l
 
 -- a fault as the public call tells it
 abbrev pub told : LimitFault → ListFault

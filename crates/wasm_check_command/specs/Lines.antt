@@ -1,27 +1,24 @@
--- The lines that the program writes, and what they say. Here and in the files behind this one a `Ruling` says which bytes are valid.
-use Rattle.std.specs.Prelude.{◌≡◌, ℕ, false, ◌⊎◌, List, [], ◌++◌, codes, Option}
-use Rattle.std.specs.Fmt.{digits}
+-- What the line of an input says. Here and in the files behind this one a `Ruling` says which bytes are valid, and how it is written.
+use Rattle.std.specs.Prelude.{◌≡◌, ℕ, ◌⊎◌, IsTrue, List, [], ◌++◌, Option}
+use Rattle.wasm_types.specs.decoding.ErrorValue.{ErrorValue}
+use Rattle.wasm_check_lines.specs.Forms.{Notes, valid_text, refused_text}
 use Rattle.wasm_check_command.specs.Modes.{Ruling, AreLeft}
-use Rattle.wasm_check_command.specs.Shown.{shown}
+use Rattle.wasm_check_command.specs.Manners.{Manner}
 
 -- An input's bytes, as many as fit: those that its reader says it has left, where it says them.
 pub record HasBytes (ruling : Ruling) (said : Option (List ℕ)) (bytes : List ℕ) : Type 0 where
   pub same : AreLeft said bytes
   pub within : ruling.fits bytes
 
--- `NAME: valid`, the name as it is shown
-abbrev pub valid_line : List ℕ → List ℕ
-valid_line name = shown name ++ codes ": valid\n"
+-- there is an explanation only if one is asked for
+abbrev pub IsExplained : Manner → Notes → Type 0
+IsExplained manner notes = IsTrue manner.explains ⊎ (notes ≡ [])
 
--- `NAME: invalid at 0xN: MESSAGE`, N in lower-case hexadecimal without leading zeros, the name and the message as they are shown
-abbrev pub invalid_line : List ℕ → ℕ → List ℕ → List ℕ
-invalid_line name offset message =
-    shown name ++ codes ": invalid at 0x" ++ digits 16 false offset ++ codes ": " ++ shown message ++ codes "\n"
-
--- The line says of these bytes whether they spell a valid module; where they do not, it has an offset and a message.
+-- The text says of these bytes whether they spell a valid module; where they do not, it tells an error, and maybe an explanation.
 abbrev pub IsLine : Ruling → List ℕ → List ℕ → List ℕ → Type 0
-IsLine ruling name bytes line = (ruling.accepts bytes × (line ≡ valid_line name))
-    ⊎ (¬ ruling.accepts bytes × ((offset : ℕ) × (message : List ℕ) × (line ≡ invalid_line name offset message)))
+IsLine ruling name bytes line = (ruling.accepts bytes × (line ≡ valid_text ruling.manner.form name))
+    ⊎ (¬ ruling.accepts bytes × ((e : ErrorValue) × (notes : Notes) × IsExplained ruling.manner notes
+    × (line ≡ refused_text ruling.manner.form name e (ruling.seen bytes) notes)))
 
 -- this begins the line of these bytes
 abbrev pub BeginsLine : Ruling → List ℕ → List ℕ → List ℕ → Type 0

@@ -1,11 +1,11 @@
 -- Worked lists: the bits or the limits that each stands for, or where its first word at fault is.
-use Rattle.std.specs.Prelude.{◌≡◌, ℕ, [], Result, Ok, Err, codes}
+use Rattle.std.specs.Prelude.{◌≡◌, ℕ, [], ◌∷◌, Some, None, Result, Ok, Err, codes}
 use Rattle.wasm_check_command.specs.Lists.{Place}
-use Rattle.wasm_check_command.specs.FeatureLists.{features_of}
+use Rattle.wasm_check_command.specs.FeatureLists.{features_of, features_through, meant_by}
 use Rattle.wasm_types.specs.settings.Limits.{default_limits}
 use Rattle.wasm_types.specs.settings.declared.Limits.{Limits}
 use Rattle.wasm_check_command.specs.declared.limits.Wrong.TheVariants.{Unknown, BadValue}
-use Rattle.wasm_check_command.specs.LimitLists.{ListFault, limits_of}
+use Rattle.wasm_check_command.specs.LimitLists.{ListFault, limits_of, limits_through}
 
 -- a word that is unknown here
 abbrev pub unknown_at : ℕ → ℕ → Result ℕ Place
@@ -24,6 +24,13 @@ pub record FeatureRows : Type 0 where
   pub set_last : features_of (codes "gc,mvp") ≡ Ok 0x400800
   pub added_last : features_of (codes "no-gc,gc") ≡ Ok 0x64bfdff
   pub by_default : features_of (codes "mvp,default") ≡ Ok 0x64bfdff
+  pub all : features_of (codes "all") ≡ Ok 0xfffffff
+  pub none : features_of (codes "all,no-gc") ≡ Ok 0xff7ffff
+  pub two_lists : features_through (codes "mvp,gc" ∷ codes "no-floats" ∷ []) 0 ≡ Ok 0x480000
+  pub second_list : features_through (codes "mvp" ∷ codes "gc,x" ∷ []) 0 ≡ unknown_at 3 4
+  pub meant : meant_by (codes "GC") ≡ Some 0x80000
+  pub meant_underscore : meant_by (codes "reference_types") ≡ Some 0x2000008
+  pub meant_nothing : meant_by (codes "g c") ≡ None
   pub unknown : features_of (codes "mvp,nope") ≡ unknown_at 4 8
   pub first_unknown : features_of (codes "x,y") ≡ unknown_at 0 1
   pub empty : features_of [] ≡ unknown_at 0 0
@@ -45,6 +52,8 @@ bad_at start end = Err (record { wrong = BadValue; place = record { start = star
 pub record LimitRows : Type 0 where
   pub two : limits_of (codes "locals=10,tables=3") ≡ Ok (record default_limits { locals = 10; tables = 3 })
   pub later_wins : limits_of (codes "tags=1,tags=2") ≡ Ok (record default_limits { tags = 2 })
+  pub two_lists : limits_through (codes "locals=1" ∷ codes "tags=2,locals=3" ∷ []) default_limits
+      ≡ Ok (record default_limits { tags = 2; locals = 3 })
   pub hyphen : limits_of (codes "type-size=16777215") ≡ Ok (record default_limits { type_size = 16777215 })
   pub none_at_all : limits_of (codes "imports=0") ≡ Ok (record default_limits { imports = 0 })
   pub ten_digits : limits_of (codes "locals=0000000010") ≡ Ok (record default_limits { locals = 10 })

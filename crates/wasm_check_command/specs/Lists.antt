@@ -32,3 +32,10 @@ module _ {S F : Type 0} (step : Place → List ℕ → S → Result S F) where
   unfoldable pub through : ℕ → List (List ℕ) → S → Result S F
   through start [] s = Ok s
   through start (word ∷ words) s = elim (step (place_of start word) word s) [ Ok t ↦ through (start + length word + 1) words t | Err e ↦ Err e ]
+
+-- What several lists make of a state, one after another: `along` says what one list makes of it, or its first fault, and the first fault of all
+-- is that of the lists.
+module _ {S F : Type 0} (along : List ℕ → S → Result S F) where
+  unfoldable pub through_lists : List (List ℕ) → S → Result S F
+  through_lists [] s = Ok s
+  through_lists (list ∷ lists) s = elim (along list s) [ Ok t ↦ through_lists lists t | Err e ↦ Err e ]

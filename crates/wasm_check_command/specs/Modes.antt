@@ -1,11 +1,12 @@
 -- How inputs are read: whole, or in pieces as they come. An input that comes in pieces is judged while it is read, so it may be refused long
 -- before its end; and none is read past 2^30 bytes.
-use Rattle.std.specs.Prelude.{◌≡◌, ℕ, ◌≤◌, ◌<◌, ◌+◌, ◌^◌, List, length, IfSome, Option}
+use Rattle.std.specs.Prelude.{◌≡◌, ℕ, ◌≤◌, ◌<◌, ◌+◌, ◌^◌, List, [], length, IfSome, Option}
 use Rattle.std.specs.Io.KnownBytes.{Consumes}
 use Rattle.wasm_types.specs.decoding.Denials.{UnlessMemory}
 use Rattle.wasm_types.specs.settings.Limits.{IsWithinCeilings}
 use Rattle.wasm_types.specs.settings.declared.Limits.{Limits}
 use Rattle.wasm_types.specs.settings.Settings.{Settings}
+use Rattle.wasm_check_command.specs.Manners.{Manner, plain}
 use Rattle.wasm_check_command.specs.declared.judging.Chosen.{Chosen}
 use Rattle.wasm_check_command.specs.declared.judging.Mode.{Mode}
 use Rattle.wasm_check_command.specs.declared.judging.Mode.TheVariants.{Whole, Pieces}
@@ -25,23 +26,31 @@ IsTooLong said = IfSome said (λ xs. 2 ^ 30 < length xs)
 abbrev pub ReadsWithin : Option (List ℕ) → Option (List ℕ) → Type 0
 ReadsWithin before after = (got : List ℕ) × Consumes before after got × (length got ≤ 2 ^ 30 + 1)
 
--- By what lines are written: which bytes are valid, and which an input may have of which a line is written.
+-- By what lines are written: which bytes are valid, which an input may have of which a line is written, how they are written, and the first
+-- bytes by which the line of a refusal says what a person can do.
 pub record Ruling : Type 1 where
   pub accepts : List ℕ → Type 0
   pub fits : List ℕ → Type 0
+  pub manner : Manner
+  pub seen : List ℕ → List ℕ
 
--- An input that is read whole has at most 2^30 bytes, if a line is written of it. One that comes in pieces is valid only if it has.
-abbrev pub ruled : Mode → (List ℕ → Type 0) → Ruling
-ruled Whole accepts = record { accepts = accepts; fits = IsShort }
-ruled (Pieces piece) accepts = record { accepts = λ bytes. IsShort bytes × accepts bytes; fits = λ bytes. Unit {0} }
+-- An input that is read whole has at most 2^30 bytes, if a line is written of it. One that comes in pieces is valid only if it has, and of its
+-- first bytes the line tells nothing.
+abbrev pub ruled : Manner → Mode → (List ℕ → Type 0) → Ruling
+ruled manner Whole accepts = record { accepts = accepts; fits = IsShort; manner = manner; seen = λ bytes. bytes }
+ruled manner (Pieces piece) accepts =
+    record { accepts = λ bytes. IsShort bytes × accepts bytes; fits = λ bytes. Unit {0}; manner = manner; seen = λ bytes. [] }
 
 -- by these features and limits, and as inputs are read
 abbrev pub ruling_by : (Settings → List ℕ → Type 0) → ℕ → Limits → Mode → Ruling
-ruling_by accepts features limits mode = ruled mode (accepts (settings_by features limits))
+ruling_by accepts features limits mode = ruled plain mode (accepts (settings_by features limits))
 
 -- by what was chosen
+abbrev pub manner_of : Chosen → Manner
+manner_of c = record { form = c.form; explains = c.explains }
+
 abbrev pub ruling_of : (Settings → List ℕ → Type 0) → Chosen → Ruling
-ruling_of accepts c = ruling_by accepts c.features.0 c.limits c.mode
+ruling_of accepts c = ruled (manner_of c) c.mode (accepts (settings_by c.features.0 c.limits))
 
 -- pieces have some bytes
 abbrev pub HasPieces : Mode → Type 0

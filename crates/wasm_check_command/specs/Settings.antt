@@ -1,27 +1,35 @@
 -- By which features and limits files are judged: those that the options of the command line give.
-use Rattle.std.specs.Prelude.{◌≡◌, ◌&&◌, ◌^◌, nat_le, if◌then◌else◌, ℕ, List, Option, Some, None, Result, Ok, Err}
+use Rattle.std.specs.Prelude.{◌≡◌, ◌&&◌, ◌^◌, nat_le, if◌then◌else◌, ℕ, Bool, true, false, codes, Contains, List, Option, Some, None, Result, Ok, Err}
 use Rattle.wasm_types.specs.settings.Settings.{Settings}
 use Rattle.wasm_types.specs.settings.Limits.{default_limits}
 use Rattle.wasm_types.specs.settings.declared.Limits.{Limits}
+use Rattle.wasm_types.specs.settings.Features.{vectors_bit}
+use Rattle.std.specs.Int.RustNames.{bit_or}
+use Rattle.wasm_check_lines.specs.declared.forms.Form.{Form}
+use Rattle.wasm_check_lines.specs.declared.forms.Form.TheVariants.{Lines, Json, Quiet}
 use Rattle.wasm_types.specs.settings.Sets.{bits_of, default_features}
 use Rattle.wasm_check_command.specs.Lists.{Place, IsWordAt, place_of}
-use Rattle.wasm_check_command.specs.FeatureLists.{features_of}
+use Rattle.wasm_check_command.specs.Manners.{Manner}
+use Rattle.wasm_check_command.specs.FeatureLists.{features_through}
 use Rattle.wasm_check_command.specs.declared.judging.Chosen.{Chosen}
 use Rattle.wasm_check_command.specs.declared.judging.Mode.{Mode}
 use Rattle.wasm_check_command.specs.declared.judging.Mode.TheVariants.{Whole, Pieces}
 use Rattle.wasm_check_command.specs.declared.limits.Wrong.{Wrong}
-use Rattle.wasm_check_command.specs.LimitLists.{ListFault, limits_of, number_of}
-use Rattle.wasm_check_command.specs.Words.{features_list, limits_list, pieces_number}
+use Rattle.wasm_check_command.specs.LimitLists.{ListFault, limits_through, number_of}
+use Rattle.wasm_check_command.specs.Words.{features_lists, limits_lists, pieces_number, has_flag}
 
--- the features by the list of `--features`; those by default if it is not there
-abbrev pub features_by : Option (List ℕ) → Result ℕ Place
-features_by None = Ok (bits_of default_features)
-features_by (Some list) = features_of list
+-- the features by the lists of `--features`, and by default if there is none
+abbrev pub features_by : List (List ℕ) → Result ℕ Place
+features_by lists = features_through lists (bits_of default_features)
 
--- the limits by the list of `--limits`; those by default if it is not there
-abbrev pub limits_by : Option (List ℕ) → Result Limits ListFault
-limits_by None = Ok default_limits
-limits_by (Some list) = limits_of list
+-- `--vectors` adds the switch for operators on vectors
+abbrev pub with_vectors : Bool → ℕ → ℕ
+with_vectors true bits = bit_or bits vectors_bit
+with_vectors false bits = bits
+
+-- the limits by the lists of `--limits`, and by default if there is none
+abbrev pub limits_by : List (List ℕ) → Result Limits ListFault
+limits_by lists = limits_through lists default_limits
 
 -- pieces of so many bytes, from 1 to 2^20
 abbrev pub pieces_of : Option ℕ → Option Mode
@@ -41,29 +49,58 @@ settings_by features limits = record { features = features; limits = limits }
 abbrev pub settings_of : Chosen → Settings
 settings_of c = settings_by c.features.0 c.limits
 
--- the values of the options, where they are there
+-- how verdicts are written, by `--quiet` and `--json`; the first goes before the second
+abbrev pub form_by : Bool → Bool → Form
+form_by true json = Quiet
+form_by false true = Json
+form_by false false = Lines
+
+-- what the options ask for
 pub record Asked : Type 0 where
-  pub features : Option (List ℕ)
-  pub limits : Option (List ℕ)
+  pub features : List (List ℕ)
+  pub limits : List (List ℕ)
   pub pieces : Option (List ℕ)
+  pub vectors : Bool
+  pub form : Form
+  pub explains : Bool
+  pub goes_on : Bool
 
 -- those that the words have
 abbrev pub asked_by : List (List ℕ) → Asked
-asked_by words = record { features = features_list words; limits = limits_list words; pieces = pieces_number words }
+asked_by words = record {
+  features = features_lists words;
+  limits = limits_lists words;
+  pieces = pieces_number words;
+  vectors = has_flag (codes "vectors") words;
+  form = form_by (has_flag (codes "quiet") words) (has_flag (codes "json") words);
+  explains = has_flag (codes "explain") words;
+  goes_on = has_flag (codes "keep-going") words;
+}
+
+-- how verdicts are written
+abbrev pub manner_by : Asked → Manner
+manner_by asked = record { form = asked.form; explains = asked.explains }
 
 -- these settings and this mode are asked for
 pub record IsGiven (asked : Asked) (z : Settings) (m : Mode) : Type 0 where
-  pub features : features_by asked.features ≡ Ok z.features
+  pub allowed : ℕ
+  pub features : features_by asked.features ≡ Ok allowed
+  pub with_switch : z.features ≡ with_vectors asked.vectors allowed
   pub limits : limits_by asked.limits ≡ Ok z.limits
   pub mode : mode_by asked.pieces ≡ Some m
 
--- the list is there, and this is its first unknown word
-abbrev pub IsUnknownIn : Option (List ℕ) → List ℕ → Type 0
-IsUnknownIn None word = ⊥
-IsUnknownIn (Some list) word = (start : ℕ) × IsWordAt list start word × (features_of list ≡ Err (place_of start word))
+-- one of the lists has this unknown word, the first of all
+pub record IsUnknownIn (lists : List (List ℕ)) (word : List ℕ) : Type 0 where
+  pub list : List ℕ
+  pub has : Contains lists list
+  pub start : ℕ
+  pub there : IsWordAt list start word
+  pub first : features_by lists ≡ Err (place_of start word)
 
--- the list is there, and this is its first word at fault, by what is wrong with it
-abbrev pub IsWrongIn : Option (List ℕ) → Wrong → List ℕ → Type 0
-IsWrongIn None wrong word = ⊥
-IsWrongIn (Some list) wrong word =
-    (start : ℕ) × IsWordAt list start word × (limits_of list ≡ Err (record { wrong = wrong; place = place_of start word }))
+-- one of the lists has this word at fault, the first of all, by what is wrong with it
+pub record IsWrongIn (lists : List (List ℕ)) (wrong : Wrong) (word : List ℕ) : Type 0 where
+  pub list : List ℕ
+  pub has : Contains lists list
+  pub start : ℕ
+  pub there : IsWordAt list start word
+  pub first : limits_by lists ≡ Err (record { wrong = wrong; place = place_of start word })

@@ -1,25 +1,31 @@
 //! The command line: its words, its files, its faults and its statuses.
-ghost use Rattle.std.specs.Prelude.{◌≡◌, ◌<◌, ◌≤◌, ◌⊎◌, false, map, option_map, Ok, IfOk, IfErr};
+ghost use Rattle.std.specs.Prelude.{◌≡◌, ◌<◌, ◌≤◌, ◌⊎◌, ℕ, List, [], true, false, map, option_map, unwrap_or, Ok, IfOk, IfErr};
 ghost use Rattle.std.specs.Io.KnownBytes.{Keeps};
 ghost use Rattle.wasm_check_command.specs.declared.judging.Status.TheVariants.{AllValid, SomeInvalid};
-ghost use Rattle.clap.specs.Words.{app_of, found_of, kind_of, rows_of, rule_of, FailsBy};
+ghost use Rattle.clap.specs.Words.{all_of, app_of, found_of, kind_of, rows_of, rule_of, FailsBy};
 ghost use Rattle.clap.specs.declared.error.kind.ErrorKind.TheVariants.{OutOfMemory};
-ghost use Rattle.wasm_check_command.specs.Words.{IsHelp, matches_on, refusals_of, file_rule, option_rule, with_options, wasm_check};
+ghost use Rattle.wasm_check_command.specs.Words.{IsHelp, matches_on, refusals_of, file_rule, flag_rule, list_rule, option_rule, with_forms, with_stops};
+ghost use Rattle.wasm_check_command.specs.Words.{with_values, wasm_check, is_set, has_flag};
 ghost use Rattle.wasm_check_command.specs.Commands.{AreRead};
+ghost use Rattle.wasm_check_command.specs.LineLaws.{FaultsStayInLine};
 ghost use Rattle.wasm_types.specs.settings.Limits.{IsWithinCeilings};
-ghost use Rattle.wasm_check_command.specs.Modes.{CanJudge, HasPieces};
-ghost use Rattle.wasm_check_command.specs.Settings.{IsGiven, features_by, limits_by, mode_by, pieces_of, settings_of};
+ghost use Rattle.wasm_check_command.specs.Modes.{CanJudge, HasPieces, manner_of, ruling_of};
+ghost use Rattle.wasm_check_command.specs.Settings.{IsGiven, asked_by, features_by, form_by, limits_by, manner_by, mode_by, pieces_of, settings_of, with_vectors};
 ghost use Rattle.std.specs.Fmt.{WritesOnOk};
-ghost use Rattle.wasm_check_command.specs.Files.{texts, unopened_text, code_of, Reports, Grows, ShowsHelp, HasNoStatus, IsUnshown};
-ghost use Rattle.wasm_check_command.specs.Files.{asked_of, RefusesPieces, RefusesFeatures, RefusesLimits, StopsEarly, ReportsBy, StopsBy};
+ghost use Rattle.wasm_check_command.specs.Files.{texts, lists_in, unopened_text, code_of, code_of_ended, Reports, Grows, ShowsHelp, HasNoStatus, IsUnshown, EndsRun};
+ghost use Rattle.wasm_check_command.specs.Files.{asked_of, RefusesPieces, RefusesFeatures, RefusesLimits, StopsEarly, ReportsEnd, StopsBy};
+ghost use Rattle.wasm_check_command.specs.Files.{EndsBy, StopsFiles, StopsGoingBy};
 
 use crate::error::CheckError;
+use crate::faults::{write_bad_limit, write_unknown_feature, write_unknown_limit};
 use crate::features::find_features;
-use crate::files::judge_files;
+use crate::files::{Ended, judge_files, name_at};
+use crate::going::judge_going;
 use crate::judging::{Chosen, Judge, Mode, Status, write_text};
-use crate::limits::{Wrong, find_limits, number_in};
+use crate::limits::{Wrong, default_limits, find_limits, number_in};
 use crate::reason::Reason;
-use crate::shown::Shown;
+use crate::tables::table_asked;
+use bitflags::Flags;
 use clap::error::ErrorKind;
 use clap::{Arg, ArgAction, ArgMatches, Command};
 use std::alloc::{AllocError, Global};
@@ -27,23 +33,32 @@ use std::convert::AsStr;
 use std::fmt;
 use std::io::{Input, Write};
 use std::rt::Files;
+use wasm_check_lines::{Form, Shown};
 use wasm_types::{Limits, WasmFeatures};
 
 /// The version that `--version` prints.
-pub const VERSION: &str = "0.1.0";
+pub const VERSION: &str = "0.2.0";
 
 /// The most bytes that a piece may have.
 const MAX_PIECE: u64 = 0x10_0000;
 
 /// The values that the options of the command line have, where they are there.
 #[derive(Debug, Drop)]
-struct Options<'a> {
-    /// The list of `--features`.
-    features: Option<&'a str>,
-    /// The list of `--limits`.
-    limits: Option<&'a str>,
-    /// The number of `--pieces`.
+struct Options<'m, 'a> {
+    /// The lists of `--features`, in order.
+    features: Option<&'m [&'a str]>,
+    /// The lists of `--limits`, in order.
+    limits: Option<&'m [&'a str]>,
+    /// The number of `--pieces`, if it is there.
     pieces: Option<&'a str>,
+    /// Whether `--vectors` is there.
+    vectors: bool,
+    /// How verdicts are written, by `--quiet` and `--json`.
+    form: Form,
+    /// Whether `--explain` is there.
+    explains: bool,
+    /// Whether `--keep-going` is there.
+    goes_on: bool,
 }
 
 /// Why a run came to no status of its files.
@@ -66,6 +81,8 @@ pub(crate) enum Fault<'a> {
         name: &'a str,
         reason: Reason,
     },
+    /// Standard input is asked for, and cannot be held: another file may be read in its place.
+    CannotHold(Reason),
     /// Memory ran out outside a file.
     OutOfMemory,
 }
@@ -82,17 +99,12 @@ impl fmt::Display for Fault<'_> {
                 let word = Shown(*word);
                 write!(f, "wasm-check: bad piece size `{word}`")
             }
-            Fault::UnknownFeature(word) => {
-                let word = Shown(*word);
-                write!(f, "wasm-check: unknown feature `{word}`")
-            }
-            Fault::WrongLimit(wrong, word) => {
-                let word = Shown(*word);
-                match wrong {
-                    Wrong::Unknown => write!(f, "wasm-check: unknown limit `{word}`"),
-                    Wrong::BadValue => write!(f, "wasm-check: bad limit `{word}`"),
-                }
-            }
+            Fault::UnknownFeature(word) => write_unknown_feature(f, *word),
+            Fault::WrongLimit(wrong, word) => match wrong {
+                Wrong::Unknown => write_unknown_limit(f, *word),
+                Wrong::BadValue => write_bad_limit(f, *word),
+            },
+            Fault::CannotHold(reason) => write_unopened(f, "/dev/null", *reason),
             Fault::CannotOpen { name, reason } => write_unopened(f, *name, *reason),
             Fault::Stopped {
                 error,
@@ -146,21 +158,40 @@ fn option_argument<'a>(alloc: Global, name: &'a str, value: &'a str, help: &'a s
         .action(ArgAction::Set)
 }
 
-/// The command with its options.
-fn with_options<'a>(alloc: Global, command: Command<'a>) -> Result<Command<'a>, AllocError>
-    ensures { IfOk result (λ c. app_of c ≡ with_options (app_of command.entry)) }
+/// An option of this name with a list, which may be there several times.
+fn list_argument<'a>(alloc: Global, name: &'a str, help: &'a str) -> Arg<'a>
+    ensures { (rule_of result ≡ list_rule name.entry.now) × (result.global ≡ false) }
 {
-    let features = option_argument(
+    Arg::new(alloc, name)
+        .long(name)
+        .help(help)
+        .value_name("LIST")
+        .action(ArgAction::Append)
+}
+
+/// A flag of this name.
+fn flag_argument<'a>(alloc: Global, name: &'a str, help: &'a str) -> Arg<'a>
+    ensures { (rule_of result ≡ flag_rule name.entry.now) × (result.global ≡ false) }
+{
+    Arg::new(alloc, name)
+        .long(name)
+        .help(help)
+        .action(ArgAction::SetTrue)
+}
+
+/// The command with its options that have a value.
+fn with_values<'a>(alloc: Global, command: Command<'a>) -> Result<Command<'a>, AllocError>
+    ensures { IfOk result (λ c. app_of c ≡ with_values (app_of command.entry)) }
+{
+    let features = list_argument(
         alloc,
         "features",
-        "LIST",
-        "The features that are allowed: words between commas, from left to right, as mvp,gc or no-simd",
+        "The features that are allowed: words between commas, from left to right, as mvp,gc or no-simd; --features help lists them",
     );
-    let limits = option_argument(
+    let limits = list_argument(
         alloc,
         "limits",
-        "LIST",
-        "The limits that hold: words name=N between commas, as locals=10,tables=3; the others are those by default",
+        "The limits that hold: words name=N between commas, as locals=10,tables=3; --limits help lists them",
     );
     let pieces = option_argument(
         alloc,
@@ -172,6 +203,47 @@ fn with_options<'a>(alloc: Global, command: Command<'a>) -> Result<Command<'a>, 
     Ok(command)
 }
 
+/// The command with the flags that say what is judged, and what is written of it.
+fn with_forms<'a>(alloc: Global, command: Command<'a>) -> Result<Command<'a>, AllocError>
+    ensures { IfOk result (λ c. app_of c ≡ with_forms (app_of command.entry)) }
+{
+    let vectors = flag_argument(
+        alloc,
+        "vectors",
+        "Judge operators on vectors, which are refused without it",
+    );
+    let json = flag_argument(
+        alloc,
+        "json",
+        "Write an object of JSON on a line for each file",
+    );
+    let explain = flag_argument(
+        alloc,
+        "explain",
+        "Say below each refusal where the fault is; not with --pieces",
+    );
+    let command = command.arg(vectors)?.arg(json)?.arg(explain)?;
+    Ok(command)
+}
+
+/// The command with the flags that say when to stop.
+fn with_stops<'a>(alloc: Global, command: Command<'a>) -> Result<Command<'a>, AllocError>
+    ensures { IfOk result (λ c. app_of c ≡ with_stops (app_of command.entry)) }
+{
+    let quiet = flag_argument(
+        alloc,
+        "quiet",
+        "Write no verdict, and stop at the first file that is invalid: the status tells",
+    );
+    let going = flag_argument(
+        alloc,
+        "keep-going",
+        "Judge the other files if one cannot be opened or read, is too long, or memory runs out for it",
+    );
+    let command = command.arg(quiet)?.arg(going)?;
+    Ok(command)
+}
+
 /// The command, with its arguments.
 fn command<'a>(alloc: Global) -> Result<Command<'a>, AllocError>
     ensures { IfOk result (λ c. app_of c ≡ wasm_check) }
@@ -179,7 +251,9 @@ fn command<'a>(alloc: Global) -> Result<Command<'a>, AllocError>
     let command = Command::new(alloc, "wasm-check").version(VERSION).about(
         "Says of each file whether it is a valid WebAssembly module",
     );
-    let command = with_options(alloc, command)?.arg(files_argument(alloc))?;
+    let command = with_values(alloc, command)?;
+    let command = with_forms(alloc, command)?;
+    let command = with_stops(alloc, command)?.arg(files_argument(alloc))?;
     Ok(command)
 }
 
@@ -191,33 +265,93 @@ fn parse<'a, S: AsStr>(alloc: Global, words: &'a [S]) -> Result<ArgMatches<'a>, 
     command(alloc)?.try_get_matches_from(words)
 }
 
-/// The features of a list, or those by default.
-fn read_features<'a>(list: Option<&'a str>) -> Result<WasmFeatures, Fault<'a>>
-    ensures ok { IfOk result (λ f. features_by (option_map (λ l. l.now) list.entry) ≡ Ok f.0) }
-    ensures err { IfErr result (RefusesFeatures (option_map (λ l. l.now) list.entry)) }
+/// The features by these lists, which are applied in order to those by default.
+fn join_features<'a>(lists: &[&'a str]) -> Result<WasmFeatures, Fault<'a>>
+    ensures ok { IfOk result (λ f. features_by (texts lists.now) ≡ Ok f.0) }
+    ensures err { IfErr result (RefusesFeatures (texts lists.now)) }
 {
-    let Some(list) = list else {
-        return Ok(WasmFeatures::default());
-    };
-    match find_features(list) {
-        Ok(features) => Ok(features),
-        Err(unknown) => Err(Fault::UnknownFeature(unknown.word)),
+    let mut features = WasmFeatures::default();
+    for place in 0..lists.len() {
+        match find_features(name_at(lists, place), features) {
+            Ok(next) => features = next,
+            Err(unknown) => return Err(Fault::UnknownFeature(unknown.word)),
+        }
+    }
+    Ok(features)
+}
+
+/// The limits by these lists, which are applied in order to those by default.
+fn join_limits<'a>(lists: &[&'a str]) -> Result<Limits, Fault<'a>>
+    ensures ok { IfOk result (λ l. limits_by (texts lists.now) ≡ Ok l) }
+    ensures within { IfOk result IsWithinCeilings }
+    ensures err { IfErr result (RefusesLimits (texts lists.now)) }
+{
+    let mut limits = default_limits();
+    for place in 0..lists.len() {
+        match find_limits(name_at(lists, place), limits) {
+            Ok(next) => limits = next,
+            Err(fault) => return Err(Fault::WrongLimit(fault.wrong, fault.word.word)),
+        }
+    }
+    Ok(limits)
+}
+
+/// The features by the lists of `--features`, or those by default.
+#[tactic(auto, unfolding(crate::specs::Lists::through_lists))]
+fn read_features<'a>(lists: Option<&[&'a str]>) -> Result<WasmFeatures, Fault<'a>>
+    ensures ok { IfOk result (λ f. features_by (lists_in lists.entry) ≡ Ok f.0) }
+    ensures err { IfErr result (RefusesFeatures (lists_in lists.entry)) }
+{
+    match lists {
+        Some(lists) => join_features(lists),
+        None => Ok(WasmFeatures::default()),
     }
 }
 
-/// The limits of a list, or those by default.
-fn read_limits<'a>(list: Option<&'a str>) -> Result<Limits, Fault<'a>>
-    ensures ok { IfOk result (λ l. limits_by (option_map (λ l. l.now) list.entry) ≡ Ok l) }
+/// The limits by the lists of `--limits`, or those by default.
+#[tactic(auto, unfolding(crate::specs::Lists::through_lists))]
+fn read_limits<'a>(lists: Option<&[&'a str]>) -> Result<Limits, Fault<'a>>
+    ensures ok { IfOk result (λ l. limits_by (lists_in lists.entry) ≡ Ok l) }
     ensures within { IfOk result IsWithinCeilings }
-    ensures err { IfErr result (RefusesLimits (option_map (λ l. l.now) list.entry)) }
+    ensures err { IfErr result (RefusesLimits (lists_in lists.entry)) }
 {
-    let Some(list) = list else {
-        return Ok(Limits::default());
-    };
-    match find_limits(list) {
-        Ok(limits) => Ok(limits),
-        Err(fault) => Err(Fault::WrongLimit(fault.wrong, fault.word.word)),
+    match lists {
+        Some(lists) => join_limits(lists),
+        None => Ok(default_limits()),
     }
+}
+
+/// These features, with the switch for operators on vectors if it is asked for.
+fn with_vectors(vectors: bool, features: WasmFeatures) -> WasmFeatures
+    ensures { result.0 ≡ with_vectors vectors features.0 }
+{
+    if vectors {
+        return features.union(WasmFeatures::VECTOR_OPERATORS);
+    }
+    features
+}
+
+/// Whether a flag is there, by its value.
+fn is_set(value: Option<&str>) -> bool
+    ensures { result ≡ is_set (option_map (λ v. v.now) value.entry) }
+{
+    match value {
+        Some(text) => text == "true",
+        None => false,
+    }
+}
+
+/// How verdicts are written.
+fn form_by(quiet: bool, json: bool) -> Form
+    ensures { result ≡ form_by quiet json }
+{
+    if quiet {
+        return Form::Quiet;
+    }
+    if json {
+        return Form::Json;
+    }
+    Form::Lines
 }
 
 /// The mode that a number of bytes stands for.
@@ -246,8 +380,9 @@ fn read_pieces<'a>(number: Option<&'a str>) -> Result<Mode, Fault<'a>>
 }
 
 /// What the options ask for: their values are read in this order.
-fn read_options<'a>(options: &Options<'a>) -> Result<Chosen, Fault<'a>>
+fn read_options<'a>(options: &Options<'_, 'a>) -> Result<Chosen, Fault<'a>>
     ensures ok { IfOk result (λ c. IsGiven (asked_of options.now) (settings_of c) c.mode) }
+    ensures manner { IfOk result (λ c. manner_of c ≡ manner_by (asked_of options.now)) }
     ensures within { IfOk result CanJudge }
     ensures err { IfErr result (StopsEarly (asked_of options.now)) }
 {
@@ -255,37 +390,86 @@ fn read_options<'a>(options: &Options<'a>) -> Result<Chosen, Fault<'a>>
     let features = read_features(options.features)?;
     let limits = read_limits(options.limits)?;
     Ok(Chosen {
-        features,
+        features: with_vectors(options.vectors, features),
         limits,
         mode,
+        form: options.form,
+        explains: options.explains,
     })
 }
 
-/// Reads the values of the options, and then opens all files and judges them.
-fn judge_by_options<'a, J: Judge, F: Files + Input, W: Write>(
+/// Judges files as the options ask, and stops at the first that comes to no verdict or goes on.
+fn judge_chosen<'a, J: Judge, F: Files + Input, W: Write, E: Write>(
     judge: &J,
     alloc: Global,
     rt: &F,
-    options: &Options<'a>,
+    goes_on: bool,
+    chosen: Chosen,
     names: &[&'a str],
     out: &mut W,
-) -> Result<Status, Fault<'a>>
-    ensures ok { IfOk result (ReportsBy J.accepts (asked_of options.now) (texts names.now)
+    err: &mut E,
+) -> Result<Ended, Fault<'a>>
+    requires within { CanJudge chosen }
+    ensures ok { IfOk result (λ e. EndsBy (ruling_of J.accepts chosen) (texts names.now) (W.contents out.old) (W.contents out.new) e
+        × ((e.lost ≡ false) ⊎ (goes_on ≡ true))) }
+    ensures err { IfErr result (λ f. StopsFiles (ruling_of J.accepts chosen) (texts names.now) (W.contents out.old) (W.contents out.new) f
+        ⊎ ((goes_on ≡ true) × StopsGoingBy (ruling_of J.accepts chosen) (texts names.now) (W.contents out.old) (W.contents out.new) f)) }
+    ensures quiet { IfOk result (λ e. e.lost ≡ false → Keeps (E.contents err.old) (E.contents err.new)) }
+{
+    if goes_on {
+        return judge_going(judge, alloc, rt, names, chosen, out, err);
+    }
+    match judge_files(judge, alloc, rt, names, chosen, out) {
+        Ok(status) => Ok(Ended {
+            status,
+            lost: false,
+        }),
+        Err(fault) => Err(fault),
+    }
+}
+
+/// Reads the values of the options, and then opens the files and judges them.
+fn judge_by_options<'a, J: Judge, F: Files + Input, W: Write, E: Write>(
+    judge: &J,
+    alloc: Global,
+    rt: &F,
+    options: &Options<'_, 'a>,
+    names: &[&'a str],
+    out: &mut W,
+    err: &mut E,
+) -> Result<Ended, Fault<'a>>
+    ensures ok { IfOk result (ReportsEnd J.accepts (asked_of options.now) (texts names.now)
         (W.contents out.old) (W.contents out.new)) }
     ensures err { IfErr result (StopsBy J.accepts (asked_of options.now) (texts names.now)
         (W.contents out.old) (W.contents out.new)) }
+    ensures quiet { IfOk result (λ e. e.lost ≡ false → Keeps (E.contents err.old) (E.contents err.new)) }
 {
-    let chosen = read_options(options)?;
-    judge_files(judge, alloc, rt, names, chosen, out)
+    let chosen = match read_options(options) {
+        Ok(chosen) => chosen,
+        Err(fault) => return Err(fault),
+    };
+    judge_chosen(judge, alloc, rt, options.goes_on, chosen, names, out, err)
+}
+
+/// Tells a fault in one line, which is written whole if memory allows.
+pub(crate) fn tell<E: Write>(alloc: Global, fault: &Fault<'_>, err: &mut E) {
+    // The status tells the fault where its line can't be written.
+    match format!(in alloc; "{fault}\n") {
+        Ok(line) => {
+            let _ = write_text(line.as_bytes(), err);
+        }
+        Err(_) => {
+            let _ = writeln!(err, "{fault}");
+        }
+    }
+    let _ = err.flush();
 }
 
 /// Says why there is no status of the files.
-fn report<E: Write>(fault: &Fault<'_>, err: &mut E) -> u8
+fn report<E: Write>(alloc: Global, fault: &Fault<'_>, err: &mut E) -> u8
     ensures { result ≡ 2 }
 {
-    // The status tells the fault where its line can't be written.
-    let _ = writeln!(err, "{fault}");
-    let _ = err.flush();
+    tell(alloc, fault, err);
     2
 }
 
@@ -318,10 +502,13 @@ fn tell_usage<S: AsStr, E: Write>(alloc: Global, words: &[S], err: &mut E) -> u8
     ensures { result ≡ 2 }
 {
     let Ok(shown) = shown_words(alloc, words) else {
-        return report(&Fault::OutOfMemory, err);
+        return report(alloc, &Fault::OutOfMemory, err);
     };
     if let Err(answer) = parse(alloc, shown.as_slice()) {
-        let _ = write!(err, "{answer}");
+        let Ok(text) = format!(in alloc; "{answer}") else {
+            return report(alloc, &Fault::OutOfMemory, err);
+        };
+        let _ = write_text(text.as_bytes(), err);
         let _ = err.flush();
     }
     2
@@ -343,21 +530,30 @@ fn show<S: AsStr, W: Write, E: Write>(
     ensures quiet { result < 2 → Keeps (E.contents err.old) (E.contents err.new) }
 {
     if answer.kind() == ErrorKind::OutOfMemory {
-        return report(&Fault::OutOfMemory, err);
+        return report(alloc, &Fault::OutOfMemory, err);
     }
     if answer.use_stderr() {
         return tell_usage(alloc, words, err);
     }
     let Ok(text) = help_text(alloc, words) else {
-        return report(&Fault::OutOfMemory, err);
+        return report(alloc, &Fault::OutOfMemory, err);
     };
-    if show_help(text.as_str(), out).is_err() {
+    show_text(alloc, text.as_str(), out, err)
+}
+
+/// Writes a text that was asked for, and gives the status.
+fn show_text<W: Write, E: Write>(alloc: Global, text: &str, out: &mut W, err: &mut E) -> u8
+    ensures known { (result ≡ 0) ⊎ (result ≡ 2) }
+    ensures grows { Grows (W.contents out.old) (W.contents out.new) }
+    ensures quiet { result < 2 → Keeps (E.contents err.old) (E.contents err.new) }
+{
+    if show_help(text, out).is_err() {
         let fault = Fault::Stopped {
             error: CheckError::Write,
             name: "",
             reason: Reason::Unknown,
         };
-        return report(&fault, err);
+        return report(alloc, &fault, err);
     }
     0
 }
@@ -373,24 +569,103 @@ fn show_help<W: Write>(text: &str, out: &mut W) -> Result<(), CheckError>
     Ok(())
 }
 
+/// The status of files that ended so.
+fn code_of_ended(ended: Ended) -> u8
+    ensures { result ≡ code_of_ended ended.lost ended.status }
+{
+    if ended.lost {
+        return 2;
+    }
+    match ended.status {
+        Status::AllValid => 0,
+        Status::SomeInvalid => 1,
+    }
+}
+
 /// The exit status of what was judged, and a line for a fault.
-fn conclude<E: Write>(judged: &Result<Status, Fault<'_>>, err: &mut E) -> u8
+fn conclude<E: Write>(alloc: Global, judged: &Result<Ended, Fault<'_>>, err: &mut E) -> u8
     ensures code { result ≡ code_of judged.now }
     ensures quiet { result < 2 → Keeps (E.contents err.old) (E.contents err.new) }
 {
     match judged {
-        Ok(Status::AllValid) => 0,
-        Ok(Status::SomeInvalid) => 1,
-        Err(fault) => report(fault, err),
+        Ok(ended) => code_of_ended(*ended),
+        Err(fault) => report(alloc, fault, err),
     }
 }
 
+/// The lists of an option, in order, if there are any.
+fn lists_of<'m, 'a>(matches: &'m ArgMatches<'a>, name: &str) -> Option<&'m [&'a str]>
+    ensures { (words : List (List ℕ)) → rows_of (found_of matches.now) ≡ matches_on words
+        → lists_in result ≡ unwrap_or (all_of name.now (matches_on words)) [] }
+{
+    matches.get_strs(name)
+}
+
+/// Whether a flag is there.
+fn has_flag(matches: &ArgMatches<'_>, name: &str) -> bool
+    ensures { (words : List (List ℕ)) → rows_of (found_of matches.now) ≡ matches_on words → result ≡ has_flag name.now words }
+{
+    is_set(matches.get_str(name))
+}
+
+/// What the options ask for, as `clap` found them.
+fn options_of<'m, 'a>(matches: &'m ArgMatches<'a>) -> Options<'m, 'a>
+    ensures { (words : List (List ℕ)) → rows_of (found_of matches.now) ≡ matches_on words → asked_of result ≡ asked_by words }
+{
+    let features = lists_of(matches, "features");
+    let limits = lists_of(matches, "limits");
+    let pieces = matches.get_str("pieces");
+    let vectors = has_flag(matches, "vectors");
+    let quiet = has_flag(matches, "quiet");
+    let json = has_flag(matches, "json");
+    let explains = has_flag(matches, "explain");
+    let goes_on = has_flag(matches, "keep-going");
+    Options {
+        features,
+        limits,
+        pieces,
+        vectors,
+        form: form_by(quiet, json),
+        explains,
+        goes_on,
+    }
+}
+
+/// Runs the program on the words that `clap` read.
+fn run_matches<'a, J, F, W, E>(
+    judge: &J,
+    rt: &F,
+    alloc: Global,
+    matches: &ArgMatches<'a>,
+    out: &mut W,
+    err: &mut E,
+) -> u8
+where
+    J: Judge,
+    F: Files + Input,
+    W: Write,
+    E: Write,
+    ensures quiet { result < 2 → Keeps (E.contents err.old) (E.contents err.new) }
+    ensures ended { (words : List (List ℕ)) → rows_of (found_of matches.now) ≡ matches_on words
+        → EndsRun J.accepts words (W.contents out.old) (W.contents out.new) result }
+{
+    let Some(names) = matches.get_strs("FILE") else {
+        return 2;
+    };
+    if names.is_empty() {
+        return 2;
+    }
+    let options = options_of(matches);
+    let judged = judge_by_options(judge, alloc, rt, &options, names, out, err);
+    conclude(alloc, &judged, err)
+}
+
 /// Runs the program on these words, of which the first is its own name, and gives its exit status:
-/// 0 if all files are valid, or if `clap` answers the words with the help or the version and it was shown; 1 if some file is invalid; 2 if
-/// the words name no files by `clap`'s reading or have a list that is refused, and then nothing is written to `out`, or if a
-/// fault stopped the judging or the help. The files are judged by the features and limits that the words ask for. All files
-/// are opened before the first is judged; those past the first hundred are then closed, and opened again in their turn, and so are
-/// all if the system does not let so many be open. The file `-` is standard input.
+/// 0 if all files are valid, or if the words ask for the help, the version or a table and it was shown; 1 if some file is invalid; 2 if
+/// the words name no files by `clap`'s reading or have a list that is refused, and then nothing is written to `out`, if a fault stopped the
+/// judging or the help, or if a file came to no verdict and the judging went on. The files are judged by the features and limits that the
+/// words ask for. All files are opened before the first is judged, except with `--keep-going`; those past the first hundred are then closed,
+/// and opened again in their turn, and so are all if the system does not let so many be open. The file `-` is standard input.
 pub fn run_by<'a, J, F, S, W, E>(judge: &J, rt: &F, words: &'a [S], out: &mut W, err: &mut E) -> u8
 where
     J: Judge,
@@ -408,27 +683,11 @@ where
         → HasNoStatus J.accepts (map S.text words.now) (W.contents out.old) (W.contents out.new) }
 {
     let alloc = rt.alloc();
+    if let Some(table) = table_asked(words) {
+        return show_text(alloc, table, out, err);
+    }
     match parse(alloc, words) {
-        Ok(matches) => {
-            let Some(names) = matches.get_strs("FILE") else {
-                return 2;
-            };
-            if names.is_empty() {
-                return 2;
-            }
-            let features = matches.get_str("features");
-            let limits = matches.get_str("limits");
-            let pieces = matches.get_str("pieces");
-            let options = Options {
-                features,
-                limits,
-                pieces,
-            };
-            conclude(
-                &judge_by_options(judge, alloc, rt, &options, names, out),
-                err,
-            )
-        }
+        Ok(matches) => run_matches(judge, rt, alloc, &matches, out, err),
         Err(answer) => show(alloc, words, &answer, out, err),
     }
 }
@@ -436,4 +695,10 @@ where
 /// What `clap` answers to worked command lines, and which files they name.
 pub fn reads_worked_words()
     ensures { AreRead }
+{}
+
+/// What is told of a fault stays in its line.
+#[tactic(auto, using(crate::proofs::InLine::faults_stay))]
+pub fn faults_stay_in_line()
+    ensures { FaultsStayInLine }
 {}

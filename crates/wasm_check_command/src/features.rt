@@ -2,11 +2,15 @@
 ghost use Rattle.std.specs.Prelude.{◌≡◌, bytes_eq, Ok, Err, IfErr, MatchResult, option_map};
 ghost use Rattle.wasm_check_command.specs.Lists.{place_of, IsWordAt};
 ghost use Rattle.wasm_check_command.specs.ListRows.{FeatureRows};
-ghost use Rattle.wasm_check_command.specs.FeatureLists.{hyphened, word_of, set_words, feature_words, named, set_after, features_of};
+ghost use Rattle.wasm_check_command.specs.FeatureLists.{hyphened, word_of, set_words, named, set_after, features_along, features_of, meant_by};
+ghost use Rattle.wasm_check_lines.specs.FeatureWords.{feature_words};
 
 use crate::lists::{ListedWord, first_word};
 use bitflags::Flags;
 use wasm_types::WasmFeatures;
+
+/// All features: each bit below that of the switch for operators on vectors.
+const ALL: u32 = 0x0fff_ffff;
 
 /// A word of a list that names no features, by its place: from its first byte up to the byte after its last.
 #[derive(Clone, Copy, Debug, PartialEq, Eq)]
@@ -56,6 +60,34 @@ fn feature_named(word: &[u8]) -> Option<WasmFeatures>
     None
 }
 
+/// Whether a word is this name, but for capital letters and underscores.
+fn is_meant(name: &[u8], word: &[u8]) -> bool
+    ensures { result ≡ bytes_eq (word_of word.now) (word_of name.now) }
+{
+    if name.len() != word.len() {
+        return false;
+    }
+    for i in 0..name.len() {
+        if hyphened(word[i]) != hyphened(name[i]) {
+            return false;
+        }
+    }
+    true
+}
+
+/// The feature that is meant by a word in capital letters or with underscores.
+pub(crate) fn feature_meant(word: &[u8]) -> Option<WasmFeatures>
+    ensures { option_map (λ f. f.0) result ≡ meant_by word.now }
+{
+    let flags = WasmFeatures::flags();
+    for flag in flags {
+        if is_meant(flag.name().as_bytes(), word) {
+            return Some(*flag.value());
+        }
+    }
+    None
+}
+
 /// The set of this name.
 fn set_named(word: &str) -> Option<WasmFeatures>
     ensures { option_map (λ f. f.0) result ≡ named set_words word.now }
@@ -77,6 +109,9 @@ fn set_named(word: &str) -> Option<WasmFeatures>
     }
     if word == "default" {
         return Some(WasmFeatures::default());
+    }
+    if word == "all" {
+        return Some(WasmFeatures::from_bits_retain(ALL));
     }
     None
 }
@@ -100,13 +135,16 @@ fn changed(features: WasmFeatures, word: &str) -> Option<WasmFeatures>
     Some(features.difference(feature))
 }
 
-/// The features that a list stands for, or its first unknown word.
-pub(crate) fn find_features<'a>(list: &'a str) -> Result<WasmFeatures, ListedWord<'a>>
-    ensures set { MatchResult result (λ f. features_of list.now ≡ Ok f.0)
-        (λ w. features_of list.now ≡ Err (place_of w.start w.word.now)) }
+/// The features that a list makes of these, or its first unknown word.
+pub(crate) fn find_features<'a>(
+    list: &'a str,
+    first: WasmFeatures,
+) -> Result<WasmFeatures, ListedWord<'a>>
+    ensures set { MatchResult result (λ f. features_along list.now first.0 ≡ Ok f.0)
+        (λ w. features_along list.now first.0 ≡ Err (place_of w.start w.word.now)) }
     ensures word { IfErr result (λ w. IsWordAt list.now w.start w.word.now) }
 {
-    let mut features = WasmFeatures::default();
+    let mut features = first;
     let mut rest = list;
     for _turn in 0..=list.len() {
         let start = list.len() - rest.len();
@@ -124,7 +162,7 @@ pub(crate) fn find_features<'a>(list: &'a str) -> Result<WasmFeatures, ListedWor
 }
 
 /// The features that a list stands for: words between commas, which are applied from left to right to the default set. `mvp`,
-/// `wasm1`, `wasm2`, `wasm3`, `lime1` and `default` put that set in the place of what was there, the name of a feature adds it,
+/// `wasm1`, `wasm2`, `wasm3`, `lime1`, `default` and `all` put that set in the place of what was there, the name of a feature adds it,
 /// and `no-` before such a name removes it.
 ///
 /// # Errors
@@ -134,7 +172,7 @@ pub fn parse_features(list: &str) -> Result<WasmFeatures, UnknownFeature>
     ensures { MatchResult result (λ f. features_of list.now ≡ Ok f.0)
         (λ e. features_of list.now ≡ Err (record { start = e.start; «end» = e.«end» })) }
 {
-    match find_features(list) {
+    match find_features(list, WasmFeatures::default()) {
         Ok(features) => Ok(features),
         Err(unknown) => Err(UnknownFeature {
             start: unknown.start,

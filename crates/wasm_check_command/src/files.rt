@@ -3,7 +3,7 @@ ghost use Rattle.std.specs.Prelude.{◌≡◌, ◌⊎◌, ℕ, ◌<◌, ◌≤�
 ghost use Rattle.wasm_check_command.specs.Modes.{CanJudge, ruling_of};
 ghost use Rattle.wasm_check_command.specs.Verdict.{IsJudged};
 ghost use Rattle.wasm_check_command.specs.Opened.{is_stdin, names_stdin, kept_open, said_by};
-ghost use Rattle.wasm_check_command.specs.Files.{texts, joined, CannotOpen, FailsOpening, JudgesFile, FailsFile, FailsAgain, ReportsFiles, StopsFiles};
+ghost use Rattle.wasm_check_command.specs.Files.{texts, joined, CannotOpen, FailsOpening, JudgesFile, FailsFile, FailsAgain, EndsFiles, StopsFiles, is_enough};
 
 use crate::command::Fault;
 use crate::error::CheckError;
@@ -13,6 +13,7 @@ use std::alloc::Global;
 use std::fs::{File, OpenFile};
 use std::io::{self, Input as Standard, Read, Write};
 use std::rt::Files;
+use wasm_check_lines::Form;
 
 /// How many files are kept open until their turn, if the system lets so many be open.
 const KEPT: usize = 100;
@@ -44,7 +45,7 @@ impl<F: Read, I: Read> Read for Opened<F, I> {
 
 /// Files that are open and not read.
 #[derive(Debug, Drop)]
-struct Held<F> {
+pub(crate) struct Held<F> {
     first: io::Result<F>,
     second: io::Result<F>,
     third: io::Result<F>,
@@ -53,7 +54,7 @@ struct Held<F> {
 /// Opens `/dev/null` three times, as far as it can be opened. The system gives a file the least number that is free. So a program
 /// that was started with standard input, output or error closed has `/dev/null` there, for as long as these are held, and no input:
 /// `-` would read a file in place of standard input.
-fn hold_streams<F: Files>(rt: &F) -> Held<F::File> {
+pub(crate) fn hold_streams<F: Files>(rt: &F) -> Held<F::File> {
     Held {
         first: File::open(rt, NULL),
         second: File::open(rt, NULL),
@@ -61,8 +62,30 @@ fn hold_streams<F: Files>(rt: &F) -> Held<F::File> {
     }
 }
 
+/// Why a stream is not held, if one is not, and standard input is among the files of these names: some other file may be read in its place.
+pub(crate) fn unheld<F>(held: &Held<F>, names: &[&str]) -> Option<Reason> {
+    let mut reads_stdin = false;
+    for name in names {
+        if *name == "-" {
+            reads_stdin = true;
+        }
+    }
+    if !reads_stdin {
+        return None;
+    }
+    match (&held.first, &held.second, &held.third) {
+        (Err(error), _, _) => Some(Reason::of(error)),
+        (_, Err(error), _) => Some(Reason::of(error)),
+        (_, _, Err(error)) => Some(Reason::of(error)),
+        _ => None,
+    }
+}
+
 /// Opens the file of this name; `-` is standard input.
-fn open<F: Files + Standard>(rt: &F, name: &str) -> io::Result<Opened<F::File, F::Reader>>
+pub(crate) fn open<F: Files + Standard>(
+    rt: &F,
+    name: &str,
+) -> io::Result<Opened<F::File, F::Reader>>
     ensures { IfOk result (λ o. is_stdin o ≡ names_stdin name.now) }
 {
     if name == "-" {
@@ -75,7 +98,7 @@ fn open<F: Files + Standard>(rt: &F, name: &str) -> io::Result<Opened<F::File, F
 }
 
 /// The same, with the fault of a file that cannot be opened.
-fn open_named<'a, F: Files + Standard>(
+pub(crate) fn open_named<'a, F: Files + Standard>(
     rt: &F,
     name: &'a str,
 ) -> Result<Opened<F::File, F::Reader>, Fault<'a>>
@@ -211,7 +234,7 @@ fn is_too_long<R: OpenFile, I>(opened: &Opened<R, I>) -> bool
 
 /// Judges a file, writes its line, and says whether it is a valid module. A file that is too long by what the system says is not
 /// read.
-fn judge_opened<'a, J: Judge, R: Read + OpenFile + Drop, I: Read + Drop, W: Write>(
+pub(crate) fn judge_opened<'a, J: Judge, R: Read + OpenFile + Drop, I: Read + Drop, W: Write>(
     judge: &J,
     alloc: Global,
     chosen: Chosen,
@@ -296,7 +319,7 @@ fn judge_again<'a, J: Judge, F: Files + Standard, W: Write>(
 }
 
 /// The name at this place.
-fn name_at<'a>(names: &[&'a str], place: usize) -> &'a str
+pub(crate) fn name_at<'a>(names: &[&'a str], place: usize) -> &'a str
     requires { place < length names.now }
     ensures { slice_get (texts names.now) place ≡ Some result.now }
 {
@@ -304,13 +327,23 @@ fn name_at<'a>(names: &[&'a str], place: usize) -> &'a str
 }
 
 /// The status of files that have this one, and of one more.
-fn joined(status: Status, is_valid: bool) -> Status
+pub(crate) fn joined(status: Status, is_valid: bool) -> Status
     ensures { result ≡ joined status is_valid }
 {
     if is_valid {
         return status;
     }
     Status::SomeInvalid
+}
+
+/// Whether nothing more has to be judged: nothing is written, and a file is invalid.
+pub(crate) fn is_enough(form: Form, status: Status) -> bool
+    ensures { result ≡ is_enough form status }
+{
+    match (form, status) {
+        (Form::Quiet, Status::SomeInvalid) => true,
+        _ => false,
+    }
 }
 
 /// Judges the files that were kept open, in order, and writes their lines, through the first fault.
@@ -323,7 +356,7 @@ fn judge_kept<'a, J: Judge, R: Read + OpenFile + Drop, I: Read + Drop, W: Write>
     out: &mut W,
 ) -> Result<Status, Fault<'a>>
     requires within { CanJudge chosen }
-    ensures ok { IfOk result (ReportsFiles (ruling_of J.accepts chosen) (map (λ i. i.name.now) inputs.entry.items)
+    ensures ok { IfOk result (EndsFiles (ruling_of J.accepts chosen) (map (λ i. i.name.now) inputs.entry.items)
         (W.contents out.old) (W.contents out.new)) }
     ensures err { (all : List (List ℕ))
         → map (λ i. i.name.now) inputs.entry.items ≡ take (length inputs.entry.items) all
@@ -332,6 +365,9 @@ fn judge_kept<'a, J: Judge, R: Read + OpenFile + Drop, I: Read + Drop, W: Write>
     let mut status = Status::AllValid;
     let mut index = 0;
     for input in inputs {
+        if is_enough(chosen.form, status) {
+            return Ok(status);
+        }
         let is_valid = match judge_opened(judge, alloc, chosen, index, input, buffer, out) {
             Ok(is_valid) => is_valid,
             Err(fault) => return Err(fault),
@@ -354,7 +390,7 @@ fn judge_in_turn<'a, J: Judge, F: Files + Standard, W: Write>(
 ) -> Result<Status, Fault<'a>>
     requires within { CanJudge chosen }
     requires kept { map (λ i. i.name.now) inputs.items ≡ take (length inputs.items) (texts names.now) }
-    ensures ok { IfOk result (ReportsFiles (ruling_of J.accepts chosen) (texts names.now)
+    ensures ok { IfOk result (EndsFiles (ruling_of J.accepts chosen) (texts names.now)
         (W.contents out.old) (W.contents out.new)) }
     ensures err { IfErr result (StopsFiles (ruling_of J.accepts chosen) (texts names.now)
         (W.contents out.old) (W.contents out.new)) }
@@ -365,7 +401,13 @@ fn judge_in_turn<'a, J: Judge, F: Files + Standard, W: Write>(
         Ok(status) => status,
         Err(fault) => return Err(fault),
     };
+    if is_enough(chosen.form, status) {
+        return Ok(status);
+    }
     for place in kept..names.len() {
+        if is_enough(chosen.form, status) {
+            return Ok(status);
+        }
         let name = name_at(names, place);
         let is_valid = match judge_again(judge, alloc, rt, chosen, place, name, &mut buffer, out) {
             Ok(is_valid) => is_valid,
@@ -374,6 +416,15 @@ fn judge_in_turn<'a, J: Judge, F: Files + Standard, W: Write>(
         status = joined(status, is_valid);
     }
     Ok(status)
+}
+
+/// How the judging of files ended.
+#[derive(Clone, Copy, Debug)]
+pub(crate) struct Ended {
+    /// Whether all that were judged are valid.
+    pub(crate) status: Status,
+    /// Whether some came to no verdict.
+    pub(crate) lost: bool,
 }
 
 /// Opens all files, and judges them by what was chosen.
@@ -386,12 +437,15 @@ pub(crate) fn judge_files<'a, J: Judge, F: Files + Standard, W: Write>(
     out: &mut W,
 ) -> Result<Status, Fault<'a>>
     requires within { CanJudge chosen }
-    ensures ok { IfOk result (ReportsFiles (ruling_of J.accepts chosen) (texts names.now)
+    ensures ok { IfOk result (EndsFiles (ruling_of J.accepts chosen) (texts names.now)
         (W.contents out.old) (W.contents out.new)) }
     ensures err { IfErr result (StopsFiles (ruling_of J.accepts chosen) (texts names.now)
         (W.contents out.old) (W.contents out.new)) }
 {
-    let _held = hold_streams(rt);
+    let held = hold_streams(rt);
+    if let Some(reason) = unheld(&held, names) {
+        return Err(Fault::CannotHold(reason));
+    }
     let inputs = match open_all(alloc, rt, names) {
         Ok(inputs) => inputs,
         Err(fault) => return Err(fault),

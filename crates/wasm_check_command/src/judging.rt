@@ -5,8 +5,8 @@ ghost use Rattle.wasm_types.specs.decoding.Denials.{Tells};
 ghost use Rattle.wasm_types.specs.settings.Settings.{Settings};
 ghost use Rattle.wasm_types.specs.settings.Limits.{IsWithinCeilings};
 ghost use Rattle.wasm_check_command.specs.Settings.{settings_by, settings_of};
-ghost use Rattle.wasm_check_command.specs.Lines.{invalid_line, valid_line};
-ghost use Rattle.wasm_check_command.specs.Modes.{AreLeft, CanJudge, FailsJudging, HasPieces, HasValid, IsShort, ReadsWithin, ruled, ruling_by, ruling_of};
+ghost use Rattle.wasm_check_command.specs.Lines.{IsExplained};
+ghost use Rattle.wasm_check_command.specs.Modes.{AreLeft, CanJudge, FailsJudging, HasPieces, HasValid, IsShort, ReadsWithin, manner_of, ruled, ruling_by, ruling_of};
 ghost use Rattle.wasm_check_command.specs.Faults.{FailsReading};
 ghost use Rattle.wasm_check_command.specs.Verdict.{WritesFront, IsVerdict, WritesLine, IsJudged, FailsWriting, FailsAt};
 ghost use Rattle.wasm_check_command.specs.declared.error.CheckError.TheVariants.{Write as TheWrite};
@@ -16,9 +16,10 @@ ghost use Rattle.wasm_check_command.specs.Reports.{sources_of, IsReported, Stops
 use crate::error::CheckError;
 use crate::pieces::judge_in_pieces;
 use crate::reason::Reason;
-use crate::shown::Shown;
+use crate::steady::read_steadily;
 use std::alloc::{AllocError, Global};
 use std::io::{self, Read, Write};
+use wasm_check_lines::{Form, refused_text, valid_text};
 use wasm_types::{Error, ErrorKind, Limits, WasmFeatures};
 
 /// The most bytes that an input may have.
@@ -88,6 +89,26 @@ pub trait Judge {
         requires some { 1 ≤ piece }
         ensures ok { OnOk result (HasValid (accepts (settings_by features.0 limits)) (R.remaining reader.old)) }
         ensures err { IfErr result (FailsJudging (accepts (settings_by features.0 limits)) (R.remaining reader.old)) };
+
+    /// What a person needs to find the fault in these bytes, which were refused by this error under these features and limits: a text for
+    /// each line, or none.
+    ///
+    /// # Errors
+    ///
+    /// Memory ran out.
+    fn explain(
+        &self,
+        alloc: Global,
+        features: WasmFeatures,
+        limits: Limits,
+        bytes: &[u8],
+        error: &Error,
+    ) -> Result<Vec<String>, AllocError>
+        requires within { IsWithinCeilings limits }
+    {
+        let _given = (features, limits, bytes.len(), error.offset());
+        Ok(Vec::new(alloc))
+    }
 }
 
 /// What inputs are judged by.
@@ -99,6 +120,10 @@ pub(crate) struct Chosen {
     pub(crate) limits: Limits,
     /// How inputs are read.
     pub(crate) mode: Mode,
+    /// How verdicts are written.
+    pub(crate) form: Form,
+    /// Whether refusals are explained.
+    pub(crate) explains: bool,
 }
 
 /// What is to be judged: a name, and what gives the bytes.
@@ -147,7 +172,7 @@ fn read_some<R: Read>(reader: &mut R, chunk: &mut [u8], most: usize) -> io::Resu
     ensures same { length chunk.new ≡ length chunk.old }
 {
     let room = chunk.len().min(most);
-    reader.read(&mut chunk[..room])
+    read_steadily(reader, &mut chunk[..room])
 }
 
 /// Puts what a reader has left into the buffer, in place of what stood there. No more is read than shows that it is too much.
@@ -186,30 +211,21 @@ pub(crate) fn read_whole<R: Read>(
     unreachable!()
 }
 
-/// The line of a module that was refused at this offset, for this reason.
-fn invalid_line(alloc: Global, name: &str, offset: u64, message: &str) -> Result<String, AllocError>
-    ensures { IfOk result (λ line.
-        string_bytes line ≡ invalid_line name.now offset message.now) }
+/// What is told of a refusal below its line, if that is asked for.
+fn explanation<J: Judge>(
+    judge: &J,
+    alloc: Global,
+    chosen: Chosen,
+    bytes: &[u8],
+    error: &Error,
+) -> Result<Vec<String>, AllocError>
+    requires within { IsWithinCeilings chosen.limits }
+    ensures { IfOk result (λ notes. IsExplained (manner_of chosen) notes.items) }
 {
-    let name = Shown(name);
-    let message = Shown(message);
-    format!(in alloc; "{name}: invalid at 0x{offset:x}: {message}\n")
-}
-
-/// The line of a module that was refused by this error: at its offset, for its reason.
-pub(crate) fn refusal_line(alloc: Global, name: &str, error: &Error) -> Result<String, AllocError>
-    ensures { IfOk result (λ line. (message : List ℕ) × (string_bytes line
-        ≡ invalid_line name.now error.now.offset message)) }
-{
-    invalid_line(alloc, name, error.offset(), error.message())
-}
-
-/// The line of what is valid.
-pub(crate) fn valid_line(alloc: Global, name: &str) -> Result<String, AllocError>
-    ensures { IfOk result (λ line. string_bytes line ≡ valid_line name.now) }
-{
-    let name = Shown(name);
-    format!(in alloc; "{name}: valid\n")
+    if !chosen.explains {
+        return Ok(Vec::new(alloc));
+    }
+    judge.explain(alloc, chosen.features, chosen.limits, bytes, error)
 }
 
 /// The line of these bytes, and whether they spell a valid module.
@@ -222,19 +238,20 @@ fn verdict_line<J: Judge>(
     bytes: &[u8],
 ) -> Result<(bool, String), AllocError>
     requires within { IsWithinCeilings chosen.limits }
-    ensures { IfOk result (λ r. IsVerdict (ruled whole (J.accepts (settings_of chosen))) name.now bytes.now r.0
+    ensures { IfOk result (λ r. IsVerdict (ruled (manner_of chosen) whole (J.accepts (settings_of chosen))) name.now bytes.now r.0
         (string_bytes r.1)) }
 {
     match judge.judge(alloc, chosen.features, chosen.limits, index, bytes) {
         Ok(()) => {
-            let line = valid_line(alloc, name)?;
+            let line = valid_text(alloc, chosen.form, name)?;
             Ok((true, line))
         }
         Err(error) => {
             if error.kind() == ErrorKind::OutOfMemory {
                 return Err(AllocError);
             }
-            let line = refusal_line(alloc, name, &error)?;
+            let notes = explanation(judge, alloc, chosen, bytes, &error)?;
+            let line = refused_text(alloc, chosen.form, name, &error, bytes, notes.as_slice())?;
             Ok((false, line))
         }
     }
@@ -276,10 +293,10 @@ fn judge_bytes<J: Judge, W: Write>(
 ) -> Result<bool, CheckError>
     requires within { IsWithinCeilings chosen.limits }
     ensures ok { IfOk result (λ valid.
-        WritesLine (ruled whole (J.accepts (settings_of chosen))) name.now bytes.now valid (W.contents out.old)
+        WritesLine (ruled (manner_of chosen) whole (J.accepts (settings_of chosen))) name.now bytes.now valid (W.contents out.old)
         (W.contents out.new)) }
     ensures err { IfErr result
-        (FailsWriting (ruled whole (J.accepts (settings_of chosen))) index name.now bytes.now (W.contents out.old)
+        (FailsWriting (ruled (manner_of chosen) whole (J.accepts (settings_of chosen))) index name.now bytes.now (W.contents out.old)
         (W.contents out.new)) }
 {
     let Ok((is_valid, line)) = verdict_line(judge, alloc, chosen, index, name, bytes) else {
@@ -301,9 +318,9 @@ fn judge_whole<J: Judge, R: Read, W: Write>(
     out: &mut W,
 ) -> Result<bool, Unread>
     requires within { IsWithinCeilings chosen.limits }
-    ensures ok { IfOk result (λ valid. IsJudged (ruled whole (J.accepts (settings_of chosen))) name.now
+    ensures ok { IfOk result (λ valid. IsJudged (ruled (manner_of chosen) whole (J.accepts (settings_of chosen))) name.now
         (R.remaining reader.old) valid (W.contents out.old) (W.contents out.new)) }
-    ensures err { IfErr result (λ u. FailsAt (ruled whole (J.accepts (settings_of chosen))) index name.now
+    ensures err { IfErr result (λ u. FailsAt (ruled (manner_of chosen) whole (J.accepts (settings_of chosen))) index name.now
         (R.remaining reader.old) (W.contents out.old) (W.contents out.new) u.error) }
     ensures most { ReadsWithin (R.remaining reader.old) (R.remaining reader.new) }
 {
@@ -423,6 +440,8 @@ pub fn check_by<J: Judge, R: Read + Drop, W: Write>(
         features,
         limits,
         mode,
+        form: Form::Lines,
+        explains: false,
     };
     let judged = judge_all(judge, alloc, inputs, chosen, out);
     if out.flush().is_err() {

@@ -1,10 +1,10 @@
 //! Lists of limits, as `--limits` has them.
 ghost use Rattle.std.specs.Prelude.{◌≡◌, ◌+◌, ◌<◌, ℕ, Some, Ok, Err, IfOk, IfErr, MatchResult, option_map, length};
-ghost use Rattle.wasm_types.specs.settings.Limits.{IsWithinCeilings};
+ghost use Rattle.wasm_types.specs.settings.Limits.{IsWithinCeilings, ceilings, default_limits};
 ghost use Rattle.wasm_check_command.specs.Lists.{place_of, IsWordAt};
 ghost use Rattle.wasm_check_command.specs.ListRows.{LimitRows};
 ghost use Rattle.wasm_check_command.specs.LimitLists.{type_words, entity_words, content_words, field_in, field_of, limit_of, with_limit};
-ghost use Rattle.wasm_check_command.specs.LimitLists.{number_of, number_for, limit_name, limit_value, limits_after, limits_of, told};
+ghost use Rattle.wasm_check_command.specs.LimitLists.{number_of, number_for, limit_name, limit_value, limits_after, limits_along, limits_of, told};
 
 use crate::lists::{ListedWord, first_word};
 use wasm_types::Limits;
@@ -352,14 +352,15 @@ fn limits_after(limits: Limits, word: &str) -> Result<Limits, Wrong>
     Ok(with_limit(field, number, limits))
 }
 
-/// The limits that a list stands for, or its first word that is at fault.
-pub(crate) fn find_limits<'a>(list: &'a str) -> Result<Limits, FaultyWord<'a>>
-    ensures limits { MatchResult result (λ l. limits_of list.now ≡ Ok l)
-        (λ e. limits_of list.now ≡ Err (record { wrong = e.wrong; place = place_of e.word.start e.word.word.now })) }
+/// What a list makes of limits, or its first word that is at fault.
+pub(crate) fn find_limits<'a>(list: &'a str, first: Limits) -> Result<Limits, FaultyWord<'a>>
+    requires within { IsWithinCeilings first }
+    ensures limits { MatchResult result (λ l. limits_along list.now first ≡ Ok l)
+        (λ e. limits_along list.now first ≡ Err (record { wrong = e.wrong; place = place_of e.word.start e.word.word.now })) }
     ensures within { IfOk result IsWithinCeilings }
     ensures word { IfErr result (λ e. IsWordAt list.now e.word.start e.word.word.now) }
 {
-    let mut limits = Limits::default();
+    let mut limits = first;
     let mut rest = list;
     for _turn in 0..=list.len() {
         let start = list.len() - rest.len();
@@ -381,6 +382,31 @@ pub(crate) fn find_limits<'a>(list: &'a str) -> Result<Limits, FaultyWord<'a>>
     unreachable!()
 }
 
+/// The limits by default.
+pub(crate) fn default_limits() -> Limits
+    ensures value { result ≡ default_limits }
+    ensures within { IsWithinCeilings result }
+{
+    Limits::default()
+}
+
+/// The most that the limit of this name may be.
+pub(crate) fn ceiling_of(word: &str) -> Option<u32>
+    ensures { result ≡ option_map (λ f. limit_of f ceilings) (field_of (limit_name word.now)) }
+{
+    let (name, _value) = name_and_value(word);
+    let field = field_named(name)?;
+    Some(limit_of(field, &Limits::ceilings()))
+}
+
+/// The name that a word begins with, up to its first `=`.
+pub(crate) fn name_of(word: &str) -> &str
+    ensures { result.now ≡ limit_name word.now }
+{
+    let (name, _value) = name_and_value(word);
+    name
+}
+
 /// The limits that a list stands for: words `name=N` between commas, of the fields of `Limits` with hyphens for underscores and numbers
 /// of one to ten decimal digits. Each sets one limit, a later word the same one anew, and the others are those by default.
 ///
@@ -391,7 +417,7 @@ pub fn parse_limits(list: &str) -> Result<Limits, LimitFault>
     ensures limits { MatchResult result (λ l. limits_of list.now ≡ Ok l) (λ f. limits_of list.now ≡ Err (told f)) }
     ensures within { IfOk result IsWithinCeilings }
 {
-    match find_limits(list) {
+    match find_limits(list, default_limits()) {
         Ok(limits) => Ok(limits),
         Err(fault) => {
             let start = fault.word.start;

@@ -1,20 +1,21 @@
 //! An input in pieces: it is judged while it is read, and of what came nothing is kept but the part of the module that it is in.
-ghost use Rattle.std.specs.Prelude.{◌≤◌, IfOk, IfErr, string_bytes};
+ghost use Rattle.std.specs.Prelude.{◌≡◌, ◌≤◌, [], IfOk, IfErr, string_bytes};
 ghost use Rattle.wasm_types.specs.settings.Limits.{IsWithinCeilings};
 ghost use Rattle.wasm_check_command.specs.Settings.{settings_of};
+ghost use Rattle.wasm_check_lines.specs.Forms.{refused_text};
 ghost use Rattle.wasm_check_command.specs.Faults.{FailsReading};
-ghost use Rattle.wasm_check_command.specs.Modes.{ruled};
+ghost use Rattle.wasm_check_command.specs.Modes.{manner_of, ruled};
 ghost use Rattle.wasm_check_command.specs.Verdict.{IsVerdictOf, IsJudged, FailsAt};
 ghost use Rattle.wasm_check_command.specs.declared.judging.Mode.TheVariants.{Pieces as pieces};
 
 use crate::error::CheckError;
-use crate::judging::{
-    Chosen, Judge, Unjudged, Unread, refusal_line, valid_line, without_reason, write_text,
-};
+use crate::judging::{Chosen, Judge, Unjudged, Unread, without_reason, write_text};
 use crate::reason::Reason;
-use std::alloc::Global;
+use crate::steady::read_steadily;
+use std::alloc::{AllocError, Global};
 use std::io::{self, Read, Write};
-use wasm_types::ErrorKind;
+use wasm_check_lines::{refused_text, valid_text};
+use wasm_types::{Error, ErrorKind};
 
 /// A reader, and why a read through it failed.
 #[derive(Drop)]
@@ -27,7 +28,7 @@ impl<R: Read> Read for Noted<'_, R> {
     ghost remaining = { λ n. R.remaining n.reader.now };
 
     fn read(&mut self, buf: &mut [u8]) -> io::Result<usize> {
-        match self.reader.read(buf) {
+        match read_steadily(self.reader, buf) {
             Ok(count) => Ok(count),
             Err(error) => {
                 self.reason = Reason::of(&error);
@@ -35,6 +36,26 @@ impl<R: Read> Read for Noted<'_, R> {
             }
         }
     }
+}
+
+/// The text of an input that was refused, whose bytes are gone.
+fn unexplained(
+    alloc: Global,
+    chosen: Chosen,
+    name: &str,
+    error: &Error,
+) -> Result<String, AllocError>
+    ensures { IfOk result (λ line. string_bytes line ≡ refused_text chosen.form name.now error.now [] []) }
+{
+    let notes = Vec::new(alloc);
+    refused_text(
+        alloc,
+        chosen.form,
+        name,
+        error,
+        "".as_bytes(),
+        notes.as_slice(),
+    )
 }
 
 /// The line of an input that is judged in pieces of at most this many bytes, and whether it is a valid module.
@@ -49,25 +70,27 @@ fn pieces_line<J: Judge, R: Read>(
 ) -> Result<(bool, String), CheckError>
     requires within { IsWithinCeilings chosen.limits }
     requires some { 1 ≤ piece }
-    ensures ok { IfOk result (λ r. IsVerdictOf (ruled (pieces piece) (J.accepts (settings_of chosen))) name.now
+    ensures ok { IfOk result (λ r. IsVerdictOf (ruled (manner_of chosen) (pieces piece) (J.accepts (settings_of chosen))) name.now
         (R.remaining reader.old) r.0 (string_bytes r.1)) }
     ensures err { IfErr result (FailsReading index (R.remaining reader.old)) }
 {
     let (features, limits) = (chosen.features, chosen.limits);
-    let line = match judge.judge_pieces(alloc, features, limits, index, reader, piece) {
-        Ok(()) => (true, valid_line(alloc, name)),
+    match judge.judge_pieces(alloc, features, limits, index, reader, piece) {
+        Ok(()) => match valid_text(alloc, chosen.form, name) {
+            Ok(line) => Ok((true, line)),
+            Err(_) => Err(CheckError::OutOfMemory(index)),
+        },
         Err(Unjudged::Refused(error)) => {
             if error.kind() == ErrorKind::OutOfMemory {
                 return Err(CheckError::OutOfMemory(index));
             }
-            (false, refusal_line(alloc, name, &error))
+            match unexplained(alloc, chosen, name, &error) {
+                Ok(line) => Ok((false, line)),
+                Err(_) => Err(CheckError::OutOfMemory(index)),
+            }
         }
-        Err(Unjudged::Read) => return Err(CheckError::Read(index)),
-        Err(Unjudged::TooLong) => return Err(CheckError::TooLong(index)),
-    };
-    match line {
-        (is_valid, Ok(line)) => Ok((is_valid, line)),
-        (_, Err(_)) => Err(CheckError::OutOfMemory(index)),
+        Err(Unjudged::Read) => Err(CheckError::Read(index)),
+        Err(Unjudged::TooLong) => Err(CheckError::TooLong(index)),
     }
 }
 
@@ -84,9 +107,9 @@ pub(crate) fn judge_in_pieces<J: Judge, R: Read, W: Write>(
 ) -> Result<bool, Unread>
     requires within { IsWithinCeilings chosen.limits }
     requires some { 1 ≤ piece }
-    ensures ok { IfOk result (λ valid. IsJudged (ruled (pieces piece) (J.accepts (settings_of chosen))) name.now
+    ensures ok { IfOk result (λ valid. IsJudged (ruled (manner_of chosen) (pieces piece) (J.accepts (settings_of chosen))) name.now
         (R.remaining reader.old) valid (W.contents out.old) (W.contents out.new)) }
-    ensures err { IfErr result (λ u. FailsAt (ruled (pieces piece) (J.accepts (settings_of chosen))) index name.now
+    ensures err { IfErr result (λ u. FailsAt (ruled (manner_of chosen) (pieces piece) (J.accepts (settings_of chosen))) index name.now
         (R.remaining reader.old) (W.contents out.old) (W.contents out.new) u.error) }
 {
     let mut noted = Noted {

@@ -12,11 +12,11 @@ use std::rt::Files;
 use wasm_check_command::run_by;
 
 /// Runs the program on these words, of which the first is its own name, and gives its exit status:
-/// 0 if all files are valid, or if `clap` answers the words with the help or the version and it was shown; 1 if some file is invalid; 2 if
-/// the words name no files by `clap`'s reading or have a list that is refused, and then nothing is written to `out`, or if a
-/// fault stopped the judging or the help. The files are judged by the features and limits that the words ask for. All files
-/// are opened before the first is judged; those past the first hundred are then closed, and opened again in their turn, and so are
-/// all if the system does not let so many be open. The file `-` is standard input.
+/// 0 if all files are valid, or if the words ask for the help, the version or a table and it was shown; 1 if some file is invalid; 2 if
+/// the words name no files by `clap`'s reading or have a list that is refused, and then nothing is written to `out`, if a fault stopped the
+/// judging or the help, or if a file came to no verdict and the judging went on. The files are judged by the features and limits that the
+/// words ask for. All files are opened before the first is judged, except with `--keep-going`; those past the first hundred are then closed,
+/// and opened again in their turn, and so are all if the system does not let so many be open. The file `-` is standard input.
 pub fn run<'a, F, S, W, E>(rt: &F, words: &'a [S], out: &mut W, err: &mut E) -> u8
 where
     F: Files + Input + AllocGlobal,

@@ -1,14 +1,16 @@
 //! Inputs are judged by the validator of modules.
 ghost use Rattle.std.specs.Prelude.{◌≡◌, IfOk, IfErr};
 ghost use Rattle.wasm_module_validator.specs.rules.Accepts.{AcceptsUnder};
+ghost use Rattle.wasm_module_validator.specs.soundness.Soundness.{AcceptedIsSound};
 ghost use Rattle.wasm_types.specs.settings.Limits.{IsWithinCeilings};
 ghost use Rattle.wasm_check_command.specs.Modes.{HasPieces, ruling_by};
 ghost use Rattle.wasm_check_command.specs.Reports.{sources_of, IsReported, Stops};
 ghost use Rattle.wasm_check_program.specs.Faults.{unjudged};
 
-use std::alloc::Global;
+use std::alloc::{AllocError, Global};
 use std::io::{Read, Write};
 use wasm_check_command::{CheckError, Input, Judge, MAX_BYTES, Mode, Status, Unjudged, check_by};
+use wasm_check_explanation::explain;
 use wasm_module_validator::{Validator, ValidatorId};
 use wasm_module_validator_streaming::{ReadError, WatchedReader, validate_reader_limited};
 use wasm_types::{Error, Limits, WasmFeatures};
@@ -53,6 +55,17 @@ impl Judge for Validating {
             Err(fault) => Err(unjudged(fault)),
         }
     }
+
+    fn explain(
+        &self,
+        alloc: Global,
+        features: WasmFeatures,
+        limits: Limits,
+        bytes: &[u8],
+        error: &Error,
+    ) -> Result<Vec<String>, AllocError> {
+        explain(alloc, features, limits, bytes, error)
+    }
 }
 
 /// What stopped the reading of a module, as the program asks it of a judge.
@@ -68,6 +81,9 @@ fn unjudged(fault: ReadError) -> Unjudged
 
 /// Judges each input by a validator of its own with these features and limits, in order, and writes a line for each. Inputs are read
 /// whole, or judged as they come, as the mode says.
+///
+/// Each module that is called valid runs soundly, whatever the features and limits (`AcceptedIsSound`): if the features are those of the
+/// standard, no run of it is stuck (WebAssembly 3.0, appendix, soundness).
 pub fn check<R: Read + Drop, W: Write>(
     alloc: Global,
     inputs: Vec<Input<'_, R>>,
@@ -84,6 +100,7 @@ pub fn check<R: Read + Drop, W: Write>(
     ensures err { IfErr result (Stops (ruling_by AcceptsUnder features.0 limits mode)
         (sources_of R.remaining inputs.entry.items)
         (W.contents out.old) (W.contents out.new)) }
+    ensures sound { AcceptedIsSound }
 {
     check_by(&Validating, alloc, inputs, features, limits, mode, out)
 }

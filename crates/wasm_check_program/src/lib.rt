@@ -14,6 +14,7 @@ pub use command::run;
 pub use judging::check;
 pub use wasm_check_command::{
     CheckError, Input, LimitFault, MAX_BYTES, Mode, Status, UnknownFeature, VERSION,
-    lines_end_once, parse_features, parse_limits, parses_worked_features, parses_worked_limits,
-    reads_worked_words,
+    faults_stay_in_line, parse_features, parse_limits, parses_worked_features,
+    parses_worked_limits, reads_worked_words,
 };
+pub use wasm_check_lines::{lines_end_once, texts_are_shown_apart};

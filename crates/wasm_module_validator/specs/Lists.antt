@@ -11,7 +11,7 @@ use Rattle.wasm_module_validator_drivers.specs.declarations.Total.{IsPastTotal}
 use Rattle.wasm_module_validator_drivers.specs.state.invariant.Standing.{IsGrown}
 use Rattle.wasm_module_validator_drivers.specs.state.Items.{no_items}
 use Rattle.wasm_module_validator_section_order.specs.rules_in_order.Steps.{SoFar}
-use Rattle.wasm_module_validator_rules.specs.Accepts.{AcceptsUnder}
+use Rattle.wasm_module_validator_rules.specs.Accepts.{AcceptsUnder, IsValidOutsideBodies}
 use Rattle.wasm_module_validator_rules.specs.Spaces.{types_behind}
 use Rattle.wasm_module_validator_type_storage.specs.trees.Groups.{Group, count, tree_of}
 use Rattle.wasm_module_validator.specs.declared.lists.Verdict.{Verdict}
@@ -30,11 +30,6 @@ abbrev pub texts : List (Bor (List ℕ)) → List (List ℕ)
 texts inputs = map (λ x. x.now) inputs
 
 -- ---- one module
-
--- The bytes are a module that is valid but for what its bodies spell: its frames are judged one after the other, and a body is taken as
--- bytes.
-abbrev pub IsValidOutsideBodies : Settings → List ℕ → Type 0
-IsValidOutsideBodies z bytes = (q : SoFar) × IsReadAs z bytes q
 
 -- The verdict on these bytes, of the validator with this id, whose list of types has these groups: they are accepted, and what is known of
 -- the module is shown, and it runs soundly; or a function alone is refused; or the module is not valid outside its bodies either, or one of its groups would

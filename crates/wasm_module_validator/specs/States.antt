@@ -9,11 +9,10 @@ use Rattle.wasm_types.specs.reader.Reading.{IsNotMemory}
 use Rattle.wasm_module_validator_drivers.specs.declarations.Total.{IsPastTotal, TellsWithinTotal}
 use Rattle.wasm_module_validator_drivers.specs.state.Items.{no_items}
 use Rattle.wasm_module_validator_type_storage.specs.trees.Groups.{Group}
-use Rattle.wasm_module_validator_section_order.specs.rules_in_order.Steps.{SoFar}
-use Rattle.wasm_module_validator_rules.specs.Accepts.{AcceptsUnder}
+use Rattle.wasm_module_validator_rules.specs.Accepts.{AcceptsUnder, IsValidOutsideBodies}
 use Rattle.wasm_module_validator_drivers.specs.state.invariant.Standing.{IsGrown}
 use Rattle.wasm_module_validator_drivers.specs.payloads.Progress.{kept_groups}
-use Rattle.wasm_module_validator_drivers.specs.reading.Reading.{HasGroupIn, IsReadAs}
+use Rattle.wasm_module_validator_drivers.specs.reading.Reading.{HasGroupIn}
 use Rattle.wasm_module_validator.specs.declared.validator.State.{State}
 use Rattle.wasm_module_validator.specs.declared.validator.State.TheVariants.{Unparsed, Module, Ended, Failed}
 use Rattle.wasm_module_validator.specs.declared.validator.Validator.{Validator}
@@ -22,12 +21,12 @@ use Rattle.wasm_module_validator.specs.declared.validator.Validator.{Validator}
 abbrev pub IsLeft : ErrorKind → State → Type 0
 IsLeft k s = ((s ≡ Ended) × IsNotMemory k) ⊎ ((s ≡ Failed) × (k ≡ OutOfMemory))
 
--- It has ended where the module was accepted, and where its sections were read and only a function is refused. It has failed where they
--- were not read, or a group of the module passed the total of types behind these groups, or there was no memory.
+-- It has ended if the module was accepted, and if it is valid outside its bodies and only a function is refused. It has failed if it is
+-- not, or if a group of the module passed the total of types behind these groups, or if there was no memory.
 abbrev pub Leaves : {X : Type 0} → List Group → Settings → List ℕ → Result X ErrorValue → State → Type 0
 Leaves groups z bytes (Ok types) s = s ≡ Ended
-Leaves groups z bytes (Err e) s = ((s ≡ Ended) × IsNotMemory e.kind × ((q : SoFar) × IsReadAs z bytes q) × (AcceptsUnder z bytes → ⊥))
-    ⊎ ((s ≡ Failed) × (IsPastTotal groups (no_items z) (HasGroupIn z bytes) e ⊎ Denies e.kind ((q : SoFar) × IsReadAs z bytes q)))
+Leaves groups z bytes (Err e) s = ((s ≡ Ended) × IsNotMemory e.kind × IsValidOutsideBodies z bytes × (AcceptsUnder z bytes → ⊥))
+    ⊎ ((s ≡ Failed) × (IsPastTotal groups (no_items z) (HasGroupIn z bytes) e ⊎ Denies e.kind (IsValidOutsideBodies z bytes)))
 
 -- the groups that the list of types has where a validator begins with a module
 abbrev pub held_by : Validator → List Group

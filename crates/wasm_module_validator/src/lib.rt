@@ -33,6 +33,8 @@ pub use types::Types;
 pub use validator::{State, Validator, validate};
 pub use wasm_module_validator_canonical_types::matches::{Matches, WithRecGroup, types_match};
 pub use wasm_module_validator_canonical_types::{InternRecGroup, TypeCanonicalizer};
+pub use wasm_module_validator_checks::limits::Settings;
+pub use wasm_module_validator_checks::sections::{check_data_count, check_start, get_func_type};
 pub use wasm_module_validator_drivers::{
     FuncToValidate, FuncValidator, FuncValidatorAllocations, ModuleState, ValidatorResources,
 };
@@ -40,9 +42,11 @@ pub use wasm_module_validator_index_spaces::view::{
     CoreExports, CoreImports, EntityType, RecGroupElements, RecGroupId, TypesRef, ValidatorId,
 };
 pub use wasm_module_validator_index_spaces::{Function, Module};
+pub use wasm_module_validator_initialisers::adding::{add_element, add_global, add_table};
 pub use wasm_module_validator_type_alloc::{
     MaybeOwned, TypeAlloc, TypeData, TypeIdentifier, TypeInfo, at_canonicalized_packed_index,
     at_canonicalized_unpacked_index,
 };
+pub use wasm_module_validator_type_groups::adding::canonicalize_and_intern_rec_group;
 pub use wasm_module_validator_type_list::{MAX_TYPES, TypeList};
 pub use wasm_module_validator_type_storage::snapshots::SnapshotList;

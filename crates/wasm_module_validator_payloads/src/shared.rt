@@ -13,7 +13,7 @@ use wasm_module_validator_resources::OperatorValidatorResources;
 use wasm_module_validator_state::invariant::ModuleState;
 use wasm_module_validator_type_list::TypeList;
 use wasm_operators_bodies::FunctionBody;
-use wasm_types::Result;
+use wasm_types::{Limits, Result, WasmFeatures};
 
 /// A module that was read, or all of it but its code. Nothing of it changes, so that it may be shared. A contract sees what is kept of it
 /// (`specs/Progress.antt`).
@@ -42,6 +42,21 @@ impl SharedModule {
         ensures { result.now ≡ self.now.items }
     {
         &self.state
+    }
+
+    /// The features that it was read by.
+    pub fn features(&self) -> WasmFeatures
+        ensures { result.0 ≡ self.now.items.spaces.settings.features }
+    {
+        self.state.settings().features()
+    }
+
+    /// The limits that it was read by. None is above its ceiling.
+    pub fn limits(&self) -> Limits
+        ensures value { result ≡ self.now.items.spaces.settings.limits }
+        ensures within { IsWithinCeilings result }
+    {
+        self.state.settings().limits()
     }
 
     /// The list that its types stand in. Each is valid, the module's are in it, it has the module's limits, and none is above its ceiling.

@@ -1,7 +1,8 @@
 -- The worked bytes: which modules they spell, and so whether they are accepted.
 use Rattle.std.specs.Prelude.{pos}
-use Rattle.std.proofs.Common.{◌≡◌, ℕ, suc, true, false, List, [], ◌∷◌, ◌++◌, length, Some, None, refl, sym, ap, subst, inl, inr, arith, lit<, lit≤}
-use Rattle.wasm_types.specs.decoding.Leb.{u32, IsUnsigned, IsListed, last}
+use Rattle.std.specs.List.{AllZip}
+use Rattle.std.proofs.Common.{◌≡◌, ◌∙◌, ◌<◌, ℕ, suc, true, false, List, [], ◌∷◌, ◌++◌, length, Some, None, refl, sym, ap, subst, inl, inr, arith, lit<, lit≤}
+use Rattle.wasm_types.specs.decoding.Leb.{u32, IsUnsigned, IsListed, last, more}
 use Rattle.wasm_types.specs.decoding.Lists.{IsListedWithin}
 use Rattle.wasm_types.specs.decoding.LebLaws.{decides-u32}
 use Rattle.wasm_types.specs.decoding.Decoder.{Grammar, Many}
@@ -20,15 +21,18 @@ use Rattle.wasm_types.specs.Spells.{SpellsGroup}
 use Rattle.wasm_sections_items.specs.frames.Outer.{Part, code, section, IsBytes, Outer, SpelledOuter, SpelledPart, SpelledHeader, Counts, Declares, DeclaresOrAbsent, IsCoreModule}
 use Rattle.wasm_sections_items.specs.frames.OuterLaws.{one_outer}
 use Rattle.wasm_sections_items.specs.segments.Spells.{SpelledData}
-use Rattle.wasm_module_validator_rules.specs.Syntax.{ModuleTree}
-use Rattle.wasm_module_validator_rules.specs.Binary.{SpelledGroup, SpelledConstant, SpelledFunction, SpelledSections, SpelledModule}
+use Rattle.wasm_operators_bodies.specs.Locals.{SpelledLocals}
+use Rattle.wasm_module_validator_rules.specs.Syntax.{Function, ModuleTree}
+use Rattle.wasm_module_validator_rules.specs.Binary.{SpelledGroup, SpelledConstant, SpelledFunction, SpelledCode, SpelledSections, SpelledModule, SpelledModuleWith, entries_of}
 use Rattle.wasm_module_validator_rules.specs.Valid.{IsValid}
+use Rattle.wasm_module_validator_rules.specs.Accepts.{AreEntries}
+use Rattle.wasm_module_validator_rules.specs.OutsideLaws.{valid_without_code}
 use Rattle.wasm_module_validator_rules.specs.UniqueLaws.{decided}
 use Rattle.wasm_module_validator_rules.specs.ModuleLaws.{one_module}
 use Rattle.wasm_module_validator_rules.specs.worked.Trees.{everything, without, empty, one_function, procedure, takes_i32, end, does, passive_data}
 use Rattle.wasm_module_validator_rules.specs.worked.Modules.{starting}
 use Rattle.wasm_module_validator_rules.specs.worked.Bytes.{BytesWorked, header, procedure_section, takes_i32_section, function_section, start_section}
-use Rattle.wasm_module_validator_rules.specs.worked.Bytes.{code_section, two_bodies_section, count_section, data_section, tag_section}
+use Rattle.wasm_module_validator_rules.specs.worked.Bytes.{code_section, two_bodies_section, empty_body_section, count_section, data_section, tag_section}
 use Rattle.wasm_module_validator_rules.proofs.WorkedModules.{functions_worked, segments_worked}
 
 -- ---- numbers and lists
@@ -254,6 +258,23 @@ two_bodies_part = (
   },
 )
 
+-- one entry without a byte
+empty_body_part : SpelledPart everything (code ([] ∷ [])) empty_body_section
+empty_body_part = (
+  0x02 ∷ 0x01 ∷ 0x00 ∷ [],
+  refl,
+  record {
+    size = 2 ∷ [];
+    content = 0x01 ∷ 0x00 ∷ [];
+    counted = two_is;
+    spelled = single_of _ _ 0 [] (record { size = 0 ∷ []; content = []; counted = zero_is; spelled = refl; whole = refl });
+    whole = refl;
+  },
+)
+
+empty_body_framed : SpelledOuter everything (module_with (procedure_part ∷ function_part ∷ code ([] ∷ []) ∷ [])) (header ++ procedure_section ++ function_section ++ empty_body_section)
+empty_body_framed = typed_functions (code ([] ∷ []) ∷ []) empty_body_section (empty_body_section, [], empty_body_part, refl, refl)
+
 -- how many data segments are counted, and one that is there
 abbrev count_part : ℕ → Part
 count_part n = section 12 (n ∷ [])
@@ -277,10 +298,13 @@ tags_framed z = framing z (section 13 (0 ∷ []) ∷ []) tag_section (behind z 1
 
 -- ---- frames that are a module
 
-function_spelled : SpelledModule everything (one_function procedure end) (header ++ procedure_section ++ function_section ++ code_section)
-function_spelled = record {
-  outer = module_with (procedure_part ∷ function_part ∷ code (idle_body ∷ []) ∷ []);
-  framed = typed_functions (code (idle_body ∷ []) ∷ []) code_section (code_section, [], body_part, refl, refl);
+-- a function of no parameters and no results in a module without exports, and its one entry, which spells this
+function_with : (Bodies : List (List ℕ) → Type 0) (m : ModuleTree) (body text : List ℕ) → m ≡ record (one_function procedure end) { code = m.code }
+    → SpelledOuter everything (module_with (procedure_part ∷ function_part ∷ code (body ∷ []) ∷ [])) (header ++ procedure_section ++ function_section ++ text)
+    → Bodies (body ∷ []) → SpelledModuleWith Bodies everything m (header ++ procedure_section ++ function_section ++ text)
+function_with Bodies m body text e framed bodies = subst (λ (n : ModuleTree). SpelledModuleWith Bodies everything n (header ++ procedure_section ++ function_section ++ text)) (sym e) (record {
+  outer = module_with (procedure_part ∷ function_part ∷ code (body ∷ []) ∷ []);
+  framed = framed;
   core = record {
     version = refl;
     layer = refl;
@@ -306,15 +330,45 @@ function_spelled = record {
     start = tt;
     element_segments = refl;
     data_count = tt;
-    code = (body_spelled, tt);
+    code = bodies;
     data_segments = refl;
   };
-}
+})
   where
-    uncounted : (n : ℕ) → Declares 12 n (procedure_part ∷ function_part ∷ code (idle_body ∷ []) ∷ []) → DeclaresOrAbsent 11 n (procedure_part ∷ function_part ∷ code (idle_body ∷ []) ∷ [])
+    uncounted : (n : ℕ) → Declares 12 n (procedure_part ∷ function_part ∷ code (body ∷ []) ∷ []) → DeclaresOrAbsent 11 n (procedure_part ∷ function_part ∷ code (body ∷ []) ∷ [])
     uncounted n (inl h) = absurd (omega (arith, h.0))
     uncounted n (inr (inl h)) = absurd (omega (arith, h.0))
     uncounted n (inr (inr h)) = absurd h
+
+function_spelled : SpelledModule everything (one_function procedure end) (header ++ procedure_section ++ function_section ++ code_section)
+function_spelled = function_with (SpelledCode everything (one_function procedure end)) (one_function procedure end) idle_body code_section refl
+    (typed_functions (code (idle_body ∷ []) ∷ []) code_section (code_section, [], body_part, refl, refl)) (body_spelled, tt)
+
+-- a function by a tree without code, whose one entry has no byte
+abbrev bodiless : ModuleTree
+bodiless = record (one_function procedure end) { code = [] }
+
+empty_body_spelled : SpelledModuleWith (AreEntries everything bodiless) everything bodiless (header ++ procedure_section ++ function_section ++ empty_body_section)
+empty_body_spelled = function_with (AreEntries everything bodiless) bodiless [] empty_body_section refl empty_body_framed (refl, (omega arith, tt))
+
+-- a function has a byte at least
+no_function_of_nothing : (z : Settings) (f : Function) → SpelledFunction z f [] → ⊥
+no_function_of_nothing z f h = no_locals h.locals_text h.body_text h.whole (h.locals)
+  where
+    longer : {N v : ℕ} {text : List ℕ} → IsUnsigned N v text → 0 < length text
+    longer (last N v n small fits e) = omega arith
+    longer (more N v n m text large wide rest e) = omega arith
+
+    no_number : (n : ℕ) (count values rest : List ℕ) → [] ≡ (count ++ values) ++ rest → IsUnsigned 32 n count → ⊥
+    no_number n [] values rest e k = let l = longer k in omega (arith, l)
+    no_number n (b ∷ bs) values rest e k = absurd cc
+
+    no_locals : (text rest : List ℕ) → [] ≡ text ++ rest → SpelledLocals z f.locals text → ⊥
+    no_locals text rest e l = no_number _ l.listed.count l.listed.values rest (e ∙ ap (λ (xs : List ℕ). xs ++ rest) l.listed.whole) l.listed.counted
+
+no_code_of_nothing : (z : Settings) (fs : List Function) → AllZip (SpelledFunction z) fs ([] ∷ []) → ⊥
+no_code_of_nothing z [] h = absurd h
+no_code_of_nothing z (f ∷ fs) h = no_function_of_nothing z f h.0
 
 -- a passive data segment without bytes
 segment_spelled : SpelledData (SpelledConstant everything) passive_data (1 ∷ 0 ∷ [])
@@ -518,6 +572,10 @@ bytes_worked = record {
   function = (one_function procedure end, record { spelled = function_spelled; valid = (functions_worked (pos 0)).function });
   code_missing = λ a. no_code (subst IsCoreModule (one_outer everything _ _ _ a.1.spelled.framed (typed_functions [] [] refl)) a.1.spelled.core);
   body_too_many = λ a. one_body (subst IsCoreModule (one_outer everything _ _ _ a.1.spelled.framed two_bodies_framed) a.1.spelled.core);
+  body_empty = λ a. no_code_of_nothing everything a.0.code (subst (λ (o : Outer). AllZip (SpelledFunction everything) a.0.code (entries_of o.parts))
+      (one_outer everything _ _ _ a.1.spelled.framed empty_body_framed) a.1.spelled.sections.code);
+  body_aside = (bodiless, record { spelled = empty_body_spelled; valid = valid_without_code everything (one_function procedure end) (functions_worked (pos 0)).function; code = refl });
+  no_body_aside = λ a. no_code (subst IsCoreModule (one_outer everything _ _ _ a.1.spelled.framed (typed_functions [] [] refl)) a.1.spelled.core);
   uncounted = (record empty { data_segments = passive_data ∷ [] }, record { spelled = uncounted_spelled; valid = (segments_worked (pos 0)).passive_needs.0 });
   counted = (record empty { data_count = Some 1; data_segments = passive_data ∷ [] }, record { spelled = counted_spelled; valid = (segments_worked (pos 0)).counted });
   segments_missing = λ a. no_segment (subst IsCoreModule (one_outer everything _ _ _ a.1.spelled.framed count_framed) a.1.spelled.core);

@@ -87,8 +87,8 @@ MayHaveTags z (Some text) = Has z.features Exceptions
 
 -- ---- modules
 
--- what stands in the sections (binary format, modules)
-pub record SpelledSections (z : Settings) (m : ModuleTree) (ps : List Part) : Type 0 where
+-- what stands in the sections (binary format, modules); and the entries of the code section spell this
+pub record SpelledSectionsWith (Bodies : List (List ℕ) → Type 0) (z : Settings) (m : ModuleTree) (ps : List Part) : Type 0 where
   pub types : SpelledItems (SpelledGroup z) m.types (contents 1 ps)
   pub imports : SpelledItems (SpelledImport z) m.imports (contents 2 ps)
   pub functions : SpelledItems (IsUnsigned 32) m.functions (contents 3 ps)
@@ -101,13 +101,23 @@ pub record SpelledSections (z : Settings) (m : ModuleTree) (ps : List Part) : Ty
   pub start : SpelledNumber m.start (contents 8 ps)
   pub element_segments : SpelledItems (SpelledElement (SpelledConstant z)) m.element_segments (contents 9 ps)
   pub data_count : SpelledNumber m.data_count (contents 12 ps)
-  pub code : AllZip (SpelledFunction z) m.code (entries_of ps)
+  pub code : Bodies (entries_of ps)
   pub data_segments : SpelledItems (SpelledData (SpelledConstant z)) m.data_segments (contents 11 ps)
 
 -- module ::= magic version, and sections in order (binary format, modules): version 1, no other layer, no section of another id,
 -- as many functions defined as declared, and as many data segments as the data count says, if it is there
-pub record SpelledModule (z : Settings) (m : ModuleTree) (text : List ℕ) : Type 0 where
+pub record SpelledModuleWith (Bodies : List (List ℕ) → Type 0) (z : Settings) (m : ModuleTree) (text : List ℕ) : Type 0 where
   pub outer : Outer
   pub framed : SpelledOuter z outer text
   pub core : IsCoreModule outer
-  pub sections : SpelledSections z m outer.parts
+  pub sections : SpelledSectionsWith Bodies z m outer.parts
+
+-- the entries of the code section spell the module's code
+abbrev pub SpelledCode : Settings → ModuleTree → List (List ℕ) → Type 0
+SpelledCode z m ts = AllZip (SpelledFunction z) m.code ts
+
+abbrev pub SpelledSections : Settings → ModuleTree → List Part → Type 0
+SpelledSections z m ps = SpelledSectionsWith (SpelledCode z m) z m ps
+
+abbrev pub SpelledModule : Settings → ModuleTree → List ℕ → Type 0
+SpelledModule z m text = SpelledModuleWith (SpelledCode z m) z m text

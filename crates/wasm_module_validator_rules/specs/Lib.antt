@@ -4,9 +4,10 @@ pub mod Binary
 pub mod Spaces
 pub mod Valid
 pub mod Accepts
--- Laws: bytes fully spell at most one module.
+-- Laws: bytes fully spell at most one module; a valid module is valid outside its bodies.
 pub mod UniqueLaws
 pub mod ElementLaws
 pub mod ModuleLaws
+pub mod OutsideLaws
 -- Worked modules: those that are valid and those that are not, a pair for each rule.
 pub mod worked

@@ -294,8 +294,8 @@ pub record IsWithinLimits (z : Settings) (g : Module) (m : ModuleTree) : Type 0 
 
 -- ---- modules
 
--- the module is valid in the context g, where the first so many globals are imported
-pub record IsValidIn (z : Settings) (g : Module) (imported : ℕ) (m : ModuleTree) : Type 0 where
+-- The module is valid in the context g, in which the first so many globals are imported, and of its bodies this holds.
+pub record IsValidWith (Bodies : Type 0) (z : Settings) (g : Module) (imported : ℕ) (m : ModuleTree) : Type 0 where
   pub types : AreValidGroups z [] m.types g.types
   pub imports : Each (λ (i : ImportTree). IsValidImport z g i.ty) m.imports
   pub functions : Each (IsFunctionIndex g) m.functions
@@ -308,10 +308,14 @@ pub record IsValidIn (z : Settings) (g : Module) (imported : ℕ) (m : ModuleTre
   pub start : IfThere (IsValidStart g) m.start
   pub element_segments : Each (IsValidElement z g imported) m.element_segments
   pub data_count : IfThere (λ n. Has z.features BulkMemory) m.data_count
-  pub code : AllZip (HasValidBody z g) m.functions m.code
+  pub code : Bodies
   pub data_segments : Each (λ (x : DataTree Code). IsValidData z g imported x.mode) m.data_segments
   pub limits : IsWithinLimits z g m
 
+-- each function has a valid body
+abbrev pub HasValidBodies : Settings → Module → ModuleTree → Type 0
+HasValidBodies z g m = AllZip (HasValidBody z g) m.functions m.code
+
 -- a valid module (validation, modules)
 abbrev pub IsValid : Settings → ModuleTree → Type 0
-IsValid z m = IsValidIn z (module_of m) (imported_globals m) m
+IsValid z m = IsValidWith (HasValidBodies z (module_of m) m) z (module_of m) (imported_globals m) m

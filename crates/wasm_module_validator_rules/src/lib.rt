@@ -9,7 +9,7 @@
 mod laws;
 mod worked;
 
-pub use laws::modules_are_spelled_once;
+pub use laws::{accepted_is_valid_outside_bodies, modules_are_spelled_once};
 pub use worked::{
     bounds_are_worked, bytes_are_worked, functions_are_worked, items_are_worked,
     modules_are_worked, releases_are_worked,

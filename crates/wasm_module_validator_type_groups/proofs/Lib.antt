@@ -13,3 +13,4 @@ pub mod AddingSteps
 pub mod Runs
 pub mod Empty
 pub mod WorkedProofs
+mod Deep

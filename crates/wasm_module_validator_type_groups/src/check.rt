@@ -2,6 +2,7 @@
 
 ghost use Rattle.std.specs.Prelude.{◌≡◌, ◌<◌, ◌≤◌, ◌-◌, IsTrue, Some};
 ghost use Rattle.wasm_types.specs.decoding.Denials.{Tells, RefusedAt};
+ghost use Rattle.wasm_types.specs.reader.Reading.{NeedsNoMemory};
 ghost use Rattle.wasm_module_validator_type_storage.specs.trees.Groups.{count};
 ghost use Rattle.wasm_module_validator_type_storage.specs.trees.BelowIds.{entry_by_id};
 ghost use Rattle.wasm_module_validator_type_groups.specs.composites.Composites.{WhereCanonical};
@@ -42,6 +43,7 @@ fn check_below(
         × AreDescriptorsAllowed features.0 (entry_by_id types.now.groups id)
         × DescriptorsGoAlong types.now.groups (entry_by_id types.now.groups id) (Some above)) }
     ensures at { RefusedAt offset result }
+    ensures memory { NeedsNoMemory result }
 {
     check_supertype(types, id, above, most, offset)?;
     let ty = stored_type(types, id);
@@ -82,6 +84,7 @@ pub fn check_type(
     requires ids { WhereCanonical features.0 (HaveKnownIds types.now.groups) }
     ensures answer { Tells result (IsTypeValid types.now.groups features.0 most id) }
     ensures at { RefusedAt offset result }
+    ensures memory { NeedsNoMemory result }
 {
     let ty = stored_type(types, id);
     let own = &ty.composite_type;
@@ -109,6 +112,7 @@ pub fn check_types(
     ensures answer { Tells result (AreTypesValid types.now.groups features.0 most ids.now.start.0
         (ids.now.end.0 - ids.now.start.0)) }
     ensures at { RefusedAt offset result }
+    ensures memory { NeedsNoMemory result }
 {
     let end = ids.end.number();
     for number in ids.start.number()..end {

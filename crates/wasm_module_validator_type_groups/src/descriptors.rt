@@ -5,6 +5,7 @@ ghost use Rattle.wasm_types.specs.decoding.Denials.{Tells, RefusedAt};
 ghost use Rattle.wasm_types.specs.trees.declared.index.UnpackedIndex.TheVariants.{Id};
 ghost use Rattle.wasm_types.specs.trees.Each.{EachOption};
 ghost use Rattle.wasm_types.specs.Entries.{entry_of};
+ghost use Rattle.wasm_types.specs.reader.Reading.{NeedsNoMemory};
 ghost use Rattle.wasm_module_validator_type_storage.specs.trees.Groups.{count};
 ghost use Rattle.wasm_module_validator_type_storage.specs.trees.BelowIds.{IsIdBelow, entry_by_id, id_named};
 ghost use Rattle.wasm_module_validator_type_groups.specs.ValidTypes.{AreDescriptorsAllowed, GoAlong, IsDescribedBy, Describes};
@@ -21,6 +22,7 @@ use wasm_types::{
 pub(crate) fn check_joined(features: WasmFeatures, ty: &SubType, offset: u64) -> Result<()>
     ensures answer { Tells result (AreDescriptorsAllowed features.0 (entry_of ty.now)) }
     ensures at { RefusedAt offset result }
+    ensures memory { NeedsNoMemory result }
 {
     let has_descriptor = ty.composite_type.descriptor_idx.is_some();
     if !has_descriptor && ty.composite_type.describes_idx.is_none() {
@@ -96,6 +98,7 @@ impl<'a> Along<'a> {
         requires upper { EachOption (IsIdBelow (count types.now.groups)) upper }
         ensures answer { Tells result (GoAlong types.now.groups own upper) }
         ensures at { RefusedAt offset result }
+        ensures memory { NeedsNoMemory result }
     {
         match own {
             Some(own) => match upper {
@@ -126,6 +129,7 @@ fn check_described(
     requires { EachOption (IsIdBelow (count types.now.groups)) describes }
     ensures answer { Tells result (Describes types.now.groups id describes) }
     ensures at { RefusedAt offset result }
+    ensures memory { NeedsNoMemory result }
 {
     let Some(describes) = describes else {
         return Ok(());
@@ -152,6 +156,7 @@ pub(crate) fn check_joins(
     ensures answer { Tells result (IsDescribedBy types.now.groups id descriptor
         × Describes types.now.groups id describes) }
     ensures at { RefusedAt offset result }
+    ensures memory { NeedsNoMemory result }
 {
     let Some(descriptor) = descriptor else {
         return check_described(types, id, describes, offset);

@@ -4,6 +4,7 @@ ghost use Rattle.std.specs.Prelude.{◌≡◌, ◌↔◌, ◌<◌, IsTrue, IfSom
 ghost use Rattle.wasm_types.specs.decoding.Denials.{Tells, RefusedAt};
 ghost use Rattle.wasm_types.specs.decoding.declared.error.ErrorKind.TheVariants.{Other};
 ghost use Rattle.wasm_types.specs.Entries.{declared_of, entry_of};
+ghost use Rattle.wasm_types.specs.reader.Reading.{NeedsNoMemory};
 ghost use Rattle.wasm_module_validator_type_storage.specs.trees.Groups.{count};
 ghost use Rattle.wasm_module_validator_type_storage.specs.trees.BelowIds.{entry_by_id};
 ghost use Rattle.wasm_module_validator_canonical_types.specs.matches.MatchesById.{HasKnownIds};
@@ -18,6 +19,7 @@ use wasm_types::{CoreTypeId, Error, Result, SubType, WasmFeatures};
 pub(crate) fn check_subtyping(features: WasmFeatures, ty: &SubType, offset: u64) -> Result<()>
     ensures answer { Tells result (IsSubtypingAllowed features.0 (entry_of ty.now)) }
     ensures at { RefusedAt offset result }
+    ensures memory { NeedsNoMemory result }
 {
     require(
         features.gc() || (ty.is_final && ty.supertype_idxs.as_slice().is_empty()),
@@ -27,8 +29,8 @@ pub(crate) fn check_subtyping(features: WasmFeatures, ty: &SubType, offset: u64)
     )
 }
 
-// Whether at most so many types are declared one above the other, from this one on.
-fn is_within_depth(types: &TypeList, above: Option<CoreTypeId>, most: u32) -> bool
+// Whether at most so many types are declared one above the other, from this one on, by the chain of supertypes.
+fn is_within_depth_by_chain(types: &TypeList, above: Option<CoreTypeId>, most: u32) -> bool
     requires { IfSome above (λ u. u.0 < count types.now.groups) }
     ensures { IsTrue result ↔ IsDepthWithin types.now.groups most above }
 {
@@ -43,6 +45,18 @@ fn is_within_depth(types: &TypeList, above: Option<CoreTypeId>, most: u32) -> bo
         }
         left -= 1;
         at = types.supertype_of(up);
+    }
+}
+
+// The same from this type on. Most types tell how many are above them.
+#[tactic(auto, using(crate::proofs::Deep::depth_within))]
+fn is_within_depth(types: &TypeList, above: CoreTypeId, most: u32) -> bool
+    requires { above.0 < count types.now.groups }
+    ensures { IsTrue result ↔ IsDepthWithin types.now.groups most (Some above) }
+{
+    match types.count_above(above) {
+        Some(count) => count < most,
+        None => is_within_depth_by_chain(types, Some(above), most),
     }
 }
 
@@ -76,6 +90,7 @@ pub(crate) fn check_supertype(
     ensures answer { Tells result (IsAboveValid types.now.groups (entry_by_id types.now.groups id) (Some above)
         × IsDepthWithin types.now.groups most (Some above)) }
     ensures at { RefusedAt offset result }
+    ensures memory { NeedsNoMemory result }
 {
     if stored_type(types, above).is_final {
         return Err(Error::new("sub type cannot have a final super type", offset));
@@ -83,7 +98,7 @@ pub(crate) fn check_supertype(
     if !types_match(types, id, above) {
         return Err(Error::new("sub type must match super type", offset));
     }
-    if !is_within_depth(types, Some(above), most) {
+    if !is_within_depth(types, above, most) {
         return Err(too_deep(most, offset));
     }
     Ok(())

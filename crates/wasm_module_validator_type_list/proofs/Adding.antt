@@ -21,6 +21,7 @@ use Rattle.wasm_module_validator_type_list.proofs.OverIds.{types_fit}
 use Rattle.wasm_module_validator_type_list.proofs.Knowing.{knows_push, more_some}
 use Rattle.wasm_module_validator_type_list.proofs.Depths.{places_push}
 use Rattle.wasm_module_validator_type_list.specs.Lists.{SameItems, AreShort}
+use Rattle.wasm_module_validator_type_list.specs.Uniform.{AreUniform}
 use Rattle.wasm_module_validator_type_list.proofs.Parts.{homes_push, ranges_push, supers_push, forms_push, length_homes, type_total, home_total, super_total, element_total, form_total}
 
 map_replicate : {A B : Type 0} (f : A → B) (n : ℕ) (a : A) → map f (replicate n a) ≡ replicate n (f a)
@@ -52,8 +53,8 @@ module _ (gs : List Group) (old new : Lists) (known more : Option Known) (is : I
   pub list_push : TiesDeclareTheSame → map declared_of types ≡ map (declared_map (packed_by_id first.0)) (declared_types group)
       → homes ≡ replicate (length (declared_types group)) id → supertypes ≡ map supertype_id (map declared_of types) → KnowsMore canonical old.types.items types first.0 group id known more
       → is_some known ≡ true → (n : ℕ) → n ≡ length (declared_types group) → new.depths.items ≡ old.depths.items ++ replicate n None
-      → IsTypeList (group_in canonical group ∷ gs) new more
-  list_push ties stored copied supers learned still n counted places = record {
+      → AreUniform new.types.items new.supertypes.items new.uniform.items → IsTypeList (group_in canonical group ∷ gs) new more
+  list_push ties stored copied supers learned still n counted places uniform = record {
     formed = (formed, added, is.formed);
     small = let l = room.types in omega (arith, count_push (group_in canonical group) gs);
     few = let l = room.numbers in omega arith;
@@ -72,6 +73,7 @@ module _ (gs : List Group) (old new : Lists) (known more : Option Known) (is : I
         (knows_push ties gs old.types.items types canonical first.0 group id known more (begins ∙ sym (type_total gs old known is)) (begins ∙ sym (length_homes gs)) at is.knows learned);
     depths = places_push known more (group_in canonical group) gs old.depths.items new.depths.items n
         (more_some canonical old.types.items types first.0 group id known more learned) still is.depths counted places;
+    uniform = uniform;
   }
 
 -- as many types are stored as there are
@@ -108,8 +110,9 @@ module _ (before mid after : Lists) (known more : Option Known) (gs : List Group
       → after.types.items ≡ mid.types.items ++ types → after.homes.items ≡ mid.homes.items ++ homes → after.supertypes.items ≡ mid.supertypes.items ++ supertypes
       → after.elements.items ≡ mid.elements.items ++ record { start = first; end = end } ∷ []
       → is_some known ≡ true → mid.depths.items ≡ before.depths.items → after.depths.items ≡ mid.depths.items ++ replicate (length types) None
+      → AreUniform after.types.items after.supertypes.items after.uniform.items
       → IsTypeList (group_in canonical group ∷ gs) after more
-  added_list ties canonical id formed added at types source homes supertypes first end start further s f b e from stored copied supers learned a1 a2 a3 a4 a5 still d1 d2 =
+  added_list ties canonical id formed added at types source homes supertypes first end start further s f b e from stored copied supers learned a1 a2 a3 a4 a5 still d1 d2 uniform =
       let old : IsTypeList gs before known = subst (λ (l : List Group). IsTypeList l before known) view is in
       let gains : Gains before after canonical types homes supertypes first end = record {
         forms_now = a1 ∙ ap (λ l. l ++ canonical ∷ []) same.forms;
@@ -124,4 +127,4 @@ module _ (before mid after : Lists) (known more : Option Known) (gs : List Group
       (subst (λ (k : ℕ). KnowsMore canonical before.types.items types k group id known more) (sym b)
       (subst (λ (l : List SubType). KnowsMore canonical l types start group id known more) same.types learned)) still
       (length types) (stored_length types source (declared_types group) start stored from)
-      (d2 ∙ ap (λ l. l ++ replicate (length types) None) d1)
+      (d2 ∙ ap (λ l. l ++ replicate (length types) None) d1) uniform

@@ -15,15 +15,16 @@ use Rattle.wasm_module_validator_type_list.specs.List.{Types, groups_in, IsTypeL
 use Rattle.wasm_module_validator_type_list.proofs.Knowing.{knows_same, stays_some}
 use Rattle.wasm_module_validator_type_list.proofs.Depths.{places_same, places_set, more_places_keep}
 use Rattle.wasm_module_validator_type_list.proofs.Rolling.{lists_give}
+use Rattle.wasm_module_validator_type_list.proofs.Likeness.{none_uniform, uniform_same}
 
 -- lists that store these groups are a list of types
 pub holds : (gs : List Group) (lists : Lists) (known : Option Known) → IsTypeList gs lists known → IsTypeList (groups_in lists) lists known
 holds gs lists known is = subst (λ (l : List Group). IsTypeList l lists known) (sym (lists_give gs lists known is)) is
 
 stores_nothing : (lists : Lists) (known : Option Known) → lists.forms.items ≡ [] → lists.types.items ≡ [] → lists.homes.items ≡ [] → lists.supertypes.items ≡ [] → lists.elements.items ≡ []
-    → Knows [] lists.types.items known → HasPlaces 0 known lists.depths.items → IsTypeList [] lists known
+    → Knows [] lists.types.items known → HasPlaces 0 known lists.depths.items → lists.uniform.items ≡ [] → IsTypeList [] lists known
 unfolding type_count group_numbers group_ranges declared_by_id forms
-stores_nothing lists known a b c d e k has = record {
+stores_nothing lists known a b c d e k has f = record {
   formed = tt;
   small = omega arith;
   few = omega arith;
@@ -34,11 +35,12 @@ stores_nothing lists known a b c d e k has = record {
   elements = ap (map (λ r. (r.start.0, r.end.0))) e;
   knows = k;
   depths = has;
+  uniform = none_uniform lists.types.items lists.supertypes.items lists.uniform.items f;
 }
 
 pub no_types : (lists : Lists) (known : Option Known) → lists.forms.items ≡ [] → lists.types.items ≡ [] → lists.homes.items ≡ [] → lists.supertypes.items ≡ [] → lists.elements.items ≡ []
-    → Knows [] lists.types.items known → HasPlaces 0 known lists.depths.items → IsTypeList (groups_in lists) lists known
-no_types lists known a b c d e k has = holds [] lists known (stores_nothing lists known a b c d e k has)
+    → Knows [] lists.types.items known → HasPlaces 0 known lists.depths.items → lists.uniform.items ≡ [] → IsTypeList (groups_in lists) lists known
+no_types lists known a b c d e k has f = holds [] lists known (stores_nothing lists known a b c d e k has f)
 
 pub no_groups : (lists : Lists) → lists.forms.items ≡ [] → groups_in lists ≡ []
 unfolding groups_in
@@ -68,6 +70,7 @@ lists_same known more old new same is knows has =
       elements = ap (map (λ r. (r.start.0, r.end.0))) same.elements ∙ is.elements;
       knows = subst (λ (l : List SubType). Knows (groups_in old) l more) (sym same.types) knows;
       depths = has;
+      uniform = uniform_same old.types.items new.types.items old.supertypes.items new.supertypes.items old.uniform.items new.uniform.items same.types same.supertypes same.uniform is.uniform;
     })
 
 -- what was added to lists that do not store a further group yet

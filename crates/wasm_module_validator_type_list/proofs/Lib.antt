@@ -11,3 +11,5 @@ pub mod Chains
 pub mod Alone
 pub mod References
 pub mod WorkedProofs
+mod Ancestry
+mod Likeness

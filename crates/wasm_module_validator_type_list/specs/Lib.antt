@@ -5,6 +5,7 @@ pub mod Rolled
 pub mod Beside
 pub mod Known
 pub mod Depths
+pub mod Uniform
 -- Definitions: what a contract sees of it.
 pub mod Lookups
 pub mod List

@@ -12,6 +12,7 @@ use Rattle.wasm_module_validator_type_list.specs.Rolled.{rolled_groups, forms}
 use Rattle.wasm_module_validator_type_list.specs.declared.known.Known.{Known}
 use Rattle.wasm_module_validator_type_list.specs.Known.{Knows}
 use Rattle.wasm_module_validator_type_list.specs.Depths.{HasPlaces}
+use Rattle.wasm_module_validator_type_list.specs.Uniform.{AreUniform}
 use Rattle.wasm_module_validator_type_list.specs.Lookups.{IsAtPlace}
 
 -- the groups, the newest first, whether further ones may be added, the depths that were set, and the limits that hold
@@ -41,6 +42,7 @@ pub record IsTypeList (groups : List Group) (lists : Lists) (known : Option Know
   pub elements : map (λ r. (r.start.0, r.end.0)) lists.elements.items ≡ group_ranges groups
   pub knows : Knows groups lists.types.items known
   pub depths : HasPlaces (count groups) known lists.depths.items
+  pub uniform : AreUniform lists.types.items lists.supertypes.items lists.uniform.items
 
 -- ---- interning
 

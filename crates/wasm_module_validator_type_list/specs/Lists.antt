@@ -9,6 +9,7 @@ pub record SameItems (a b : Lists) : Type 0 where
   pub homes : b.homes.items ≡ a.homes.items
   pub supertypes : b.supertypes.items ≡ a.supertypes.items
   pub elements : b.elements.items ≡ a.elements.items
+  pub uniform : b.uniform.items ≡ a.uniform.items
 
 -- room for a group of n types
 pub record HasRoomFor (l : Lists) (n : ℕ) : Type 0 where

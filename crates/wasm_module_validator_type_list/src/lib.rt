@@ -15,6 +15,7 @@ mod list;
 mod lists;
 mod stored;
 mod subtypes;
+mod uniform;
 mod values;
 
 pub use ids::RecGroupId;

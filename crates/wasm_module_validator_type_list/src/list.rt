@@ -31,7 +31,7 @@ pub const MAX_TYPES: usize = 1 << 20;
 pub struct TypeList {
     pub(crate) alloc: Global,
     limits: Limits,
-    lists: Lists,
+    pub(crate) lists: Lists,
     known: Option<Known>,
 }
 

@@ -2,10 +2,13 @@
 
 ghost use Rattle.std.specs.Prelude.{◌≡◌, ◌∷◌, ◌++◌, ◌+◌, ◌≤◌, ◌<◌, [], length, replicate, OnOk, IfOk, None, Some, slice_set, vec_len, vec_capacity};
 ghost use Rattle.wasm_module_validator_type_list.specs.Lists.{SameItems, HasRoomFor, AreShort};
+ghost use Rattle.wasm_module_validator_type_list.specs.Uniform.{AreUniform};
 
 use crate::RecGroupId;
+use crate::uniform::fill;
 use std::alloc::{AllocError, Global};
 use std::ops::Range;
+use wasm_module_validator_type_storage::displays::Displays;
 use wasm_module_validator_type_storage::snapshots::SnapshotList;
 use wasm_types::{CoreTypeId, SubType};
 
@@ -26,7 +29,8 @@ pub(crate) fn set_depth(depths: &mut Vec<Option<u8>>, id: CoreTypeId, depth: u8)
     depths[id.number() as usize] = Some(depth);
 }
 
-/// For each group whether it is in canonical form, and its ids; for each id its type, its group, its supertype and its depth.
+/// For each group whether it is in canonical form, and its ids; for each id its type, its group, its supertype with all ancestors, whether
+/// these are of one kind with it, and its depth.
 ///
 /// A group is not kept beside its types over ids: they tell what it was (`specs/Rolled.antt`). Depths are set and never shared, so a committed list holds none.
 #[derive(Drop)]
@@ -34,8 +38,9 @@ pub(crate) struct Lists {
     pub forms: SnapshotList<bool>,
     pub types: SnapshotList<SubType>,
     pub homes: SnapshotList<RecGroupId>,
-    pub supertypes: SnapshotList<Option<CoreTypeId>>,
+    pub supertypes: Displays,
     pub elements: SnapshotList<Range<CoreTypeId>>,
+    pub uniform: SnapshotList<bool>,
     pub depths: Vec<Option<u8>>,
 }
 
@@ -46,14 +51,16 @@ impl Lists {
         ensures homes { result.homes.items ≡ [] }
         ensures supertypes { result.supertypes.items ≡ [] }
         ensures elements { result.elements.items ≡ [] }
+        ensures uniform { result.uniform.items ≡ [] }
         ensures depths { result.depths.items ≡ [] }
     {
         Lists {
             forms: SnapshotList::new(alloc),
             types: SnapshotList::new(alloc),
             homes: SnapshotList::new(alloc),
-            supertypes: SnapshotList::new(alloc),
+            supertypes: Displays::new(alloc),
             elements: SnapshotList::new(alloc),
+            uniform: SnapshotList::new(alloc),
             depths: Vec::new(alloc),
         }
     }
@@ -69,6 +76,7 @@ impl Lists {
         self.homes.reserve(additional)?;
         self.supertypes.reserve(additional)?;
         self.elements.reserve(1)?;
+        self.uniform.reserve(additional)?;
         self.depths.reserve(additional)
     }
 
@@ -85,12 +93,14 @@ impl Lists {
         requires short { AreShort self.old (length types.items) }
         requires homes { length homes.items ≡ length types.items }
         requires supertypes { length supertypes.items ≡ length types.items }
+        requires uniform { AreUniform self.old.types.items self.old.supertypes.items self.old.uniform.items }
         ensures forms { self.new.forms.items ≡ self.old.forms.items ++ is_canonical ∷ [] }
         ensures types { self.new.types.items ≡ self.old.types.items ++ types.items }
         ensures homes { self.new.homes.items ≡ self.old.homes.items ++ homes.items }
         ensures supertypes { self.new.supertypes.items ≡ self.old.supertypes.items ++ supertypes.items }
         ensures elements { self.new.elements.items ≡ self.old.elements.items ++ elements ∷ [] }
         ensures depths { self.new.depths.items ≡ self.old.depths.items ++ replicate (length types.items) None }
+        ensures uniform { AreUniform self.new.types.items self.new.supertypes.items self.new.uniform.items }
     {
         add_places(&mut self.depths, types.as_slice().len());
         let _ = self.forms.push(is_canonical);
@@ -98,6 +108,7 @@ impl Lists {
         let _ = self.homes.append(&mut homes);
         let _ = self.supertypes.append(&mut supertypes);
         let _ = self.elements.push(elements);
+        fill(&self.types, &self.supertypes, &mut self.uniform);
     }
 
     /// The same lists, shared from now on, and no depths.
@@ -112,6 +123,7 @@ impl Lists {
         let homes = self.homes.commit()?;
         let supertypes = self.supertypes.commit()?;
         let elements = self.elements.commit()?;
+        let uniform = self.uniform.commit()?;
         let depths = Vec::new(*self.depths.allocator());
         Ok(Lists {
             forms,
@@ -119,6 +131,7 @@ impl Lists {
             homes,
             supertypes,
             elements,
+            uniform,
             depths,
         })
     }

@@ -1,17 +1,30 @@
-//! Subtype tests by the chain of declared supertypes.
+//! Subtype tests by the ancestors that each type keeps, and by the chain of declared supertypes where one keeps none.
 
-ghost use Rattle.std.specs.Prelude.{◌≡◌, ◌↔◌, ◌<◌, IsTrue};
-ghost use Rattle.wasm_module_validator_type_storage.specs.trees.Groups.{count};
+ghost use Rattle.std.specs.Prelude.{◌≡◌, ◌↔◌, ◌<◌, IsTrue, IfSome};
+ghost use Rattle.wasm_module_validator_type_storage.specs.trees.Groups.{count, supertype_ids};
+ghost use Rattle.wasm_module_validator_type_storage.specs.displays.Chains.{HasDepth};
 ghost use Rattle.wasm_module_validator_type_storage.specs.trees.ByIds.{IdBelow};
 
 use crate::TypeList;
 use wasm_types::CoreTypeId;
 
 impl TypeList {
-    /// Whether the first id is the second, or was declared below it by supertypes, in any number of steps (WebAssembly 3.0,
-    /// validation, matching, defined types). Where all groups are in canonical form, that is whether its type is below the
-    /// other's by declaration (`ids_speak_of_types` of `wasm_module_validator_type_storage::trees`).
-    pub fn id_is_subtype(&self, a: CoreTypeId, b: CoreTypeId) -> bool
+    // Whether the first id is the second or below it, where that can be told by the ancestors which types keep.
+    fn is_below_at_once(&self, a: CoreTypeId, b: CoreTypeId) -> Option<bool>
+        ensures { IfSome result (λ is_below. IsTrue is_below ↔ IdBelow self.now.groups a b) }
+    {
+        self.lists.supertypes.is_below(a, b)
+    }
+
+    /// How many types are declared above the type of an id, where the type keeps its ancestors: up to 255, if there was memory.
+    pub fn count_above(&self, id: CoreTypeId) -> Option<u32>
+        ensures { IfSome result (HasDepth (supertype_ids self.now.groups) id) }
+    {
+        self.lists.supertypes.depth(id)
+    }
+
+    // The same, by the chain of supertypes.
+    fn is_below_by_chain(&self, a: CoreTypeId, b: CoreTypeId) -> bool
         requires { a.0 < count self.now.groups }
         ensures { IsTrue result ↔ IdBelow self.now.groups a b }
     {
@@ -24,6 +37,19 @@ impl TypeList {
                 Some(above) => at = above,
                 None => return false,
             }
+        }
+    }
+
+    /// Whether the first id is the second, or was declared below it by supertypes, in any number of steps (WebAssembly 3.0,
+    /// validation, matching, defined types). Where all groups are in canonical form, that is whether its type is below the
+    /// other's by declaration (`ids_speak_of_types` of `wasm_module_validator_type_storage::trees`).
+    pub fn id_is_subtype(&self, a: CoreTypeId, b: CoreTypeId) -> bool
+        requires { a.0 < count self.now.groups }
+        ensures { IsTrue result ↔ IdBelow self.now.groups a b }
+    {
+        match self.is_below_at_once(a, b) {
+            Some(is_below) => is_below,
+            None => self.is_below_by_chain(a, b),
         }
     }
 }

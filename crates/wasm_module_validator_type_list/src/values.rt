@@ -11,6 +11,8 @@ ghost use Rattle.wasm_types.specs.values.Trees.{heap_of, abstract_of as abstract
 ghost use Rattle.wasm_types.specs.values.Values.{value_of};
 ghost use Rattle.wasm_types.specs.Entries.{declared_of, inner_of};
 ghost use Rattle.wasm_module_validator_type_storage.specs.trees.Groups.{count};
+ghost use Rattle.wasm_module_validator_type_storage.specs.trees.ByIds.{IdBelow};
+ghost use Rattle.wasm_module_validator_type_list.specs.Uniform.{AreAlike};
 ghost use Rattle.wasm_module_validator_type_storage.specs.trees.BelowIds.{IsIdBelow, id_named, entry_by_id, heap_is_shared_by_id, value_is_shared_by_id, top_heap_by_id};
 ghost use Rattle.wasm_module_validator_type_storage.specs.trees.BelowIds.{IsUnder, IsOver, IdBelowAbstract, AbstractBelowId, HeapBelowById, ValueBelowById};
 
@@ -20,8 +22,8 @@ use wasm_types::{
     ValType, equality_is_identity,
 };
 
-// The abstract type of a constructor.
-fn abstract_type_of(inner: &CompositeInnerType) -> AbstractHeapType
+/// The abstract type of a constructor.
+pub(crate) fn abstract_type_of(inner: &CompositeInnerType) -> AbstractHeapType
     ensures { abstract_in result ≡ abstract_above (inner_of inner.now) }
 {
     match inner {
@@ -117,6 +119,17 @@ impl TypeList {
         shared == stored.composite_type.shared && ty == bottom_type_of(&stored.composite_type.inner)
     }
 
+    // Whether all that the type of an id is declared below is of one kind with it, so that it stands for all.
+    fn is_like_all_above(&self, id: CoreTypeId) -> bool
+        ensures { IsTrue result → (j : CoreTypeId) → IdBelow self.now.groups id j → AreAlike (entry_by_id self.now.groups id)
+            (entry_by_id self.now.groups j) }
+    {
+        match self.lists.uniform.get(id.number() as usize) {
+            Some(flag) => *flag,
+            None => false,
+        }
+    }
+
     // Whether the type of an id is below an abstract type, by itself or by what it is declared below.
     fn id_is_below_abstract(&self, id: CoreTypeId, shared: bool, ty: AbstractHeapType) -> bool
         requires { id.0 < count self.now.groups }
@@ -153,6 +166,28 @@ impl TypeList {
 }
 
 impl TypeList {
+    // Whether the type of an id is below an abstract type: by itself alone, where all above it is of one kind with it.
+    fn concrete_is_below_abstract(&self, id: CoreTypeId, shared: bool, ty: AbstractHeapType) -> bool
+        requires { id.0 < count self.now.groups }
+        ensures { IsTrue result ↔ IdBelowAbstract self.now.groups id shared (abstract_in ty) }
+    {
+        if self.is_like_all_above(id) {
+            return self.is_under(id, shared, ty);
+        }
+        self.id_is_below_abstract(id, shared, ty)
+    }
+
+    // Whether an abstract type is below the type of an id and all above it: below the type alone, where all are of one kind.
+    fn abstract_is_below_concrete(&self, shared: bool, ty: AbstractHeapType, id: CoreTypeId) -> bool
+        requires { id.0 < count self.now.groups }
+        ensures { IsTrue result ↔ AbstractBelowId self.now.groups id shared (abstract_in ty) }
+    {
+        if self.is_like_all_above(id) {
+            return self.is_over(id, shared, ty);
+        }
+        self.abstract_is_below_id(shared, ty, id)
+    }
+
     // Whether an abstract type is below a heap type.
     fn abstract_is_below(&self, shared: bool, ty: AbstractHeapType, b: HeapType) -> bool
         requires { EachHeap (IsIdBelow (count self.now.groups)) (heap_of b) }
@@ -164,10 +199,10 @@ impl TypeList {
                 ty: b_ty,
             } => shared == b_shared && ty.is_subtype_of(b_ty),
             HeapType::Concrete(index) => {
-                self.abstract_is_below_id(shared, ty, id_in(index, self.type_count()))
+                self.abstract_is_below_concrete(shared, ty, id_in(index, self.type_count()))
             }
             HeapType::Exact(index) => {
-                self.abstract_is_below_id(shared, ty, id_in(index, self.type_count()))
+                self.abstract_is_below_concrete(shared, ty, id_in(index, self.type_count()))
             }
         }
     }
@@ -180,7 +215,7 @@ impl TypeList {
     {
         let id = id_in(a, self.type_count());
         match b {
-            HeapType::Abstract { shared, ty } => self.id_is_below_abstract(id, shared, ty),
+            HeapType::Abstract { shared, ty } => self.concrete_is_below_abstract(id, shared, ty),
             HeapType::Concrete(index) => self.id_is_subtype(id, id_in(index, self.type_count())),
             HeapType::Exact(_) => false,
         }
@@ -194,7 +229,7 @@ impl TypeList {
     {
         let id = id_in(a, self.type_count());
         match b {
-            HeapType::Abstract { shared, ty } => self.id_is_below_abstract(id, shared, ty),
+            HeapType::Abstract { shared, ty } => self.concrete_is_below_abstract(id, shared, ty),
             HeapType::Concrete(index) => self.id_is_subtype(id, id_in(index, self.type_count())),
             HeapType::Exact(index) => id == id_in(index, self.type_count()),
         }

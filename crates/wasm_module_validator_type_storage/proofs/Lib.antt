@@ -4,3 +4,5 @@ pub mod Chunks
 pub mod Halves
 pub mod Rows
 pub mod WorkedProofs
+pub mod Chains
+pub mod Ancestors

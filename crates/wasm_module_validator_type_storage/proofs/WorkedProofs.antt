@@ -6,6 +6,11 @@ use Rattle.wasm_types.specs.trees.AbstractOrder.{struct_eq}
 use Rattle.wasm_types.specs.trees.Unfold.{type_count, type_tree}
 use Rattle.wasm_module_validator_type_storage.specs.trees.Groups.{tree_of, group_numbers, group_ranges, declared_by_id}
 use Rattle.wasm_module_validator_type_storage.specs.trees.ByIds.{IdBelow, itself, declared}
+use Rattle.wasm_module_validator_type_storage.specs.displays.Chains.{IsUnder, HasDepth, top, below}
+use Rattle.wasm_module_validator_type_storage.specs.displays.Chains as chain
+use Rattle.wasm_module_validator_type_storage.specs.displays.Worked.{ChainsWorked, three_and_one}
+use Rattle.wasm_module_validator_type_storage.specs.displays.Worked as displays
+use Rattle.wasm_module_validator_type_storage.proofs.Chains.{one_depth, no_deeper, between, same_depth}
 use Rattle.wasm_module_validator_type_storage.specs.trees.Worked.{NumbersWorked, TreesWorked, FormsWorked, BelowWorked, ValuesWorked, both, id_of}
 
 pub numbers_worked : NumbersWorked
@@ -93,4 +98,33 @@ values_worked = record {
   shared_numbers = refl;
   top = refl;
   top_of_abstract = refl;
+}
+
+zero_depth : HasDepth three_and_one (displays.id 0) 0
+zero_depth = top refl
+
+two_depth : HasDepth three_and_one (displays.id 2) 2
+two_depth = below {b = displays.id 1} refl (below {b = displays.id 0} refl zero_depth)
+
+three_depth : HasDepth three_and_one (displays.id 3) 0
+three_depth = top refl
+
+-- by its depth it would be the first
+not_under_three : IsUnder three_and_one (displays.id 2) (displays.id 3) → ⊥
+not_under_three u =
+    let first : IsUnder three_and_one (displays.id 2) (displays.id 0) = chain.declared {b = displays.id 1} refl (chain.declared {b = displays.id 0} refl chain.itself) in
+    let there = between three_and_one (displays.id 2) (displays.id 0) (displays.id 3) 2 0 0 first u two_depth zero_depth three_depth (omega arith) in
+    let same : displays.id 0 ≡ displays.id 3 = same_depth three_and_one (displays.id 0) (displays.id 3) 0 there zero_depth three_depth in
+    omega (arith, ap (λ (x : CoreTypeId). x.0) same)
+
+pub chains_worked : ChainsWorked
+chains_worked = record {
+  itself = chain.itself;
+  two_steps = chain.declared {b = displays.id 1} refl (chain.declared {b = displays.id 0} refl chain.itself);
+  upside_down = λ u. let le = no_deeper three_and_one (displays.id 0) (displays.id 2) 0 2 u zero_depth two_depth in omega arith;
+  apart = not_under_three;
+  first_depth = zero_depth;
+  third_depth = two_depth;
+  not_three = λ h. let e = one_depth three_and_one (displays.id 2) 3 2 h two_depth in omega (arith, e);
+  unknown = search rules;
 }

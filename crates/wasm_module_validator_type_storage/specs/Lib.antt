@@ -4,3 +4,5 @@ pub mod snapshots
 pub mod ordered
 -- Rules and laws: interned types as plain data.
 pub mod trees
+-- Definitions and worked rows: supertypes, and ancestors by depth.
+pub mod displays

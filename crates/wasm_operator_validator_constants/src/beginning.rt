@@ -7,17 +7,18 @@ ghost use Rattle.wasm_operator_validator_constants.specs.Beginning.{constant_beg
 use wasm_operator_validator_stacks::{
     BlockType, FrameKind, OperatorValidator, OperatorValidatorAllocations,
 };
-use wasm_types::{Error, Result, ValType, WasmFeatures};
+use wasm_types::{Error, Limits, Result, ValType, WasmFeatures};
 
 /// The validator of a constant expression of this type: there are no locals, and one frame is open that gives the type
 /// (WebAssembly 3.0, validation, constant expressions). The memory of a validator that is done may be used again: nothing of it is
-/// left.
+/// left. No limit is asked of a constant's operators.
 ///
 /// # Errors
 ///
 /// There is no memory for the frame.
 pub fn new_const_expr(
     features: WasmFeatures,
+    _limits: Limits,
     ty: ValType,
     allocs: OperatorValidatorAllocations,
 ) -> Result<OperatorValidator>

@@ -44,7 +44,7 @@ pub fn check_const_expr<R: WasmModuleResources>(
 {
     let reader = expr.get_binary_reader();
     let taken = replace(allocs, OperatorValidatorAllocations::new(alloc));
-    let mut validator = match new_const_expr(features, ty, taken) {
+    let mut validator = match new_const_expr(features, reader.limits(), ty, taken) {
         Ok(validator) => validator,
         Err(error) => return Err(error),
     };

@@ -21,7 +21,7 @@ fn match_targets<R: WasmModuleResources>(
     requires { IsOpen validator.now.opens }
     ensures { Answers result (EachSuits (R.meaning resources.now) validator.now count targets.entry) }
 {
-    let mut met = Met::new();
+    let mut met = Met::new(validator.allocator());
     while let Some(target) = targets.next() {
         if !is_known(&met, target, count) {
             match match_label(validator, resources, target, count) {

@@ -9,8 +9,9 @@ use crate::{
     BrTable, BrTableTargets, MaybeType, OperatorValidator, Refusal, WasmModuleResources,
     is_abstract_fit, label_types,
 };
+use std::alloc::Global;
 use std::slice::Iter;
-use wasm_operator_validator_locals::labels::{Met, is_met, is_worth};
+use wasm_operator_validator_locals::labels::{Met, is_met, is_worth, keep};
 use wasm_types::{AbstractHeapType, ValType};
 
 /// Whether all labels of a table agree in each place on whether a reference is shared, where that is not known. `types` are those of
@@ -24,7 +25,7 @@ pub(crate) fn agree<R: WasmModuleResources>(
     ensures { Answers result (AllAgree (R.meaning resources.now) validator.now (length types.now)
         (table.now.default ∷ table.now.targets)) }
 {
-    let named = distinct(table.targets(), types.len());
+    let named = distinct(validator.allocator(), table.targets(), types.len());
     for place in 0..types.len() {
         if !agrees_at(validator, resources, table, &named, place) {
             return Err(disagreement(validator.peek(place), types[types.len() - 1 - place]));
@@ -33,23 +34,24 @@ pub(crate) fn agree<R: WasmModuleResources>(
     Ok(())
 }
 
-/// The targets of a table, each once, if they find a place and take so many types that it pays.
-fn distinct(mut targets: BrTableTargets, types: usize) -> Option<Met>
-    ensures { IfSome result (λ met. SameLabels met.items targets.entry) }
+/// The targets of a table, each once, if they take so many types that it pays, and there is memory for them.
+fn distinct(alloc: Global, mut targets: BrTableTargets, types: usize) -> Option<Vec<u32>>
+    ensures { IfSome result (λ named. SameLabels named.items targets.entry) }
 {
     if !is_worth(types) {
         return None;
     }
-    let mut met = Met::new();
+    let mut met = Met::new(alloc);
+    let mut named = Vec::new(alloc);
     while let Some(target) = targets.next() {
         if !is_met(&met, target) {
-            if met.is_full() {
+            let Ok(()) = named.push(target) else {
                 return None;
-            }
-            met.push(target);
+            };
+            keep(&mut met, target, types);
         }
     }
-    Some(met)
+    Some(named)
 }
 
 /// The refusal of labels that disagree on an operand.
@@ -66,10 +68,10 @@ fn agrees_at<R: WasmModuleResources>(
     validator: &OperatorValidator,
     resources: &R,
     table: &BrTable,
-    named: &Option<Met>,
+    named: &Option<Vec<u32>>,
     place: usize,
 ) -> bool
-    requires { IfSome named.now (λ met. SameLabels met.items table.now.targets) }
+    requires { IfSome named.now (λ labels. SameLabels labels.items table.now.targets) }
     ensures { IsTrue result ↔ AgreesAt (R.meaning resources.now) validator.now place
         (table.now.default ∷ table.now.targets) }
 {
@@ -99,12 +101,12 @@ fn fits_table<R: WasmModuleResources>(
     validator: &OperatorValidator,
     resources: &R,
     table: &BrTable,
-    named: &Option<Met>,
+    named: &Option<Vec<u32>>,
     place: usize,
     shared: bool,
     ty: AbstractHeapType,
 ) -> bool
-    requires { IfSome named.now (λ met. SameLabels met.items table.now.targets) }
+    requires { IfSome named.now (λ labels. SameLabels labels.items table.now.targets) }
     ensures { IsTrue result ↔ EachFitsAt (labels_of (R.meaning resources.now) validator.now) place
         (a_reference shared ty) (table.now.default ∷ table.now.targets) }
 {

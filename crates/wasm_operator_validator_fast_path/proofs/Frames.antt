@@ -21,7 +21,7 @@ use Rattle.wasm_operators_enums.specs.Op.{Op}
 use Rattle.wasm_operators_enums.specs.Roles.{role_of}
 use Rattle.wasm_operators_enums.specs.declared.role.Role.TheVariants.{Opens}
 use Rattle.wasm_operator_validator_rules.specs.Context.{Context, IsBlockType, initialised_at_first, inside, label_of, is_catch}
-use Rattle.wasm_operator_validator_rules.specs.Typed.{block_type_of, HasType, MayNest, entry_of, IsBody, Typed}
+use Rattle.wasm_operator_validator_rules.specs.Typed.{block_type_of, HasType, MayNest, MayClose, entry_of, IsBody, Typed}
 use Rattle.wasm_operator_validator_state.specs.State.{InFrame}
 use Rattle.wasm_operator_validator_state.specs.laws.Closing.{end, else, in_open, in_else, in_end}
 use Rattle.wasm_operator_validator_fast_path.specs.declared.tables.Open.{Open}
@@ -163,6 +163,36 @@ split_first p (x ∷ xs) ys e d = let i : x ≡ p = cc in let j : ys ≡ xs = d 
 pub no_frames : (xs : List Open) → length xs ≡ 0 → xs ≡ []
 no_frames [] e = refl
 no_frames (x ∷ xs) e = absurd (omega (arith, e))
+
+-- ---- frames and labels of nothing
+
+module _ (flat : List ℕ) (v w : Values) where
+  pub entered_bare : (k : FrameKind) (s : Sig) (o : Open) (outer : List Open) (n : Open) (others : List Open) → s.param_count ≡ 0 → n.kind ≡ k → n.sig ≡ s → others ≡ o ∷ outer
+      → lying n.base w.1 ≡ v → w.0 ≡ [] → Enters flat k s v w o outer n others
+  entered_bare k s o outer n others zero kind sig frames under own =
+      let none : params_in flat n.sig ≡ [] = rw (sig, zero) refl in
+      record {
+        kind = kind;
+        sig = sig;
+        frames = frames;
+        under = w.1;
+        params = rw none (sym under);
+        begun = rw none (ap (λ (xs : List ℕ). (xs, w.1)) own);
+      }
+
+  pub left_bare : (o : Open) → MayClose o.kind (signature_in flat o.sig) → o.sig.result_count ≡ 0 → v.0 ≡ [] → w ≡ lying o.base v.1 → Leaves flat o v w
+  left_bare o kind zero own ended =
+      let none : results_in flat o.sig ≡ [] = rw zero refl in
+      record {
+        kind = kind;
+        under = v.1;
+        results = rw none (ap (λ (xs : List ℕ). (xs, v.1)) own);
+        ended = rw none ended;
+      }
+
+pub nothing_on : (ls : List ℕ) (m : Values) → length ls ≡ 0 → m ≡ with_all ls m
+nothing_on [] m e = refl
+nothing_on (l ∷ ls) m e = absurd (omega (arith, e))
 
 -- ---- whole bodies
 

@@ -6,3 +6,4 @@ pub mod Rows
 pub mod Frames
 pub mod Coded
 pub mod Knowing
+pub mod Indexed

@@ -1,5 +1,5 @@
 -- What each operator takes and gives, by the rules, and what follows for the loop.
-use Rattle.std.proofs.Common.{◌≤◌, ◌^◌, None, lt-ltb, nat_lt, ltb-true, Bool, IsTrue, ◌≡◌, ◌∙◌, ℕ, ℤ, suc, zero, ◌+◌, ◌<◌, List, [], ◌∷◌, ◌++◌, true, false, Some, refl, sym, ap, subst, arith, length, map, reverse, get_or, slice_get}
+use Rattle.std.proofs.Common.{◌≤◌, ◌^◌, None, lt-ltb, Bool, ◌≡◌, ◌∙◌, ℕ, ℤ, suc, zero, ◌+◌, ◌<◌, List, [], ◌∷◌, ◌++◌, true, false, Some, refl, sym, ap, subst, arith, length, map, reverse, get_or, slice_get}
 use Rattle.std.proofs.lemmas.List.{map-append}
 use Rattle.std.proofs.lemmas.Grind.{common_steps}
 use Rattle.std.specs.Prelude.{if◌then◌else◌, ◌==◌, not, All}
@@ -16,6 +16,7 @@ use Rattle.wasm_operators_immediates.specs.Kinds as kind
 use Rattle.wasm_operators_immediates.specs.Kinds.{Plain as Plainly}
 use Rattle.wasm_operators_immediates.specs.Immediates.{Index, IndexOrZero, Label, I32Constant, I64Constant, F32Constant, F64Constant, MemoryArgument}
 use Rattle.wasm_operators_encoding.specs.immediates.Bytes.{index_or_zero}
+use Rattle.wasm_operators_encoding.specs.immediates.Immediates.{may_index}
 use Rattle.wasm_operators_encoding.specs.immediates.MemoryArguments.{argument, memory_argument}
 use Rattle.wasm_operators_frequent.specs.Short.{Begins, BeginsPrefixed, IsTold}
 use Rattle.wasm_operators_frequent.proofs.ShortReading.{told_with, told_with_two, told_alone, is_told, is_told_with, is_told_with_two, prefixed_of, prefixed_is, opcode_is, low_is_no_prefix}
@@ -34,9 +35,9 @@ use Rattle.wasm_operators_enums.specs.Roles.{role_of}
 use Rattle.wasm_operators_enums.specs.declared.role.Role.TheVariants.{Plain}
 use Rattle.wasm_types.specs.trees.Types.{number, i32}
 use Rattle.wasm_operator_validator_rules.specs.Operands.{ValueType, Operand, known, all_known, stack, AllBelow}
-use Rattle.wasm_operator_validator_rules.specs.Context.{Context, Table, Global, Initialised, Signature, IsFunctionType, MayUse, may_use, address_type, label_of as label_types}
+use Rattle.wasm_operator_validator_rules.specs.Context.{Context, Global, Initialised, Signature, IsFunctionType, MayUse, may_use, address_type, label_of as label_types}
 use Rattle.wasm_operator_validator_rules.specs.Accesses.{load, store, may_access}
-use Rattle.wasm_operator_validator_rules.specs.InstructionTypes.{InstructionType, ◌⟶◌, accesses, memory_at, global_at, provided, shorter}
+use Rattle.wasm_operator_validator_rules.specs.InstructionTypes.{◌⟶◌, accesses, memory_at, global_at, provided, shorter}
 use Rattle.wasm_operator_validator_rules.specs.Row.{Row, FitEach, IsLabel, after}
 use Rattle.wasm_operator_validator_rules.specs.Typed.{Steps}
 use Rattle.wasm_operator_validator_state.specs.laws.Operands.{all_below_refl}
@@ -46,7 +47,7 @@ use Rattle.wasm_operator_validator_fast_path.specs.declared.tables.Held.{Held}
 use Rattle.wasm_operator_validator_fast_path.specs.declared.tables.Tables.{Tables}
 use Rattle.wasm_operator_validator_fast_path.specs.Stacks.{Values, with_all}
 use Rattle.wasm_operator_validator_fast_path.specs.Values.{number_of, type_of, types, operands}
-use Rattle.wasm_operator_validator_fast_path.specs.Tables.{params_in, results_in, signature_in, label_in, Allows, Fits}
+use Rattle.wasm_operator_validator_fast_path.specs.Tables.{params_in, results_in, signature_in, label_in, Fits}
 use Rattle.wasm_operator_validator_fast_path.specs.Loop.{label, Full, inside_all, Leads}
 use Rattle.wasm_operator_validator_fast_path.specs.Shapes.{IsNumberAt, IsAccessAt}
 use Rattle.wasm_operator_validator_fast_path.specs.Labels.{Takes, AreLabels}
@@ -376,7 +377,7 @@ module _ (t : Tables) (text : List ℕ) (i e : ℕ) (o : Open) (outer : List Ope
         ),
       ))
 
-  pub took_indirect : Begins text i 0x11 → t.known.table ≡ true → (y n : ℕ) → GivesAt u32 text (i + 1) y n → ((allowed : Bool) → GivesAt (index_or_zero allowed) text n 0 e)
+  pub took_indirect : Begins text i 0x11 → t.known.table ≡ true → (y n : ℕ) → GivesAt u32 text (i + 1) y n → GivesAt (index_or_zero (may_index t.features.0 kind.Tables)) text n 0 e
       → (s : Sig) → slice_get t.known.types.items y ≡ Some s → s.param_count ≤ length t.known.flat.items
       → (ps rs : List ℕ) → ps ≡ params_in t.known.flat.items s → rs ≡ results_in t.known.flat.items s
       → (m k : Values) → v ≡ (0 ∷ m.0, m.1) → m ≡ with_all ps k → w ≡ with_all rs k → Leads text t i (o ∷ outer) v e (o ∷ outer) w
@@ -385,7 +386,7 @@ module _ (t : Tables) (text : List ℕ) (i e : ℕ) (o : Open) (outer : List Ope
       let all : reverse (ps ++ 0 ∷ []) ++ k.0 ≡ 0 ∷ (reverse ps ++ k.0) = grind (arith, common_steps) in
       took p (ps ++ 0 ∷ []) rs k.0 k.1
       (stands p (told_with_two t.features.0 text i 17 17 begins refl p refl refl _ refl refl refl (Index kind.Types y) (IndexOrZero kind.Tables 0) n e refl
-      (λ limits. index_of _ _ _ _ kind.Types y g) (λ limits. zero_of _ _ _ _ kind.Tables 0 (h _))))
+      (λ limits. index_of _ _ _ _ kind.Types y g) (λ limits. zero_of _ _ _ _ kind.Tables 0 h)))
       refl (λ set full. full) (index ∙ ap (λ (x : Values). (0 ∷ x.0, x.1)) taken ∙ ap (λ xs. (xs, k.1)) (sym all)) put
       (λ z c fits set full.
       let (tab, there, narrow, functions) = fits.knows.table has in

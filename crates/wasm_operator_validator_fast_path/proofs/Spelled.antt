@@ -1,12 +1,12 @@
 -- Labels one after the other, and the branch by a table that carries them.
-use Rattle.std.proofs.Common.{◌≡◌, ◌≤◌, ◌<◌, ◌∙◌, ℕ, zero, suc, ◌+◌, ◌-◌, List, [], ◌∷◌, ◌++◌, refl, sym, ap, subst, arith, append-nil, length, drop, get_or, slice_get}
+use Rattle.std.proofs.Common.{◌≡◌, ◌≤◌, ◌∙◌, ℕ, zero, suc, ◌+◌, ◌-◌, List, [], ◌∷◌, ◌++◌, refl, sym, ap, subst, arith, append-nil, length, drop}
 use Rattle.std.proofs.lemmas.List.{drop-drop, drop_more, append_assoc, length_push}
 use Rattle.std.proofs.lemmas.Grind.{common_steps}
 use Rattle.std.specs.Prelude.{All}
 use Rattle.wasm_types.specs.decoding.Decoder.{State, Grammar, Many}
 use Rattle.wasm_types.specs.decoding.Leb.{u32, IsUnsigned}
 use Rattle.wasm_types.specs.decoding.LebLaws.{decides-u32}
-use Rattle.wasm_types.specs.settings.Settings.{Settings, no_features}
+use Rattle.wasm_types.specs.settings.Settings.{no_features}
 use Rattle.wasm_types.specs.decoding.Numbers.{behind, GivesAt}
 use Rattle.wasm_operators_frequent.specs.Short.{Begins}
 use Rattle.wasm_operators_enums.specs.declared.control.ControlOperator.TheVariants as control

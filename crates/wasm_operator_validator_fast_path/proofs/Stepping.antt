@@ -10,7 +10,6 @@ use Rattle.wasm_operators_enums.specs.Roles.{role_of}
 use Rattle.wasm_operators_enums.specs.declared.role.Role.TheVariants.{Plain}
 use Rattle.wasm_operators_encoding.specs.Coded.{operator}
 use Rattle.wasm_operators_encoding.specs.Operators.{coded_of, SpelledOperator}
-use Rattle.wasm_operators_encoding.specs.expressions.Spelling.{SpelledOperators}
 use Rattle.wasm_operators_encoding.specs.expressions.SpellingLaws.{read_spelled}
 use Rattle.wasm_operator_validator_rules.specs.Context.{Context, Initialised}
 use Rattle.wasm_operator_validator_rules.specs.Row.{after}

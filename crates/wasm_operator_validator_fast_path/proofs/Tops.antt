@@ -1,6 +1,6 @@
 -- The top of a list whose last item is on top.
 use Rattle.std.proofs.Common.{◌≡◌, ℕ, zero, suc, List, [], ◌∷◌, ◌++◌, ◌<◌, ◌≤◌, ◌-◌, length, take, drop, reverse, refl, ap, ◌∙◌, sym, arith}
-use Rattle.std.proofs.lemmas.List.{reverse-append, take-append-drop, take-take, length-reverse, length-drop, length-take-le, take_all}
+use Rattle.std.proofs.lemmas.List.{reverse-append, take-append-drop, take-take, length-reverse, length-drop, length-take-le}
 
 -- the first so many and one more
 one_more : {T : Type 0} → (xs : List T) (n : ℕ) → n < length xs → (y : T) × (take (suc n) xs ≡ take n xs ++ y ∷ [])

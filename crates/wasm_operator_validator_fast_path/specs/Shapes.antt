@@ -1,5 +1,5 @@
 -- What operators on numbers take and give, by their codes (WebAssembly 3.0, binary format, instructions).
-use Rattle.std.specs.Prelude.{◌≡◌, ◌<◌, ℕ, List, [], ◌∷◌, Option, None, Some, IsTrue, false}
+use Rattle.std.specs.Prelude.{◌≡◌, ◌<◌, ◌≤◌, ℕ, List, [], ◌∷◌, Option, None, Some, IsTrue, false}
 use Rattle.wasm_operators_enums.specs.declared.numeric.NumericOperator.{NumericOperator}
 use Rattle.wasm_operators_enums.specs.numbers.Table.{numeric_info}
 use Rattle.wasm_operator_validator_rules.specs.Numbers.{class_of, taken_by, given_by, numbers}
@@ -19,6 +19,8 @@ use Rattle.wasm_operator_validator_rules.specs.InstructionTypes.{instruction_typ
 use Rattle.wasm_operator_validator_rules.specs.Row.{TableRow, GroupRow, IsEnabled, after}
 use Rattle.wasm_operator_validator_fast_path.specs.Tables.{Allows}
 use Rattle.wasm_operator_validator_fast_path.specs.Values.{number_of, types}
+use Rattle.wasm_types.specs.decoding.Numbers.{GivesAt}
+use Rattle.wasm_operators_encoding.specs.immediates.MemoryArguments.{argument, memory_argument}
 use Rattle.wasm_operator_validator_fast_path.specs.declared.shape.Shape.{Shape}
 use Rattle.wasm_operator_validator_fast_path.specs.declared.shape.Shape.TheVariants as shape
 
@@ -55,6 +57,14 @@ IsShape (shape.Load natural t) code = IsAccessAt load code natural t
 IsShape (shape.Store natural t) code = IsAccessAt store code natural t
 IsShape (shape.Change a b) code = IsNumberAt None code (a ∷ []) (b ∷ [])
 IsShape (shape.Combine a b) code = IsNumberAt None code (a ∷ a ∷ []) (b ∷ [])
+
+-- the argument of an access to memory 0, of this natural alignment, stands from one offset to another
+pub record IsArgumentAt (features : ℕ) (text : List ℕ) (i natural j : ℕ) : Type 0 where
+  pub align : ℕ
+  pub offset : ℕ
+  pub read : GivesAt (memory_argument features Plain natural) text i (argument align natural 0 None offset) j
+  pub aligned : align ≤ natural
+  pub reached : offset < 0x1_0000_0000
 
 -- behind the prefix `fc` this code is that of a conversion between these types
 abbrev pub IsSaturating : Option (ℕ × ℕ) → ℕ → Type 0

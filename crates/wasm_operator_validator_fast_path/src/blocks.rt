@@ -101,12 +101,30 @@ fn block_at(tables: &Tables, bytes: &[u8], at: usize) -> Option<(Sig, usize)>
     }
 }
 
+// A frame begins that takes nothing.
+#[inline(always)]
+fn enter_bare(kind: FrameKind, sig: Sig, stack: &mut Stack, opens: &mut Opens) -> bool
+    requires { sig.param_count ≡ 0 }
+    ensures { result ≡ true → (flat : List ℕ) → Enters flat kind sig stack.old stack.new
+        opens.old.inner opens.old.outer opens.new.inner opens.new.outer }
+{
+    let base = stack.enter();
+    if !opens.outer.push(opens.inner) {
+        return false;
+    }
+    opens.inner = Open { kind, base, sig };
+    true
+}
+
 // A frame begins.
 #[inline(always)]
 fn enter(tables: &Tables, kind: FrameKind, sig: Sig, stack: &mut Stack, opens: &mut Opens) -> bool
     ensures { result ≡ true → Enters tables.now.known.flat.items kind sig stack.old stack.new
         opens.old.inner opens.old.outer opens.new.inner opens.new.outer }
 {
+    if sig.param_count == 0 {
+        return enter_bare(kind, sig, stack, opens);
+    }
     let Some(params) = part(tables.known.flat.as_slice(), sig.params, sig.param_count) else {
         return false;
     };
@@ -249,6 +267,9 @@ fn leave(tables: &Tables, frame: &Open, stack: &mut Stack) -> bool
 {
     if !may_close(frame) {
         return false;
+    }
+    if frame.sig.result_count == 0 {
+        return stack.leave(frame.base);
     }
     let Some(results) = part(
         tables.known.flat.as_slice(),

@@ -4,10 +4,10 @@ ghost use Rattle.std.specs.Prelude.{◌≡◌, ◌<◌, ◌≤◌, ◌∷◌, �
 ghost use Rattle.wasm_operators_frequent.specs.Short.{Begins};
 ghost use Rattle.wasm_operator_validator_fast_path.specs.Loop.{Leads, all};
 
+use crate::indices::{i32_end, i64_end};
 use crate::stack::Stack;
 use crate::tables::{Opens, Tables};
 use wasm_operators_frequent::{f32_at, f64_at};
-use wasm_types_decoding::{short_i32_at, short_i64_at};
 
 /// A constant of type i32.
 #[inline(always)]
@@ -26,7 +26,7 @@ pub(crate) fn i32_const(
 {
     let _opens = opens;
     let _tables = tables;
-    let Some((_value, end)) = short_i32_at(bytes, at + 1) else {
+    let Some(end) = i32_end(bytes, at + 1) else {
         return None;
     };
     if !stack.put(0) {
@@ -52,7 +52,7 @@ pub(crate) fn i64_const(
 {
     let _opens = opens;
     let _tables = tables;
-    let Some((_value, end)) = short_i64_at(bytes, at + 1) else {
+    let Some(end) = i64_end(bytes, at + 1) else {
         return None;
     };
     if !stack.put(1) {

@@ -1,14 +1,20 @@
 //! Branches, calls, and operators that take any operand.
 
 ghost use Rattle.std.specs.Prelude.{◌≡◌, ◌<◌, ◌≤◌, ◌∷◌, ℕ, List, length, [], IfSome};
+ghost use Rattle.wasm_types.specs.decoding.Numbers.{GivesAt};
+ghost use Rattle.wasm_operators_immediates.specs.Kinds.{Tables as TableSpace};
+ghost use Rattle.wasm_operators_encoding.specs.immediates.Bytes.{index_or_zero};
+ghost use Rattle.wasm_operators_encoding.specs.immediates.Immediates.{may_index};
 ghost use Rattle.wasm_operators_frequent.specs.Short.{Begins};
 ghost use Rattle.wasm_operator_validator_fast_path.specs.Loop.{Leads, all};
 
+use crate::indices::index_at;
 use crate::labels::labels_at;
 use crate::lookups::{frame_at, label, part};
 use crate::stack::Stack;
 use crate::tables::{Opens, Tables};
 use wasm_operators_frequent::zero_at;
+use wasm_types::WasmFeatures;
 use wasm_types_decoding::short_u32_at;
 
 /// Nothing.
@@ -176,7 +182,13 @@ pub(crate) fn br_if(
     let Some(types) = label(tables.known.flat.as_slice(), frame.kind, frame.sig) else {
         return None;
     };
-    if !stack.take(0) || !stack.take_all(types) || !stack.put_all(types) {
+    if !stack.take(0) {
+        return None;
+    }
+    if types.len() == 0 {
+        return Some(end);
+    }
+    if !stack.take_all(types) || !stack.put_all(types) {
         return None;
     }
     Some(end)
@@ -203,8 +215,14 @@ pub(crate) fn br_table(
     if count as usize > bytes.len() {
         return None;
     }
-    let Some((types, end)) = labels_at(tables.known.flat.as_slice(), bytes, first, count, opens)
-    else {
+    let Some((types, end)) = labels_at(
+        *tables.known.flat.allocator(),
+        tables.known.flat.as_slice(),
+        bytes,
+        first,
+        count,
+        opens,
+    ) else {
         return None;
     };
     let Some(results) = part(
@@ -280,7 +298,7 @@ pub(crate) fn call(
     ensures inside { IfSome result (λ end. end ≤ length bytes.now) }
 {
     let _opens = opens;
-    let Some((index, end)) = short_u32_at(bytes, at + 1) else {
+    let Some((index, end)) = index_at(bytes, at + 1) else {
         return None;
     };
     let index = index as usize;
@@ -307,6 +325,27 @@ pub(crate) fn call(
     Some(end)
 }
 
+// The offset behind the index 0 of a table. Linkers write it in five bytes, which the features may allow.
+#[inline(always)]
+fn first_table_at(bytes: &[u8], at: usize, features: WasmFeatures) -> Option<usize>
+    requires { at ≤ length bytes.now }
+    ensures { IfSome result (λ end. GivesAt (index_or_zero (may_index features.0 TableSpace)) bytes.now at 0 end) }
+{
+    if let Some((_table, end)) = zero_at(bytes, at) {
+        return Some(end);
+    }
+    if !features.call_indirect_overlong() {
+        return None;
+    }
+    let Some((table, end)) = index_at(bytes, at) else {
+        return None;
+    };
+    if table != 0 {
+        return None;
+    }
+    Some(end)
+}
+
 /// A call through table 0.
 #[inline(always)]
 pub(crate) fn call_indirect(
@@ -323,10 +362,10 @@ pub(crate) fn call_indirect(
     ensures inside { IfSome result (λ end. end ≤ length bytes.now) }
 {
     let _opens = opens;
-    let Some((index, middle)) = short_u32_at(bytes, at + 1) else {
+    let Some((index, middle)) = index_at(bytes, at + 1) else {
         return None;
     };
-    let Some((_table, end)) = zero_at(bytes, middle) else {
+    let Some(end) = first_table_at(bytes, middle, tables.features) else {
         return None;
     };
     let index = index as usize;

@@ -23,6 +23,7 @@ use crate::stack::Stack;
 use crate::tables::{Open, Opens, Sig, Tables};
 use crate::variables::{global_get, global_set, local_get, local_set, local_tee};
 use std::alloc::Global;
+use std::mem;
 use wasm_operator_validator_state::FrameKind;
 use wasm_types_decoding::short_u32_at;
 
@@ -136,13 +137,18 @@ fn prefixed(
 }
 
 /// Takes all operators.
+#[inline(always)]
 fn run(tables: &Tables, bytes: &[u8], start: usize, stack: &mut Stack, opens: &mut Opens) -> bool
     requires { start ≤ length bytes.now }
     ensures { result ≡ true → (z : Settings) (g : Context) → Fits z bytes.now tables.now g
         → Goes z bytes.now tables.now g start (all opens.old) stack.old }
 {
+    if bytes.len() == 0 {
+        return false;
+    }
+    let last = bytes.len() - 1;
     let mut at = start;
-    while at < bytes.len() && at + 1 < bytes.len() {
+    while at < last {
         let Some(end) = next(tables, bytes, at, stack, opens) else {
             return false;
         };
@@ -173,6 +179,7 @@ fn body_frame(results: Sig) -> Open
 pub struct Room {
     stack: Stack,
     opens: Opens,
+    alloc: Global,
 }
 
 impl Room {
@@ -189,6 +196,7 @@ impl Room {
                 }),
                 outer: Pile::new(alloc),
             },
+            alloc,
         }
     }
 
@@ -199,12 +207,17 @@ impl Room {
         ensures { result ≡ true → (z : Settings) (g : Context) → Fits z bytes.now tables.now g → (params : ℕ)
             → (c : Code) × SpelledExpression z c (drop start bytes.now) × IsBody g params c }
     {
-        let places = bytes.len() - start + 64;
+        // a body that has more operands at a time is left to the validator of operators
+        let places = (bytes.len() - start + 64).min(8192);
         let frame = body_frame(tables.results);
         self.opens.inner = frame;
         if !self.opens.outer.begin(0, frame) || !self.stack.begin(places) {
             return false;
         }
-        run(tables, bytes, start, &mut self.stack, &mut self.opens)
+        // taken out, so that no pointer leads to what the loop counts by, and it can stay in registers
+        let mut stack = mem::replace(&mut self.stack, Stack::new(self.alloc));
+        let valid = run(tables, bytes, start, &mut stack, &mut self.opens);
+        self.stack = stack;
+        valid
     }
 }

@@ -7,12 +7,14 @@ ghost use Rattle.wasm_operator_validator_fast_path.specs.Loop.{all};
 
 use crate::lookups::{frame_at, label};
 use crate::tables::Opens;
+use std::alloc::Global;
 use wasm_operator_validator_locals::labels::{Met, is_known, keep};
 use wasm_types_decoding::short_u32_at;
 
 /// The types that all of so many labels and one more take, and the offset behind these. A label that was met is not asked again.
 #[inline(never)]
 pub(crate) fn labels_at<'a>(
+    alloc: Global,
     flat: &'a [u8],
     bytes: &[u8],
     at: usize,
@@ -29,7 +31,7 @@ pub(crate) fn labels_at<'a>(
         return None;
     };
     let mut end = next;
-    let mut met = Met::new();
+    let mut met = Met::new(alloc);
     for _ in 0..count {
         let Some((depth, next)) = short_u32_at(bytes, end) else {
             return None;

@@ -11,6 +11,7 @@
 mod blocks;
 mod constants;
 mod control;
+mod indices;
 mod judge;
 mod known;
 mod labels;

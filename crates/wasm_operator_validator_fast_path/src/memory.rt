@@ -6,9 +6,10 @@ ghost use Rattle.wasm_operator_validator_fast_path.specs.Loop.{Leads, all};
 ghost use Rattle.wasm_operator_validator_rules.specs.Accesses.{load as load_of, store as store_of};
 ghost use Rattle.wasm_operator_validator_fast_path.specs.Shapes.{IsAccessAt};
 
+use crate::indices::argument_at;
 use crate::stack::Stack;
 use crate::tables::{Opens, Tables};
-use wasm_operators_frequent::{access_at, zero_at};
+use wasm_operators_frequent::zero_at;
 use wasm_types_decoding::short_u32_at;
 
 /// A load.
@@ -35,12 +36,9 @@ pub(crate) fn load(
     if !tables.known.memory {
         return None;
     }
-    let Some((access, end)) = access_at(bytes, at + 1, tables.features) else {
+    let Some(end) = argument_at(bytes, at + 1, natural, tables.features) else {
         return None;
     };
-    if access.0 > natural || access.1 >= 0x1_0000_0000 {
-        return None;
-    }
     if !stack.change(0, gives) {
         return None;
     }
@@ -71,12 +69,9 @@ pub(crate) fn store(
     if !tables.known.memory {
         return None;
     }
-    let Some((access, end)) = access_at(bytes, at + 1, tables.features) else {
+    let Some(end) = argument_at(bytes, at + 1, natural, tables.features) else {
         return None;
     };
-    if access.0 > natural || access.1 >= 0x1_0000_0000 {
-        return None;
-    }
     if !stack.take(takes) || !stack.take(0) {
         return None;
     }

@@ -4,6 +4,7 @@ ghost use Rattle.std.specs.Prelude.{◌≡◌, ◌<◌, ◌≤◌, ◌∷◌, �
 ghost use Rattle.wasm_operators_frequent.specs.Short.{Begins};
 ghost use Rattle.wasm_operator_validator_fast_path.specs.Loop.{Leads, all};
 
+use crate::indices::index_at;
 use crate::stack::Stack;
 use crate::tables::{Opens, Tables};
 use wasm_types_decoding::short_u32_at;
@@ -105,7 +106,7 @@ pub(crate) fn global_get(
     ensures inside { IfSome result (λ end. end ≤ length bytes.now) }
 {
     let _opens = opens;
-    let Some((index, end)) = short_u32_at(bytes, at + 1) else {
+    let Some((index, end)) = index_at(bytes, at + 1) else {
         return None;
     };
     let index = index as usize;
@@ -136,7 +137,7 @@ pub(crate) fn global_set(
     ensures inside { IfSome result (λ end. end ≤ length bytes.now) }
 {
     let _opens = opens;
-    let Some((index, end)) = short_u32_at(bytes, at + 1) else {
+    let Some((index, end)) = index_at(bytes, at + 1) else {
         return None;
     };
     let index = index as usize;

@@ -47,6 +47,11 @@ impl<T: Copy + Drop> Tape<T> {
         }
     }
 
+    /// The allocator that its memory is of.
+    pub fn allocator(&self) -> Global {
+        self.alloc
+    }
+
     /// The items, the top last.
     #[inline(always)]
     pub fn as_slice(&self) -> &[T]

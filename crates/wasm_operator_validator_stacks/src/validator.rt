@@ -12,6 +12,7 @@ ghost use Rattle.wasm_operator_validator_stacks.specs.Layout.{state_of, IsLayere
 ghost use Rattle.wasm_operator_validator_stacks.specs.Peeking.{operand_at};
 
 use crate::fitting::{is_fit, is_same, not_taken, type_mismatch};
+use std::alloc::Global;
 use std::marker::Model;
 use wasm_operator_validator_locals::Locals;
 use wasm_operator_validator_locals::inits::LocalInits;
@@ -58,6 +59,11 @@ impl OperatorValidator {
         ensures { IsTrue result ↔ (self.now.opens ≡ []) }
     {
         self.control.as_slice().is_empty()
+    }
+
+    /// The allocator that its memory is of.
+    pub fn allocator(&self) -> Global {
+        self.operands.allocator()
     }
 
     /// The features that operators may need.

@@ -15,6 +15,7 @@ pub mod Payloads
 pub mod Parsing
 pub mod Walking
 -- Laws.
+pub mod SettingsLaws
 pub mod WalkLaws
 pub mod CallLaws
 -- Worked rows.

@@ -5,6 +5,7 @@ use Rattle.wasm_types.specs.decoding.Decoder.{State, Outcome, Done, Short, Fault
 use Rattle.wasm_types.specs.decoding.Leb.{u32}
 use Rattle.wasm_types.specs.decoding.ErrorValue.{ErrorValue}
 use Rattle.wasm_types.specs.reader.Reading.{Fails}
+use Rattle.wasm_types.specs.settings.Settings.{Settings}
 use Rattle.wasm_sections_parser.specs.declared.frame.Frame.{Frame}
 use Rattle.wasm_sections_parser.specs.declared.frame.Frame.TheVariants as frames
 use Rattle.wasm_sections.specs.declared.payload.Payload.{Payload}
@@ -74,6 +75,31 @@ IsPayloadOf (frames.Section id b) p = IsSectionOf id b p
 IsPayloadOf (frames.CodeStart n r k) p = p ≡ payloads.CodeSectionStart n r k
 IsPayloadOf (frames.CodeEntry b) p = p ≡ payloads.CodeSectionEntry b
 IsPayloadOf (frames.End place) p = p ≡ payloads.End place
+
+-- the same bytes by other settings
+abbrev pub set : Settings → State → State
+set z b = record b { settings = z }
+
+-- The same payload, whose items are read by these settings. What reads a body is set by whoever judges it.
+abbrev pub read_by : Settings → Payload → Payload
+read_by z (payloads.TypeSection s) = payloads.TypeSection (record s { reader = set z s.reader })
+read_by z (payloads.ImportSection s) = payloads.ImportSection (record s { reader = set z s.reader })
+read_by z (payloads.FunctionSection s) = payloads.FunctionSection (record s { reader = set z s.reader })
+read_by z (payloads.TableSection s) = payloads.TableSection (record s { reader = set z s.reader })
+read_by z (payloads.MemorySection s) = payloads.MemorySection (record s { reader = set z s.reader })
+read_by z (payloads.TagSection s) = payloads.TagSection (record s { reader = set z s.reader })
+read_by z (payloads.GlobalSection s) = payloads.GlobalSection (record s { reader = set z s.reader })
+read_by z (payloads.ExportSection s) = payloads.ExportSection (record s { reader = set z s.reader })
+read_by z (payloads.ElementSection s) = payloads.ElementSection (record s { reader = set z s.reader })
+read_by z (payloads.DataSection s) = payloads.DataSection (record s { reader = set z s.reader })
+read_by z (payloads.Version n e r) = payloads.Version n e r
+read_by z (payloads.StartSection n r) = payloads.StartSection n r
+read_by z (payloads.DataCountSection n r) = payloads.DataCountSection n r
+read_by z (payloads.CodeSectionStart n r k) = payloads.CodeSectionStart n r k
+read_by z (payloads.CodeSectionEntry body) = payloads.CodeSectionEntry body
+read_by z (payloads.CustomSection c) = payloads.CustomSection c
+read_by z (payloads.UnknownSection i c r) = payloads.UnknownSection i c r
+read_by z (payloads.End place) = payloads.End place
 
 -- why a frame is no payload: the front of a section's contents
 abbrev pub IsRefusedAs : Frame → ErrorValue → Type 0

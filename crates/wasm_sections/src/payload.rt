@@ -2,7 +2,8 @@
 
 ghost use Rattle.std.specs.Prelude.{◌≡◌, false, IfErr, MatchResult};
 ghost use Rattle.wasm_types.specs.reader.Reading.{Fails, IsNotMemory};
-ghost use Rattle.wasm_sections.specs.Payloads.{front_of, is_early, IsSectionOf, IsPayloadOf, IsRefusedAs};
+ghost use Rattle.wasm_types.specs.settings.Limits.{IsWithinCeilings};
+ghost use Rattle.wasm_sections.specs.Payloads.{front_of, is_early, read_by, IsSectionOf, IsPayloadOf, IsRefusedAs};
 
 use crate::counts::{read_items, read_only_number};
 use crate::{
@@ -14,7 +15,7 @@ use std::alloc::Global;
 use std::ops::Range;
 use wasm_operators_bodies::FunctionBody;
 use wasm_sections_parser::{CustomSectionReader, Encoding, Frame};
-use wasm_types::{BinaryReader, Result};
+use wasm_types::{BinaryReader, Limits, Result, WasmFeatures};
 
 /// A piece of a module (WebAssembly 3.0, binary format, modules).
 #[derive(Drop)]
@@ -151,6 +152,59 @@ fn read_late_section<'a>(alloc: Global, id: u8, reader: BinaryReader<'a>) -> Res
 }
 
 impl<'a> Payload<'a> {
+    /// The same payload, whose items are read by these features and limits, whatever its reader had.
+    pub fn read_by(self, features: WasmFeatures, limits: Limits) -> Payload<'a>
+        requires within { IsWithinCeilings limits }
+        ensures { result ≡ read_by (record { features = features.0; limits = limits }) self.entry }
+    {
+        match self {
+            Payload::TypeSection(it) => Payload::TypeSection(it.read_by(features, limits)),
+            Payload::ImportSection(it) => Payload::ImportSection(it.read_by(features, limits)),
+            Payload::FunctionSection(it) => Payload::FunctionSection(it.read_by(features, limits)),
+            Payload::TableSection(it) => Payload::TableSection(it.read_by(features, limits)),
+            Payload::MemorySection(it) => Payload::MemorySection(it.read_by(features, limits)),
+            Payload::TagSection(it) => Payload::TagSection(it.read_by(features, limits)),
+            Payload::GlobalSection(it) => Payload::GlobalSection(it.read_by(features, limits)),
+            Payload::ExportSection(it) => Payload::ExportSection(it.read_by(features, limits)),
+            Payload::ElementSection(it) => Payload::ElementSection(it.read_by(features, limits)),
+            Payload::DataSection(it) => Payload::DataSection(it.read_by(features, limits)),
+            Payload::Version {
+                num,
+                encoding,
+                range,
+            } => Payload::Version {
+                num,
+                encoding,
+                range,
+            },
+            Payload::StartSection { func, range } => Payload::StartSection { func, range },
+            Payload::DataCountSection { count, range } => {
+                Payload::DataCountSection { count, range }
+            }
+            Payload::CodeSectionStart {
+                count,
+                unchecked_range,
+                size,
+            } => Payload::CodeSectionStart {
+                count,
+                unchecked_range,
+                size,
+            },
+            Payload::CodeSectionEntry(body) => Payload::CodeSectionEntry(body),
+            Payload::CustomSection(section) => Payload::CustomSection(section),
+            Payload::UnknownSection {
+                id,
+                contents,
+                range,
+            } => Payload::UnknownSection {
+                id,
+                contents,
+                range,
+            },
+            Payload::End(place) => Payload::End(place),
+        }
+    }
+
     /// The payload that a frame is. Of a section only the count is read, or the number that a start section and a data count
     /// section are; what is read of the items takes memory of `alloc`.
     ///

@@ -12,7 +12,8 @@ use Rattle.wasm_module_validator_type_storage.specs.trees.Groups.{Group}
 use Rattle.wasm_module_validator.specs.declared.lists.Verdict.{Verdict}
 use Rattle.wasm_module_validator.specs.declared.lists.Verdict.TheVariants.{Accepted, Refused}
 use Rattle.wasm_module_validator.specs.declared.validator.State.TheVariants.{Unparsed, Ended, Failed}
-use Rattle.wasm_module_validator.specs.Lists.{IsValidOutsideBodies, IsVerdict, AreVerdicts, state_after}
+use Rattle.wasm_module_validator_rules.specs.Accepts.{IsValidOutsideBodies}
+use Rattle.wasm_module_validator.specs.Lists.{IsVerdict, AreVerdicts, state_after}
 use Rattle.wasm_module_validator.specs.Shown.{Learned}
 
 -- No input has a verdict that is not there, and each that comes has one: also behind a body that was refused, and not behind a section that was.

@@ -22,7 +22,8 @@ use Rattle.wasm_module_validator.specs.declared.lists.Verdict.TheVariants.{Accep
 use Rattle.wasm_module_validator.specs.declared.validator.State.{State}
 use Rattle.wasm_module_validator.specs.declared.validator.State.TheVariants.{Unparsed, Ended, Failed}
 use Rattle.wasm_module_validator.specs.declared.validator.Validator.{Validator}
-use Rattle.wasm_module_validator.specs.Lists.{IsValidOutsideBodies, IsVerdict, goes_on, IsHeldBehind, TakesNoMore, AreVerdicts, state_behind, state_after, AreTold, AreToldUnder, KeepsAll, ShareIds, LeavesGroups}
+use Rattle.wasm_module_validator_rules.specs.Accepts.{IsValidOutsideBodies}
+use Rattle.wasm_module_validator.specs.Lists.{IsVerdict, goes_on, IsHeldBehind, TakesNoMore, AreVerdicts, state_behind, state_after, AreTold, AreToldUnder, KeepsAll, ShareIds, LeavesGroups}
 use Rattle.wasm_module_validator.specs.Methods.{can_reset}
 use Rattle.wasm_module_validator.specs.Shown.{Learned}
 use Rattle.wasm_module_validator.specs.States.{Keeps, KeepsWhere, Leaves, held_by}

@@ -1,7 +1,9 @@
 -- A module is accepted exactly where it is read and each of its bodies is judged valid.
 use Rattle.std.proofs.Common.{◌≡◌, ◌∙◌, ◌⊎◌, ◌≤◌, ◌+◌, ℕ, Bool, true, false, if◌then◌else◌, List, [], length, Result, Ok, Err, refl, sym, ap, subst, arith, inl, inr}
 use Rattle.std.proofs.lemmas.List.{length-map}
+use Rattle.std.specs.Prelude.{◌↔◌}
 use Rattle.wasm_types.specs.decoding.Denials.{Denies, Tells}
+use Rattle.wasm_types.specs.decoding.DenialLaws.{denies_from}
 use Rattle.wasm_types.specs.decoding.ErrorValue.{ErrorValue}
 use Rattle.wasm_types.specs.decoding.declared.error.ErrorKind.{ErrorKind}
 use Rattle.wasm_types.specs.decoding.declared.error.ErrorKind.TheVariants.{EndOfData, MissingFeature, OutOfMemory, Failed, Other}
@@ -11,19 +13,20 @@ use Rattle.wasm_types.specs.settings.Settings.{Settings}
 use Rattle.wasm_types.specs.reader.Reading.{IsNotMemory}
 use Rattle.wasm_module_validator_section_order.specs.items.AddingLaws.{denies_each}
 use Rattle.wasm_module_validator_section_order.specs.declared.items.bodies.Body.{Body}
-use Rattle.wasm_module_validator_rules.specs.Accepts.{AcceptsUnder, Judges}
+use Rattle.wasm_module_validator_rules.specs.Accepts.{AcceptsUnder, IsValidOutsideBodies, Judges}
 use Rattle.wasm_module_validator_rules.specs.Spaces.{types_behind}
 use Rattle.wasm_module_validator_rules.specs.Syntax.{ModuleTree}
 use Rattle.wasm_module_validator_section_order.specs.rules_in_order.Steps.{SoFar}
 use Rattle.wasm_module_validator_drivers.specs.state.invariant.Standing.{Stands}
 use Rattle.wasm_module_validator_drivers.specs.state.Items.{no_items}
 use Rattle.wasm_module_validator_type_storage.specs.trees.Groups.{Group, count, tree_of}
-use Rattle.wasm_module_validator_drivers.specs.declarations.Total.{TellsWithinTotal}
+use Rattle.wasm_module_validator_drivers.specs.declarations.Total.{IsPastTotal, TellsWithinTotal}
 use Rattle.wasm_module_validator_drivers.specs.declarations.TotalLaws.{within_total}
 use Rattle.wasm_module_validator_section_order.specs.frames.framed.laws.Complete.{module_comes}
 use Rattle.wasm_module_validator_section_order.specs.frames.framed.laws.Accepted.{accepted_comes, accepted_exactly, bodies_of_functions}
+use Rattle.wasm_module_validator_section_order.specs.frames.framed.laws.Outside.{outside_exactly}
 use Rattle.wasm_module_validator_drivers.specs.payloads.Progress.{Kept, Progress, IsAt, are_same, kept_groups}
-use Rattle.wasm_module_validator_drivers.specs.reading.Reading.{IsReadAs}
+use Rattle.wasm_module_validator_drivers.specs.reading.Reading.{HasGroupIn, IsReadAs}
 use Rattle.wasm_module_validator_drivers.specs.judging.Bodies.{AreBodies}
 use Rattle.wasm_module_validator.specs.declared.validator.State.{State}
 use Rattle.wasm_module_validator.specs.declared.validator.State.TheVariants as states
@@ -41,6 +44,13 @@ denied Other P n d = d
 -- ---- modules
 
 module _ (z : Settings) (text : List ℕ) where
+  -- bytes are valid outside their bodies exactly if they are read
+  pub outside_is_read : IsValidOutsideBodies z text ↔ ((q : SoFar) × IsReadAs z text q)
+  outside_is_read = (
+    λ a. let (q, xs, is, judged) = (outside_exactly z text).0 a in (q, (xs, is, judged)),
+    λ (q, (xs, is, judged)). (outside_exactly z text).1 (q, xs, is, judged),
+  )
+
   pub as_many_bodies : (q : SoFar) → IsReadAs z text q → length q.bodies ≡ length q.tree.functions
   as_many_bodies q (xs, is, judged) = bodies_of_functions z text xs q is judged
 
@@ -86,9 +96,17 @@ alone_told z k none w Has r P h =
 -- behind a function that was refused it has ended, but where there was no memory
 pub left_behind : (X : Type 0) (groups : List Group) (z : Settings) (bytes : List ℕ) (e : ErrorValue) (s : State) → IsLeft e.kind s → (q : SoFar) × IsReadAs z bytes q
     → Denies e.kind (AcceptsUnder z bytes) → Leaves {X = X} groups z bytes (Err e) s
-left_behind X groups z bytes e s (inl (is, n)) read d = inl (is, n, read, denied e.kind (AcceptsUnder z bytes) n d)
+left_behind X groups z bytes e s (inl (is, n)) read d = inl (is, n, (outside_is_read z bytes).1 read, denied e.kind (AcceptsUnder z bytes) n d)
 left_behind X groups z bytes e s (inr (is, memory)) read d =
-    inr (is, inr (subst (λ (k : ErrorKind). Denies k ((q : SoFar) × IsReadAs z bytes q)) (sym memory) tt))
+    inr (is, inr (subst (λ (k : ErrorKind). Denies k (IsValidOutsideBodies z bytes)) (sym memory) tt))
+
+-- if it was not read it has failed
+pub left_unread : (X : Type 0) (groups : List Group) (z : Settings) (bytes : List ℕ) (e : ErrorValue) (s : State) → s ≡ states.Failed
+    → IsPastTotal groups (no_items z) (HasGroupIn z bytes) e ⊎ Denies e.kind ((q : SoFar) × IsReadAs z bytes q)
+    → Leaves {X = X} groups z bytes (Err e) s
+left_unread X groups z bytes e s is (inl past) = inr (is, inl past)
+left_unread X groups z bytes e s is (inr d) =
+    inr (is, inr (denies_from e.kind ((q : SoFar) × IsReadAs z bytes q) (IsValidOutsideBodies z bytes) (outside_is_read z bytes).0 d))
 
 -- a validator that has failed has not ended
 pub failed_not_ended : states.Failed ≡ states.Ended → ⊥

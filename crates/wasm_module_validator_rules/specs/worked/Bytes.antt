@@ -1,7 +1,7 @@
 -- Bytes that are accepted and bytes that are not, by their sections.
 use Rattle.std.specs.Prelude.{ℕ, List, [], ◌∷◌, ◌++◌}
 use Rattle.wasm_types.specs.settings.Features.{Exceptions}
-use Rattle.wasm_module_validator_rules.specs.Accepts.{AcceptsUnder}
+use Rattle.wasm_module_validator_rules.specs.Accepts.{AcceptsUnder, IsValidOutsideBodies}
 use Rattle.wasm_module_validator_rules.specs.worked.Trees.{everything, without}
 
 -- the magic number, and version 1
@@ -27,6 +27,10 @@ code_section = 0x0a ∷ 0x04 ∷ 0x01 ∷ 0x02 ∷ 0x00 ∷ 0x0b ∷ []
 -- two such bodies
 abbrev pub two_bodies_section : List ℕ
 two_bodies_section = 0x0a ∷ 0x07 ∷ 0x02 ∷ 0x02 ∷ 0x00 ∷ 0x0b ∷ 0x02 ∷ 0x00 ∷ 0x0b ∷ []
+
+-- one body of no bytes, which is none
+abbrev pub empty_body_section : List ℕ
+empty_body_section = 0x0a ∷ 0x02 ∷ 0x01 ∷ 0x00 ∷ []
 
 -- one data segment is counted, or two are; there is one, which is passive and without bytes
 abbrev pub count_section : List ℕ
@@ -55,6 +59,9 @@ pub record BytesWorked : Type 0 where
   pub function : Accepted (header ++ procedure_section ++ function_section ++ code_section)
   pub code_missing : Refused (header ++ procedure_section ++ function_section)
   pub body_too_many : Refused (header ++ procedure_section ++ function_section ++ two_bodies_section)
+  pub body_empty : Refused (header ++ procedure_section ++ function_section ++ empty_body_section)
+  pub body_aside : IsValidOutsideBodies everything (header ++ procedure_section ++ function_section ++ empty_body_section)
+  pub no_body_aside : IsValidOutsideBodies everything (header ++ procedure_section ++ function_section) → ⊥
   pub uncounted : Accepted (header ++ data_section)
   pub counted : Accepted (header ++ count_section ++ data_section)
   pub segments_missing : Refused (header ++ count_section)

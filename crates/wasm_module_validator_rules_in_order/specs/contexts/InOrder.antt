@@ -124,8 +124,8 @@ IsDataInTurn z m before x = IsValidData z (context_so_far (data_read m before)) 
 
 -- ---- modules
 
--- The module is valid as it is read: each item where it stands; the bodies where all functions that code may refer to are known.
-pub record IsValidInOrder (z : Settings) (m : ModuleTree) : Type 0 where
+-- The module is valid as it is read: each item in its turn; and of its bodies this holds.
+pub record IsValidInOrderWith (Bodies : Type 0) (z : Settings) (m : ModuleTree) : Type 0 where
   pub types : AreValidGroups z [] m.types (types_behind [] m.types)
   pub imports : InTurn (IsImportInTurn z m) [] m.imports
   pub functions : InTurn (IsFunctionInTurn z m) [] m.functions
@@ -137,6 +137,10 @@ pub record IsValidInOrder (z : Settings) (m : ModuleTree) : Type 0 where
   pub start : IfThere (IsValidStart (context_so_far (exports_read m m.exports))) m.start
   pub element_segments : InTurn (IsElementInTurn z m) [] m.element_segments
   pub data_count : IfThere (λ n. Has z.features BulkMemory) m.data_count
-  pub code : AllZip (HasValidBody z (module_of (data_count_read m))) m.functions m.code
+  pub code : Bodies
   pub data_segments : InTurn (IsDataInTurn z m) [] m.data_segments
   pub limits : IsWithinLimits z (module_of m) m
+
+-- so with bodies that are valid after all functions are known that code may refer to
+abbrev pub IsValidInOrder : Settings → ModuleTree → Type 0
+IsValidInOrder z m = IsValidInOrderWith (AllZip (HasValidBody z (module_of (data_count_read m))) m.functions m.code) z m

@@ -10,9 +10,9 @@ use Rattle.wasm_sections_parser.specs.Steps.{Shape, version, custom, code, entry
 use Rattle.wasm_sections_parser.specs.Steps as frame
 use Rattle.wasm_module_validator_rules.specs.Syntax.{Function, ModuleTree}
 use Rattle.wasm_module_validator_rules.specs.Spaces.{module_of}
-use Rattle.wasm_module_validator_rules.specs.Binary.{SpelledFunction, SpelledSections, contents, entries_of}
+use Rattle.wasm_module_validator_rules.specs.Binary.{SpelledFunction, SpelledSections, SpelledSectionsWith, SpelledCode, contents, entries_of}
 use Rattle.wasm_module_validator_rules.specs.Valid.{Each, HasValidBody, IsWithinLimits}
-use Rattle.wasm_module_validator_rules_in_order.specs.contexts.InOrder.{no_items, IsValidInOrder}
+use Rattle.wasm_module_validator_rules_in_order.specs.contexts.InOrder.{no_items, IsValidInOrder, IsValidInOrderWith}
 use Rattle.wasm_module_validator_rules_in_order.specs.contexts.laws.Lists.{each_joined}
 use Rattle.wasm_module_validator_rules_in_order.specs.Sections.{Section, number, place, code_place, items, before, up_to, IsUnread}
 use Rattle.wasm_module_validator_rules_in_order.specs.Sections as section
@@ -145,7 +145,7 @@ module _ (z : Settings) where
 -- ---- whole modules
 
 module _ (z : Settings) (m : ModuleTree) where
-  sections_of_order : IsValidInOrder z m → (s : Section) → IsValidSection z s m
+  sections_of_order : {Bodies : Type 0} → IsValidInOrderWith Bodies z m → (s : Section) → IsValidSection z s m
   sections_of_order v section.types = v.types
   sections_of_order v section.imports = v.imports
   sections_of_order v section.functions = v.functions
@@ -159,8 +159,9 @@ module _ (z : Settings) (m : ModuleTree) where
   sections_of_order v section.data_count = v.data_count
   sections_of_order v section.data_segments = v.data_segments
 
-  pub order_by_sections : IsValidInOrder z m ↔ (((s : Section) → IsValidSection z s m) × AllZip (HasValidBody z (module_of m)) m.functions m.code × IsWithinLimits z (module_of m) m)
-  order_by_sections = (
+  pub order_by_sections_with : (Bodies : Type 0)
+      → IsValidInOrderWith Bodies z m ↔ (((s : Section) → IsValidSection z s m) × Bodies × IsWithinLimits z (module_of m) m)
+  order_by_sections_with Bodies = (
     λ v. (sections_of_order v, v.code, v.limits),
     λ h. record {
       types = h.0 section.types;
@@ -180,8 +181,11 @@ module _ (z : Settings) (m : ModuleTree) where
     },
   )
 
+  pub order_by_sections : IsValidInOrder z m ↔ (((s : Section) → IsValidSection z s m) × AllZip (HasValidBody z (module_of m)) m.functions m.code × IsWithinLimits z (module_of m) m)
+  order_by_sections = order_by_sections_with (AllZip (HasValidBody z (module_of m)) m.functions m.code)
+
   module _ (ps : _) where
-    sections_of_text : SpelledSections z m ps → (s : Section) → SpelledSection z s m (contents (number s) ps)
+    sections_of_text : {Bodies : List (List ℕ) → Type 0} → SpelledSectionsWith Bodies z m ps → (s : Section) → SpelledSection z s m (contents (number s) ps)
     sections_of_text v section.types = v.types
     sections_of_text v section.imports = v.imports
     sections_of_text v section.functions = v.functions
@@ -195,8 +199,9 @@ module _ (z : Settings) (m : ModuleTree) where
     sections_of_text v section.data_count = v.data_count
     sections_of_text v section.data_segments = v.data_segments
 
-    pub text_by_sections : SpelledSections z m ps ↔ (((s : Section) → SpelledSection z s m (contents (number s) ps)) × AllZip (SpelledFunction z) m.code (entries_of ps))
-    text_by_sections = (
+    pub text_by_sections_with : (Bodies : List (List ℕ) → Type 0)
+        → SpelledSectionsWith Bodies z m ps ↔ (((s : Section) → SpelledSection z s m (contents (number s) ps)) × Bodies (entries_of ps))
+    text_by_sections_with Bodies = (
       λ v. (sections_of_text v, v.code),
       λ h. record {
         types = h.0 section.types;
@@ -216,6 +221,9 @@ module _ (z : Settings) (m : ModuleTree) where
       },
     )
 
+    pub text_by_sections : SpelledSections z m ps ↔ (((s : Section) → SpelledSection z s m (contents (number s) ps)) × AllZip (SpelledFunction z) m.code (entries_of ps))
+    text_by_sections = text_by_sections_with (SpelledCode z m)
+
   -- whatever the code is
   module _ (cs : List Function) where
     pub within_with_code : IsWithinLimits z (module_of m) m ↔ IsWithinLimits z (module_of (record m { code = cs })) (record m { code = cs })
@@ -227,16 +235,21 @@ code_aside m cs s = refl
 -- ---- frames of modules
 
 -- what was judged is valid in order, with bodies that are
-pub judged_in_order : (z : Settings) (q : SoFar) (cs : List Function) → IsJudged z q → AllZip (HasValidBody z (module_of q.tree)) q.tree.functions cs
-    → IsValidInOrder z (record q.tree { code = cs })
-judged_in_order z q cs j v = (order_by_sections z (record q.tree { code = cs })).1 (
+pub judged_in_order_with : (Bodies : Type 0) (z : Settings) (q : SoFar) (cs : List Function) → IsJudged z q → Bodies
+    → IsValidInOrderWith Bodies z (record q.tree { code = cs })
+judged_in_order_with Bodies z q cs j v = (order_by_sections_with z (record q.tree { code = cs }) Bodies).1 (
   λ s. (valid_up_to z s (record q.tree { code = cs })).1 ((valid_up_to z s q.tree).0 (j.valid s)),
   v,
   (within_with_code z q.tree cs).0 j.within,
 )
 
+pub judged_in_order : (z : Settings) (q : SoFar) (cs : List Function) → IsJudged z q → AllZip (HasValidBody z (module_of q.tree)) q.tree.functions cs
+    → IsValidInOrder z (record q.tree { code = cs })
+judged_in_order z q cs j v = judged_in_order_with (AllZip (HasValidBody z (module_of q.tree)) q.tree.functions cs) z q cs j v
+
 -- the next section of a module that is valid in order comes behind what stands before it
-pub section_comes : (z : Settings) (s : Section) (m : ModuleTree) (p : SoFar) (text : List ℕ) → IsValidInOrder z m → p.tree ≡ before s m → p.last < place s
+pub section_comes : {Bodies : Type 0} (z : Settings) (s : Section) (m : ModuleTree) (p : SoFar) (text : List ℕ) → IsValidInOrderWith Bodies z m
+    → p.tree ≡ before s m → p.last < place s
     → SpelledSection z s m (Some text) → JudgesSection z p s text (record { last = place s; tree = up_to s m; bodies = p.bodies })
 section_comes z s m p text v e l t = record {
   ordered = l;

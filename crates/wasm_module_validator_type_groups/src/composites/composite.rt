@@ -7,6 +7,7 @@ ghost use Rattle.wasm_types.specs.trees.Gates.{Has};
 ghost use Rattle.wasm_types.specs.Entries.{inner_of, composite_of};
 ghost use Rattle.wasm_types.specs.fields.Fields.{function_tree, continuation_tree};
 ghost use Rattle.wasm_types.specs.decoding.declared.error.ErrorKind.TheVariants.{Other};
+ghost use Rattle.wasm_types.specs.reader.Reading.{NeedsNoMemory};
 ghost use Rattle.wasm_module_validator_type_storage.specs.trees.Groups.{count};
 ghost use Rattle.wasm_module_validator_type_storage.specs.trees.BelowIds.{entry_by_id};
 ghost use Rattle.wasm_module_validator_type_groups.specs.composites.Composites.{HasIds, IsFunction, IsInnerValid, IsCompositeValid};
@@ -48,6 +49,7 @@ impl<'a> Check<'a> {
         ensures answer { Tells result (IsInnerValid self.now.types.now.groups self.now.features.0 shared
             (function_tree ty.now)) }
         ensures at { RefusedAt self.now.offset result }
+        ensures memory { NeedsNoMemory result }
     {
         self.check_parts(shared, ty.params())?;
         self.check_parts(shared, ty.results())?;
@@ -63,6 +65,7 @@ impl<'a> Check<'a> {
     fn check_collected(&self, needs_gc: &str, needs_gc_types: &str) -> Result<()>
         ensures answer { Tells result (Has self.now.features.0 Gc × Has self.now.features.0 GcTypes) }
         ensures at { RefusedAt self.now.offset result }
+        ensures memory { NeedsNoMemory result }
     {
         require(self.features.gc(), WasmFeatures::GC, needs_gc, self.offset)?;
         require(
@@ -79,6 +82,7 @@ impl<'a> Check<'a> {
         ensures answer { Tells result (IsInnerValid self.now.types.now.groups self.now.features.0 shared
             (continuation_tree ty.now)) }
         ensures at { RefusedAt self.now.offset result }
+        ensures memory { NeedsNoMemory result }
     {
         require(
             self.features.stack_switching(),
@@ -107,6 +111,7 @@ impl<'a> Check<'a> {
         ensures answer { Tells result (IsInnerValid self.now.types.now.groups self.now.features.0 shared
             (inner_of inner.now)) }
         ensures at { RefusedAt self.now.offset result }
+        ensures memory { NeedsNoMemory result }
     {
         match inner {
             CompositeInnerType::Func(ty) => self.check_function(shared, ty),
@@ -140,6 +145,7 @@ pub fn check_composite_type(
     requires { HasIds types.now.groups features.0 (inner_of ty.now.inner) }
     ensures answer { Tells result (IsCompositeValid types.now.groups features.0 (composite_of ty.now)) }
     ensures at { RefusedAt offset result }
+    ensures memory { NeedsNoMemory result }
 {
     require(
         !ty.shared || features.shared_everything_threads(),

@@ -6,6 +6,7 @@ ghost use Rattle.wasm_types.specs.decoding.declared.error.ErrorKind.TheVariants.
 ghost use Rattle.wasm_types.specs.trees.Each.{EachValue, EachValues, EachStorage, EachFields};
 ghost use Rattle.wasm_types.specs.values.Values.{value_of, storage_of};
 ghost use Rattle.wasm_types.specs.fields.Fields.{field_of};
+ghost use Rattle.wasm_types.specs.reader.Reading.{NeedsNoMemory};
 ghost use Rattle.wasm_module_validator_type_storage.specs.trees.Groups.{count};
 ghost use Rattle.wasm_module_validator_type_storage.specs.trees.BelowIds.{IsIdBelow};
 ghost use Rattle.wasm_module_validator_type_groups.specs.composites.Composites.{WhereCanonical, IsPartValid, ArePartsValid, IsStorageValid, AreFieldsValid};
@@ -41,6 +42,7 @@ impl<'a> Check<'a> {
         ensures answer { Tells result (IsPartValid self.now.types.now.groups self.now.features.0 shared
             (value_of ty.now)) }
         ensures at { RefusedAt self.now.offset result }
+        ensures memory { NeedsNoMemory result }
     {
         check_value_type_features(&self.features, ty, self.offset)?;
         if shared && !self.types.valtype_is_shared(*ty) {
@@ -59,6 +61,7 @@ impl<'a> Check<'a> {
         ensures answer { Tells result (ArePartsValid self.now.types.now.groups self.now.features.0 shared
             (map value_of types.now)) }
         ensures at { RefusedAt self.now.offset result }
+        ensures memory { NeedsNoMemory result }
     {
         for i in 0..types.len() {
             self.check_part(shared, &types[i])?;
@@ -73,6 +76,7 @@ impl<'a> Check<'a> {
         ensures answer { Tells result (IsStorageValid self.now.types.now.groups self.now.features.0 shared
             (storage_of ty.now)) }
         ensures at { RefusedAt self.now.offset result }
+        ensures memory { NeedsNoMemory result }
     {
         match ty {
             StorageType::I8 => Ok(()),
@@ -88,6 +92,7 @@ impl<'a> Check<'a> {
         ensures answer { Tells result (AreFieldsValid self.now.types.now.groups self.now.features.0 shared
             (map field_of fields.now)) }
         ensures at { RefusedAt self.now.offset result }
+        ensures memory { NeedsNoMemory result }
     {
         for i in 0..fields.len() {
             self.check_storage(shared, &fields[i].element_type)?;

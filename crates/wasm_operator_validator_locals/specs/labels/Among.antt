@@ -2,6 +2,10 @@
 use Rattle.std.specs.Prelude.{◌≡◌, ◌⊎◌, ◌==◌, ℕ, Bool, true, List}
 use Rattle.std.specs.List.{list_any}
 
+-- labels that were met
+pub record Labels : Type 0 where
+  pub items : List ℕ
+
 abbrev pub is_among : ℕ → List ℕ → Bool
 is_among l labels = list_any (λ k. k == l) labels
 

@@ -34,3 +34,7 @@ pub record LogRows : Type 0 where
 -- locals that an attempt sets need no note: they do not stay
 abbrev pub SetLocalsAreForgotten : Type 0
 SetLocalsAreForgotten = (l : Log) (s : Stacks) (xs : List ℕ) → l.kept ≤ length s.set → undone l (with_set xs s) ≡ undone l s
+
+-- of an attempt that began with these stacks a log keeps at most as many operands and frames as there were
+abbrev pub KeepsNoMore : Type 0
+KeepsNoMore = (l : Log) (s before : Stacks) → undone l s ≡ before → (length l.popped ≤ length before.operands) × (length l.closed ≤ length before.frames)

@@ -35,7 +35,7 @@ impl RollbackLogAllocations {
 
 /// What one attempt did to the stacks of a validator: operands, open frames, and locals that were set. It is told of each step, in
 /// order; where a step is refused for memory, the log is as before. It keeps of what stood where the attempt began no more than was
-/// taken off since.
+/// taken off since, so at most as many operands and frames as there were (`KeepsNoMore` of `specs/attempts/Worked.antt`).
 #[derive(Drop)]
 pub struct RollbackLog {
     pushed: usize,

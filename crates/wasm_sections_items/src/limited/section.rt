@@ -4,11 +4,12 @@ ghost use Rattle.std.specs.Prelude.{◌≡◌, ◌+◌, length, IfErr, MatchResu
 ghost use Rattle.wasm_types.specs.decoding.Decoder.{Done};
 ghost use Rattle.wasm_types.specs.decoding.Leb.{u32 as u32_decoder};
 ghost use Rattle.wasm_types.specs.reader.Reading.{Fails, IsNotMemory};
+ghost use Rattle.wasm_types.specs.settings.Limits.{IsWithinCeilings};
 
 use std::alloc::Global;
 use std::marker::PhantomData;
 use std::ops::Range;
-use wasm_types::{BinaryReader, FromReader, Result};
+use wasm_types::{BinaryReader, FromReader, Limits, Result, WasmFeatures};
 
 /// A count and as many items, which are read as they are asked for.
 #[derive(Drop)]
@@ -59,6 +60,44 @@ impl<'a, T: FromReader<'a>> SectionLimited<'a, T> {
         } }
     {
         self.reader.range()
+    }
+
+    /// Allows the items these features from here on.
+    pub fn set_features(&mut self, features: WasmFeatures)
+        ensures { self.new ≡ record self.old {
+          reader = record self.old.reader {
+            settings = record { features = features.0; limits = self.old.reader.settings.limits };
+          };
+        } }
+    {
+        self.reader.set_features(features);
+    }
+
+    /// Holds the items to these limits from here on.
+    pub fn set_limits(&mut self, limits: Limits)
+        requires within { IsWithinCeilings limits }
+        ensures { self.new ≡ record self.old {
+          reader = record self.old.reader {
+            settings = record { features = self.old.reader.settings.features; limits = limits };
+          };
+        } }
+    {
+        self.reader.set_limits(limits);
+    }
+
+    /// The same section, whose items are read by these features and limits.
+    pub fn read_by(self, features: WasmFeatures, limits: Limits) -> SectionLimited<'a, T>
+        requires within { IsWithinCeilings limits }
+        ensures { result ≡ record self.entry {
+          reader = record self.entry.reader {
+            settings = record { features = features.0; limits = limits };
+          };
+        } }
+    {
+        let mut section = self;
+        section.set_features(features);
+        section.set_limits(limits);
+        section
     }
 
     /// A reader of the items' bytes.

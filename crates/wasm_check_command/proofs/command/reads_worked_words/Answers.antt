@@ -19,7 +19,7 @@ read = record {
   list_behind = record { names = record { taken = refl; named = refl }; features_are = refl; limits_are = refl };
   list_in_one_word = record { names = record { taken = refl; named = refl }; features_are = refl; limits_are = refl };
   empty_list = record { names = record { taken = refl; named = refl }; features_are = refl; limits_are = refl };
-  two_lists = refl;
+  two_lists = record { names = record { taken = refl; named = refl }; features_are = refl; limits_are = refl };
   list_lacks = refl;
   limits = record { names = record { taken = refl; named = refl }; features_are = refl; limits_are = refl };
   limits_in_one_word = record { names = record { taken = refl; named = refl }; features_are = refl; limits_are = refl };
@@ -32,7 +32,14 @@ read = record {
   more_bytes = refl;
   no_number = refl;
   whole = refl;
-  two_limits = refl;
+  two_limits = record { names = record { taken = refl; named = refl }; features_are = refl; limits_are = refl };
+  no_flag = refl;
+  flag = refl;
+  flag_behind = refl;
+  other_flag = refl;
+  flag_as_file = refl;
+  flag_with_value = refl;
+  two_flags = refl;
 }
 
 pub returns : goal.returns

@@ -1,5 +1,5 @@
 use Rattle.std.proofs.Common.{refl, rules}
-use Rattle.wasm_check_command.specs.FeatureLists.{feature_words}
+use Rattle.wasm_check_lines.specs.FeatureWords.{feature_words}
 use Rattle.wasm_check_command.proofs.FeatureLemmas.{rows_are, named_here, named_nowhere}
 use Rattle.wasm_check_command.proofs.features.feature_named.Goals as goal
 

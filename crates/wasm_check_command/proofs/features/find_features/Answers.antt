@@ -1,13 +1,13 @@
 use Rattle.std.proofs.Common.{◌-◌, length, rules, arith}
-use Rattle.wasm_check_command.specs.FeatureLists.{feature_step, features_of}
+use Rattle.wasm_check_command.specs.FeatureLists.{feature_step, features_along}
 use Rattle.wasm_check_command.specs.Lists.{place_of}
 use Rattle.wasm_check_command.proofs.ListLemmas.{left_all, left_fault, left_last, left_more, words_end, words_go_on, rest_shorter, word_there}
 use Rattle.wasm_check_command.proofs.FeatureLemmas.{unknown_step, known_step}
 use Rattle.wasm_check_command.proofs.features.find_features.Goals as goal
 
 pub loop-turn-init : goal.loop-turn-init
-unfolding features_of
-loop-turn-init c = (search rules, omega arith, rw c.default-features.ensures (left_all feature_step c.args.list.now _))
+unfolding features_along
+loop-turn-init c = (search rules, omega arith, left_all feature_step c.args.list.now c.args.first.0)
 
 pub returns-in_default-clause-set : goal.returns-in_default-clause-set
 returns-in_default-clause-set c =

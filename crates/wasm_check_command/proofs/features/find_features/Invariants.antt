@@ -2,9 +2,9 @@
 use Rattle.std.proofs.Common.{◌+◌, ◌≤◌, length}
 use denote.Text.{Utf8}
 use denote.Shadow.{shadow}
-use Rattle.wasm_check_command.specs.FeatureLists.{feature_step, features_of}
+use Rattle.wasm_check_command.specs.FeatureLists.{feature_step, features_along}
 use Rattle.wasm_check_command.proofs.ListLemmas.{IsLeft}
 use Rattle.wasm_check_command.proofs.features.find_features.Given as goal
 
 abbrev pub invariant-loop-turn : goal.invariant-loop-turn
-invariant-loop-turn l = shadow (Utf8 l.rest) × (length l.rest + l._turn ≤ length l.list) × IsLeft feature_step l.list (features_of l.list) l.rest l.features.0
+invariant-loop-turn l = shadow (Utf8 l.rest) × (length l.rest + l._turn ≤ length l.list) × IsLeft feature_step l.list (features_along l.list l.fn.first.0) l.rest l.features.0

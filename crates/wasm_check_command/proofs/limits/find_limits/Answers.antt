@@ -1,19 +1,17 @@
-use Rattle.std.proofs.Common.{◌-◌, length, rules, arith, subst, sym}
-use Rattle.wasm_types.specs.settings.Limits.{IsWithinCeilings}
-use Rattle.wasm_types.specs.settings.LimitsRowLaws.{default_within}
-use Rattle.wasm_check_command.specs.LimitLists.{limit_step, limits_of}
+use Rattle.std.proofs.Common.{◌-◌, length, rules, arith}
+use Rattle.wasm_check_command.specs.LimitLists.{limit_step, limits_along}
 use Rattle.wasm_check_command.specs.Lists.{place_of}
 use Rattle.wasm_check_command.proofs.ListLemmas.{left_all, left_fault, left_last, left_more, words_end, words_go_on, rest_shorter}
 use Rattle.wasm_check_command.proofs.LimitLemmas.{set_step, wrong_step}
 use Rattle.wasm_check_command.proofs.limits.find_limits.Goals as goal
 
 pub loop-turn-init : goal.loop-turn-init
-unfolding limits_of
+unfolding limits_along
 loop-turn-init c = (
   search rules,
   omega arith,
-  subst IsWithinCeilings (sym c.default-limits.ensures) default_within,
-  rw c.default-limits.ensures (left_all limit_step c.args.list.now _),
+  c.requires.within,
+  left_all limit_step c.args.list.now c.args.first,
 )
 
 pub returns-in-Err-clause-limits : goal.returns-in-Err-clause-limits

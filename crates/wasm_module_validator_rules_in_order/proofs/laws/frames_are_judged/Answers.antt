@@ -24,4 +24,4 @@ pub returns-clause-valid : goal.returns-clause-valid
 returns-clause-valid c = judged_in_order
 
 pub returns-clause-comes : goal.returns-clause-comes
-returns-clause-comes c = section_comes
+returns-clause-comes c = λ z s m p text v. section_comes z s m p text v

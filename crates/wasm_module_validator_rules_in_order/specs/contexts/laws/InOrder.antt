@@ -17,10 +17,10 @@ use Rattle.wasm_module_validator_rules.specs.Syntax.{ModuleTree}
 use Rattle.wasm_module_validator_rules.specs.Spaces.{FunctionEntry, types_behind, imported, global_of, global_in, function_space, imported_globals, referred_in, referred_in_option, exported_function}
 use Rattle.wasm_module_validator_rules.specs.Spaces.{referred_in_mode, referred_in_items, module_of}
 use Rattle.wasm_module_validator_rules.specs.Valid.{Each, IsValidExport, IsValidTable, HaveOwnNames, AreValidGlobals}
-use Rattle.wasm_module_validator_rules.specs.Valid.{IsValidElement, IsValidData, IsValid}
+use Rattle.wasm_module_validator_rules.specs.Valid.{IsValidElement, IsValidData, IsValid, IsValidWith}
 use Rattle.wasm_module_validator_rules_in_order.specs.contexts.Agreement.{MayReferToEach}
 use Rattle.wasm_module_validator_rules_in_order.specs.contexts.InOrder.{imports_read, functions_read, tables_read, tags_read, globals_read, exports_read, elements_read, data_read, context_so_far}
-use Rattle.wasm_module_validator_rules_in_order.specs.contexts.InOrder.{InTurn, IsImportInTurn, IsFunctionInTurn, IsTableInTurn, IsTagInTurn, IsGlobalInTurn, IsElementInTurn, IsDataInTurn, IsValidInOrder}
+use Rattle.wasm_module_validator_rules_in_order.specs.contexts.InOrder.{InTurn, IsImportInTurn, IsFunctionInTurn, IsTableInTurn, IsTagInTurn, IsGlobalInTurn, IsElementInTurn, IsDataInTurn, IsValidInOrder, IsValidInOrderWith}
 use Rattle.wasm_module_validator_rules_in_order.specs.contexts.laws.Lists.{each_left, each_right, each_joined, each_from, each_trivial, each_both, one_left, one_right, one_of_item, one_of_places}
 use Rattle.wasm_module_validator_rules_in_order.specs.contexts.laws.Lists.{in_turn, from_turn, turn_both, turn_first, turn_second, front_of_space}
 use Rattle.wasm_module_validator_rules_in_order.specs.contexts.laws.Types.{function_agrees, tag_agrees, import_agrees}
@@ -180,8 +180,8 @@ module _ (z : Settings) (m : ModuleTree) where
 
   -- ---- modules
 
-  pub valid_in_order : IsValid z m → IsValidInOrder z m
-  valid_in_order k = record {
+  pub valid_in_order_with : {Bodies : Type 0} → IsValidWith Bodies z whole count m → IsValidInOrderWith Bodies z m
+  valid_in_order_with k = record {
     types = k.types;
     imports = in_turn m.imports _ (IsImportInTurn z m) (λ before rest x e. import_agrees whole (context_so_far (imports_read m before)) (record { types = refl }) z x.ty) [] m.imports refl k.imports;
     functions = in_turn m.functions _ (IsFunctionInTurn z m) (λ before rest x e. function_agrees whole (context_so_far (functions_read m before)) (record { types = refl }) x) [] m.functions refl k.functions;
@@ -198,8 +198,8 @@ module _ (z : Settings) (m : ModuleTree) where
     limits = k.limits;
   }
 
-  pub valid_by_order : IsValidInOrder z m → IsValid z m
-  valid_by_order k = record {
+  pub valid_by_order_with : {Bodies : Type 0} → IsValidInOrderWith Bodies z m → IsValidWith Bodies z whole count m
+  valid_by_order_with k = record {
     types = k.types;
     imports = from_turn m.imports _ (IsImportInTurn z m) (λ before rest x e. import_agrees (context_so_far (imports_read m before)) whole (record { types = refl }) z x.ty) [] m.imports refl k.imports;
     functions = from_turn m.functions _ (IsFunctionInTurn z m) (λ before rest x e. function_agrees (context_so_far (functions_read m before)) whole (record { types = refl }) x) [] m.functions refl k.functions;
@@ -216,3 +216,9 @@ module _ (z : Settings) (m : ModuleTree) where
     data_segments = from_turn m.data_segments _ (IsDataInTurn z m) data_comes [] m.data_segments refl k.data_segments;
     limits = k.limits;
   }
+
+  pub valid_in_order : IsValid z m → IsValidInOrder z m
+  valid_in_order = valid_in_order_with
+
+  pub valid_by_order : IsValidInOrder z m → IsValid z m
+  valid_by_order = valid_by_order_with

@@ -3,3 +3,4 @@ pub mod Frames
 pub mod Sound
 pub mod Complete
 pub mod Accepted
+pub mod Outside

@@ -9,7 +9,7 @@ ghost use Rattle.wasm_module_validator_rules_in_order.specs.rules.Syntax.{Functi
 ghost use Rattle.wasm_module_validator_rules_in_order.specs.rules.Spaces.{module_of};
 ghost use Rattle.wasm_module_validator_rules_in_order.specs.rules.Binary.{SpelledFunction, SpelledModule};
 ghost use Rattle.wasm_module_validator_rules_in_order.specs.rules.Valid.{HasValidBody, IsValid};
-ghost use Rattle.wasm_module_validator_rules_in_order.specs.rules.Accepts.{AcceptsUnder};
+ghost use Rattle.wasm_module_validator_rules_in_order.specs.rules.Accepts.{AcceptsUnder, IsValidOutsideBodies};
 ghost use Rattle.wasm_module_validator_rules_in_order.specs.contexts.InOrder.{IsValidInOrder};
 ghost use Rattle.wasm_module_validator_rules_in_order.specs.Steps.{SoFar, nothing, JudgesShapes};
 
@@ -46,4 +46,10 @@ pub fn accepted_modules_are_judged()
         × HasValidBody z (module_of q.tree) x f) q.tree.functions q.bodies) }
     ensures bodies { (z : Settings) (text : List ℕ) (xs : List Shape) (q : SoFar) → IsModule z text xs
         → JudgesShapes z nothing xs q → length q.bodies ≡ length q.tree.functions }
+{}
+
+/// Bytes are a module that is valid outside its bodies exactly if they have frames of a module that are judged one after the other.
+pub fn modules_outside_bodies_are_judged()
+    ensures { (z : Settings) (text : List ℕ)
+        → IsValidOutsideBodies z text ↔ ((q : SoFar) × (xs : List Shape) × IsModule z text xs × JudgesShapes z nothing xs q) }
 {}

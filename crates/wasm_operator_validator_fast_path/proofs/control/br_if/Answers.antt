@@ -1,6 +1,15 @@
 use Rattle.std.proofs.Common.{refl}
 use Rattle.wasm_operator_validator_fast_path.proofs.Rows.{took_br_if}
+use Rattle.wasm_operator_validator_fast_path.proofs.Frames.{nothing_on}
 use Rattle.wasm_operator_validator_fast_path.proofs.control.br_if.Goals as goal
+
+pub returns-then-types-eq0-clause-leads : goal.returns-then-types-eq0-clause-leads
+returns-then-types-eq0-clause-leads c =
+    let types = c.in-Some-label.types.now in
+    let under = c.take.new.self in
+    let same = nothing_on types under c.if-types-eq0.true in
+    took_br_if c.args.tables.now c.args.bytes.now c.args.at c.in-Some.end c.args.opens.now.inner c.args.opens.now.outer c.args.stack.now under c.requires c.in-Some.depth c.in-Some.ensures.found c.in-Some-frame_at.frame c.in-Some-frame_at.ensures
+    types (rw c.as_slice.ensures.value at c.in-Some-label.ensures) under under (c.if-not-take.ensures refl) same same
 
 pub returns-clause-leads : goal.returns-clause-leads
 returns-clause-leads c =

@@ -7,11 +7,11 @@ pub returns-clause-leads : goal.returns-clause-leads
 returns-clause-leads c =
     let taken = c.if-not-take.ensures refl in
     let address = c.if-not-take-2.ensures refl in
-    took_store c.args.tables.now c.args.bytes.now c.args.at c.in-Some.end c.args.opens.now.inner c.args.opens.now.outer c.args.stack.now c.take-else-not-take.new.self c.args.code c.args.natural c.args.takes c.requires.begins c.requires.access c.if-not-tables.false c.in-Some.access.0 c.in-Some.access.1 (c.in-Some.ensures c.args.natural)
-    c.if-access-natural.false c.if-access-ge4294967296.false c.take-else-not-take.new.self.0 c.take-else-not-take.new.self.1 (taken ∙ ap (λ (x : Values). (c.args.takes ∷ x.0, x.1)) address) refl
+    took_store c.args.tables.now c.args.bytes.now c.args.at c.in-Some.end c.args.opens.now.inner c.args.opens.now.outer c.args.stack.now c.take-else-not-take.new.self c.args.code c.args.natural c.args.takes c.requires.begins c.requires.access c.if-not-tables.false c.in-Some.ensures.align c.in-Some.ensures.offset c.in-Some.ensures.read
+    c.in-Some.ensures.aligned c.in-Some.ensures.reached c.take-else-not-take.new.self.0 c.take-else-not-take.new.self.1 (taken ∙ ap (λ (x : Values). (c.args.takes ∷ x.0, x.1)) address) refl
 
 pub returns-clause-forward : goal.returns-clause-forward
-returns-clause-forward c = omega (arith, (c.in-Some.ensures c.args.natural).forward)
+returns-clause-forward c = omega (arith, c.in-Some.ensures.read.forward)
 
 pub returns-clause-inside : goal.returns-clause-inside
-returns-clause-inside c = (c.in-Some.ensures c.args.natural).inside
+returns-clause-inside c = c.in-Some.ensures.read.inside

@@ -1,4 +1,4 @@
-use Rattle.std.proofs.Common.{◌≡◌, List, length, sym, subst, Err, inr}
+use Rattle.std.proofs.Common.{◌≡◌, List, length, refl, sym, subst, Err, inr}
 use Rattle.wasm_types.specs.decoding.Denials.{Denies, Tells}
 use Rattle.wasm_types.specs.decoding.declared.error.ErrorKind.{ErrorKind}
 use Rattle.wasm_types.specs.decoding.DenialLaws.{denies_from}
@@ -15,7 +15,7 @@ use Rattle.wasm_module_validator_drivers.specs.reading.Reading.{IsReadAs}
 use Rattle.wasm_module_validator.specs.Accepts.{IsShown}
 use Rattle.wasm_module_validator.specs.Lists.{AreToldUnder, TakesNoMore}
 use Rattle.wasm_module_validator.specs.States.{IsLeft, held_by}
-use Rattle.wasm_module_validator.specs.laws.Verdict.{accepted_is_read, alone_told, failed_not_ended, left_behind, no_more_read, tells_accepted, stands_for_module}
+use Rattle.wasm_module_validator.specs.laws.Verdict.{accepted_is_read, alone_told, failed_not_ended, left_behind, left_unread, no_more_read, tells_accepted, stands_for_module}
 use Rattle.wasm_module_validator.proofs.Validity.{accepted_sound}
 use Rattle.wasm_module_validator.proofs.validator.Validator.validate_all.Goals as goal
 
@@ -64,6 +64,10 @@ returns-in-Err-judge-clause-alone c = λ none.
 
 pub returns-in-Ok-finish-clause-alone : goal.returns-in-Ok-finish-clause-alone
 returns-in-Ok-finish-clause-alone c = λ none. returns-in-Ok-finish-clause-verdict c
+
+pub returns-in-Err-clause-state : goal.returns-in-Err-clause-state
+returns-in-Err-clause-state c =
+    left_unread (Unit {0}) (held_by c.args.self.now) c.args.self.now.settings c.args.bytes.now c.in-Err.error _ refl c.in-Err.ensures.answer
 
 pub returns-in-Err-judge-clause-state : goal.returns-in-Err-judge-clause-state
 returns-in-Err-judge-clause-state c =

@@ -14,11 +14,12 @@ use Rattle.wasm_sections_parser.specs.runs.calls.Runs.{entries, Framed, AreFrame
 use Rattle.wasm_sections_parser.specs.runs.Modules.{IsModule}
 use Rattle.wasm_sections_parser.specs.runs.ModuleLaws.{spelled_frames}
 use Rattle.wasm_types.specs.settings.Settings.{Settings}
-use Rattle.wasm_module_validator_rules_in_order.specs.rules.Syntax.{Function, ModuleTree}
+use Rattle.wasm_module_validator_rules_in_order.specs.rules.Syntax.{ModuleTree}
 use Rattle.wasm_module_validator_rules_in_order.specs.rules.Spaces.{module_of}
-use Rattle.wasm_module_validator_rules_in_order.specs.rules.Binary.{SpelledFunction, SpelledNumber, SpelledModule, contents, entries_of}
+use Rattle.wasm_module_validator_rules_in_order.specs.rules.Binary.{SpelledFunction, SpelledNumber, SpelledModule, SpelledModuleWith, contents, entries_of}
 use Rattle.wasm_module_validator_rules_in_order.specs.rules.Valid.{Each, HasValidBody, IsValid}
-use Rattle.wasm_module_validator_rules_in_order.specs.contexts.InOrder.{IsValidInOrder}
+use Rattle.wasm_module_validator_rules_in_order.specs.rules.OutsideLaws.{each_within}
+use Rattle.wasm_module_validator_rules_in_order.specs.contexts.InOrder.{IsValidInOrderWith}
 use Rattle.wasm_module_validator_rules_in_order.specs.contexts.laws.InOrder.{valid_in_order}
 use Rattle.wasm_module_validator_rules_in_order.specs.contexts.laws.Lists.{each_right}
 use Rattle.wasm_module_validator_rules_in_order.specs.Sections.{Section, number, place, code_place, front, up_to}
@@ -27,20 +28,12 @@ use Rattle.wasm_module_validator_rules_in_order.specs.Texts.{SpelledSection}
 use Rattle.wasm_module_validator_rules_in_order.specs.Steps.{SoFar, nothing, JudgesSection, JudgesShapes}
 use Rattle.wasm_module_validator_rules_in_order.specs.laws.Places.{no_other_places}
 use Rattle.wasm_module_validator_rules_in_order.specs.laws.Fronts.{absent_between}
-use Rattle.wasm_module_validator_rules_in_order.specs.laws.Judged.{judged_joined, order_by_sections, text_by_sections, section_comes}
+use Rattle.wasm_module_validator_rules_in_order.specs.laws.Judged.{judged_joined, order_by_sections, text_by_sections_with, section_comes}
 use Rattle.wasm_module_validator_section_order.specs.frames.framed.laws.Parts.{some_place, same_place, contents_here, contents_behind}
 use Rattle.wasm_module_validator_section_order.specs.frames.framed.laws.Parts.{ascends_at, not_there, no_entries}
 use Rattle.wasm_module_validator_section_order.specs.frames.framed.laws.Sound.{with_bodies}
 
 -- ---- bodies
-
--- bodies that functions are spelled by are within their limit
-each_within : (z : Settings) (fs : List Function) (es : List (List ℕ)) → AllZip (SpelledFunction z) fs es
-    → Each (λ (t : List ℕ). length t ≤ z.limits.body_bytes) es
-each_within z [] [] h = tt
-each_within z [] (e ∷ es) h = absurd h
-each_within z (f ∷ fs) [] h = absurd h
-each_within z (f ∷ fs) (e ∷ es) h = (h.0.within, each_within z fs es h.1)
 
 -- bodies come behind p, where there are functions for all of them
 entries_come : (z : Settings) (es : List (List ℕ)) (p : SoFar) → p.last ≡ code_place
@@ -60,21 +53,21 @@ entries_come z (e ∷ es) p here within few =
 -- ---- what is left
 
 -- The parts that are left behind p of a module: p has what stands up to its last section; they are in order and known; their contents
--- spell what else the module has, and the bodies of p with theirs the code.
-record Left (z : Settings) (m : ModuleTree) (p : SoFar) (ps : List Part) : Type 0 where
+-- spell what else the module has, and the bodies of p with theirs are all of these.
+record Left (z : Settings) (m : ModuleTree) (all : List (List ℕ)) (p : SoFar) (ps : List Part) : Type 0 where
   tree : p.tree ≡ front (suc p.last) m
   bound : p.last ≤ 13
   ordered : Ascends p.last (ranks ps)
   known : AreKnown ps
   sections : (t : Section) → p.last < place t → SpelledSection z t m (contents (number t) ps)
-  bodies : AllZip (SpelledFunction z) m.code (p.bodies ++ entries_of ps)
+  bodies : p.bodies ++ entries_of ps ≡ all
 
 -- the frames of a part come behind p, the count of its contents can be read, and less is left
-record ComesPart (z : Settings) (m : ModuleTree) (p : SoFar) (x : Part) (fs : List Shape) (ps : List Part) : Type 0 where
+record ComesPart (z : Settings) (m : ModuleTree) (all : List (List ℕ)) (p : SoFar) (x : Part) (fs : List Shape) (ps : List Part) : Type 0 where
   next : SoFar
   judged : JudgesShapes z p fs next
   counted : IsCounted x
-  left : Left z m next ps
+  left : Left z m all next ps
 
 -- ---- the next part
 
@@ -100,9 +93,10 @@ counted_section z section.data_count m c h b = itself m.data_count h
 counted_section z section.data_segments m c h b =
     (length m.data_segments, record { count = h.count; items = h.values; counted = h.counted; whole = h.whole })
 
-module _ (z : Settings) (m : ModuleTree) (v : IsValidInOrder z m) where
+module _ {Bodies : Type 0} (z : Settings) (m : ModuleTree) (v : IsValidInOrderWith Bodies z m) (all : List (List ℕ))
+    (each : Each (λ (t : List ℕ). length t ≤ z.limits.body_bytes) all) (functions : length all ≤ length m.functions) where
   custom_comes : (name c text : List ℕ) (fs : List Shape) (p : SoFar) (ps : List Part) → Framed z (outer.custom name c) text fs
-      → Left z m p (outer.custom name c ∷ ps) → ComesPart z m p (outer.custom name c) fs ps
+      → Left z m all p (outer.custom name c ∷ ps) → ComesPart z m all p (outer.custom name c) fs ps
   custom_comes name c text fs p ps f h = record {
     next = p;
     judged = subst (λ (ys : List Shape). JudgesShapes z p ys p) (sym f.1) (p, refl, refl);
@@ -112,7 +106,7 @@ module _ (z : Settings) (m : ModuleTree) (v : IsValidInOrder z m) where
 
   -- a section that is there
   module _ (id : ℕ) (c : List ℕ) (s : Section) (e : id ≡ number s) (p : SoFar) (ps : List Part)
-      (h : Left z m p (outer.section id c ∷ ps)) where
+      (h : Left z m all p (outer.section id c ∷ ps)) where
     order : (p.last < place s) × Ascends (place s) (ranks ps)
     order = ascends_at s id p.last ps e h.ordered
 
@@ -136,7 +130,7 @@ module _ (z : Settings) (m : ModuleTree) (v : IsValidInOrder z m) where
         let tree = h.tree ∙ absent_between z (suc p.last) (place s) m (omega (arith, order.0)) between in
         section_comes z s m p c v tree order.0 spelled
 
-    section_left : Left z m section_next ps
+    section_left : Left z m all section_next ps
     unfolding section_next
     section_left = record {
       tree = refl;
@@ -147,7 +141,7 @@ module _ (z : Settings) (m : ModuleTree) (v : IsValidInOrder z m) where
       bodies = h.bodies;
     }
 
-    section_part : (text : List ℕ) (fs : List Shape) → Framed z (outer.section id c) text fs → ComesPart z m p (outer.section id c) fs ps
+    section_part : (text : List ℕ) (fs : List Shape) → Framed z (outer.section id c) text fs → ComesPart z m all p (outer.section id c) fs ps
     section_part text fs f = record {
       next = section_next;
       judged = subst (λ (ys : List Shape). JudgesShapes z p ys section_next) (sym f.1) (section_next, (s, e, judges_section), refl);
@@ -157,7 +151,7 @@ module _ (z : Settings) (m : ModuleTree) (v : IsValidInOrder z m) where
 
   -- the section of an id
   which : (id : ℕ) (c text : List ℕ) (p : SoFar) (ps : List Part) → SpelledPart z (outer.section id c) text
-      → Left z m p (outer.section id c ∷ ps) → (s : Section) × (id ≡ number s)
+      → Left z m all p (outer.section id c ∷ ps) → (s : Section) × (id ≡ number s)
   which id c text p ps f h = by (no_other_places id) h.known.0
     where
       by : (place_of id ≡ 0) ⊎ ((id ≡ 10) ⊎ ((s : Section) × (id ≡ number s)))
@@ -172,11 +166,11 @@ module _ (z : Settings) (m : ModuleTree) (v : IsValidInOrder z m) where
       by (inr (inr s)) (inr k) = s
 
   -- the code section
-  module _ (es : List (List ℕ)) (p : SoFar) (ps : List Part) (h : Left z m p (outer.code es ∷ ps)) where
+  module _ (es : List (List ℕ)) (p : SoFar) (ps : List Part) (h : Left z m all p (outer.code es ∷ ps)) where
     none : entries_of ps ≡ []
     none = no_entries 12 ps (omega arith) h.ordered.1
 
-    code_left : Left z m (with_bodies p es) ps
+    code_left : Left z m all (with_bodies p es) ps
     code_left = record {
       tree = h.tree ∙ absent_between z (suc p.last) 13 m (omega (arith, h.ordered.0))
           (λ t l k. subst (SpelledSection z t m) (not_there t 12 ps (omega (arith, k)) h.ordered.1) (h.sections t l));
@@ -184,25 +178,22 @@ module _ (z : Settings) (m : ModuleTree) (v : IsValidInOrder z m) where
       ordered = h.ordered.1;
       known = h.known.1;
       sections = λ t l. h.sections t (omega (arith, l, h.ordered.0));
-      bodies = subst (AllZip (SpelledFunction z) m.code)
-          (sym (ap (λ (x : List (List ℕ)). (p.bodies ++ es) ++ x) none ∙ append-nil (p.bodies ++ es)))
-          h.bodies;
+      bodies = ap (λ (x : List (List ℕ)). (p.bodies ++ es) ++ x) none ∙ (append-nil (p.bodies ++ es) ∙ h.bodies);
     }
 
     code_judged : (count size : ℕ) → JudgesShapes z p (frame.code count size ∷ entries es) (with_bodies p es)
     code_judged count size =
-        let all = each_within z m.code (p.bodies ++ es) h.bodies in
-        let within = each_right (λ (t : List ℕ). length t ≤ z.limits.body_bytes) p.bodies es all in
-        let spelled = AllZip-long (SpelledFunction z) m.code (p.bodies ++ es) h.bodies in
-        let typed = AllZip-long (HasValidBody z (module_of m)) m.functions m.code ((order_by_sections z m).0 v).1 in
-        let functions : length p.tree.functions ≡ length m.functions = ap (λ (n : ModuleTree). length n.functions) code_left.tree in (
+        let IsWithin : List ℕ → Type 0 = λ t. length t ≤ z.limits.body_bytes in
+        let within = each_right IsWithin p.bodies es (subst (Each IsWithin) (sym h.bodies) each) in
+        let spelled : length (p.bodies ++ es) ≡ length all = ap length h.bodies in
+        let known : length p.tree.functions ≡ length m.functions = ap (λ (n : ModuleTree). length n.functions) code_left.tree in (
           record p { last = code_place },
           (h.ordered.0, refl),
           entries_come z es (record p { last = code_place }) refl within
-              (omega (arith, spelled, typed, functions, length-append p.bodies es)),
+              (omega (arith, spelled, functions, known, length-append p.bodies es)),
         )
 
-    code_comes : (text : List ℕ) (fs : List Shape) → Framed z (outer.code es) text fs → ComesPart z m p (outer.code es) fs ps
+    code_comes : (text : List ℕ) (fs : List Shape) → Framed z (outer.code es) text fs → ComesPart z m all p (outer.code es) fs ps
     code_comes text fs f = record {
       next = with_bodies p es;
       judged =
@@ -211,33 +202,35 @@ module _ (z : Settings) (m : ModuleTree) (v : IsValidInOrder z m) where
       left = code_left;
     }
 
-  part_comes : (x : Part) (text : List ℕ) (fs : List Shape) (p : SoFar) (ps : List Part) → Framed z x text fs → Left z m p (x ∷ ps)
-      → ComesPart z m p x fs ps
+  part_comes : (x : Part) (text : List ℕ) (fs : List Shape) (p : SoFar) (ps : List Part) → Framed z x text fs → Left z m all p (x ∷ ps)
+      → ComesPart z m all p x fs ps
   part_comes (outer.custom name c) text fs p ps f h = custom_comes name c text fs p ps f h
   part_comes (outer.section id c) text fs p ps f h = let s = which id c text p ps f.0 h in section_part id c s.0 s.1 p ps h text fs f
   part_comes (outer.code es) text fs p ps f h = code_comes es p ps h text fs f
 
 -- ---- modules
 
--- the frames of parts come behind p, counts can be read, and at the end all was read but the code, whose functions the bodies spell
-record Comes (z : Settings) (m : ModuleTree) (p : SoFar) (ps : List Part) (xs : List Shape) : Type 0 where
+-- the frames of parts come behind p, counts can be read, and at the end all was read but the code, and these are the bodies
+record Comes (z : Settings) (m : ModuleTree) (all : List (List ℕ)) (p : SoFar) (ps : List Part) (xs : List Shape) : Type 0 where
   last : SoFar
   judged : JudgesShapes z p xs last
   counted : AreCounted ps
   tree : last.tree ≡ record m { code = [] }
-  bodies : AllZip (SpelledFunction z) m.code last.bodies
+  bodies : last.bodies ≡ all
 
-module _ (z : Settings) (m : ModuleTree) (v : IsValidInOrder z m) where
-  parts_come : (ps : List Part) (text : List ℕ) (xs : List Shape) (p : SoFar) → AreFramed z ps text xs → Left z m p ps → Comes z m p ps xs
+module _ {Bodies : Type 0} (z : Settings) (m : ModuleTree) (v : IsValidInOrderWith Bodies z m) (all : List (List ℕ))
+    (each : Each (λ (t : List ℕ). length t ≤ z.limits.body_bytes) all) (functions : length all ≤ length m.functions) where
+  parts_come : (ps : List Part) (text : List ℕ) (xs : List Shape) (p : SoFar) → AreFramed z ps text xs → Left z m all p ps
+      → Comes z m all p ps xs
   parts_come [] text xs p f h = record {
     last = p;
     judged = subst (λ (ys : List Shape). JudgesShapes z p ys p) (sym f.1) refl;
     counted = tt;
     tree = h.tree ∙ absent_between z (suc p.last) 14 m (omega (arith, h.bound)) (λ t l k. h.sections t l);
-    bodies = subst (AllZip (SpelledFunction z) m.code) (append-nil p.bodies) h.bodies;
+    bodies = sym (append-nil p.bodies) ∙ h.bodies;
   }
   parts_come (x ∷ ps) text xs p f h =
-      let first = part_comes z m v x f.0 f.2 p ps f.4 h in
+      let first = part_comes z m v all each functions x f.0 f.2 p ps f.4 h in
       let rest = parts_come ps f.1 f.3 first.next f.5 first.left in
       record {
         last = rest.last;
@@ -249,23 +242,28 @@ module _ (z : Settings) (m : ModuleTree) (v : IsValidInOrder z m) where
         bodies = rest.bodies;
       }
 
-pub module_comes : (z : Settings) (m : ModuleTree) (text : List ℕ) → SpelledModule z m text → IsValid z m
+-- A module that is spelled, and valid but for its bodies, of which there are no more than functions, each within its limit: its frames are
+-- judged, and its entries are the bodies.
+pub module_comes_with : {Bodies : Type 0} {Entries : List (List ℕ) → Type 0} (z : Settings) (m : ModuleTree) (text : List ℕ)
+    (t : SpelledModuleWith Entries z m text) → IsValidInOrderWith Bodies z m
+    → Each (λ (e : List ℕ). length e ≤ z.limits.body_bytes) (entries_of t.outer.parts)
+    → length (entries_of t.outer.parts) ≤ length m.functions
     → (xs : List Shape) × IsModule z text xs
-    × ((q : SoFar) × JudgesShapes z nothing xs q × (q.tree ≡ record m { code = [] }) × AllZip (SpelledFunction z) m.code q.bodies)
-module_comes z m text t v =
+    × ((q : SoFar) × JudgesShapes z nothing xs q × (q.tree ≡ record m { code = [] }) × (q.bodies ≡ entries_of t.outer.parts))
+module_comes_with {Entries = Entries} z m text t v each functions =
     let framed = spelled_frames z t.outer text t.framed in
     let xs = framed.0 in
     let frames = framed.1 in
-    let sections = (text_by_sections z m t.outer.parts).0 t.sections in
-    let left : Left z m nothing t.outer.parts = record {
+    let sections = (text_by_sections_with z m t.outer.parts Entries).0 t.sections in
+    let left : Left z m (entries_of t.outer.parts) nothing t.outer.parts = record {
       tree = refl;
       bound = omega arith;
       ordered = t.core.ordered;
       known = t.core.known;
       sections = λ s l. sections.0 s;
-      bodies = sections.1;
+      bodies = refl;
     } in
-    let h = parts_come z m (valid_in_order z m v) t.outer.parts frames.parts_text frames.shapes nothing frames.framed left in
+    let h = parts_come z m v (entries_of t.outer.parts) each functions t.outer.parts frames.parts_text frames.shapes nothing frames.framed left in
     let judged : JudgesShapes z nothing (frame.version t.outer.header ∷ frames.shapes) h.last =
     (nothing, (t.core.version, t.core.layer, refl), h.judged) in
     let whole : IsModule z text xs = record {
@@ -277,3 +275,14 @@ module_comes z m text t v =
       counts = t.core.counts;
     } in
     (xs, whole, (h.last, subst (λ (ys : List Shape). JudgesShapes z nothing ys h.last) (sym frames.frames) judged, h.tree, h.bodies))
+
+pub module_comes : (z : Settings) (m : ModuleTree) (text : List ℕ) → SpelledModule z m text → IsValid z m
+    → (xs : List Shape) × IsModule z text xs
+    × ((q : SoFar) × JudgesShapes z nothing xs q × (q.tree ≡ record m { code = [] }) × AllZip (SpelledFunction z) m.code q.bodies)
+module_comes z m text t v =
+    let order = valid_in_order z m v in
+    let code : AllZip (SpelledFunction z) m.code (entries_of t.outer.parts) = t.sections.code in
+    let spelled = AllZip-long (SpelledFunction z) m.code (entries_of t.outer.parts) code in
+    let typed = AllZip-long (HasValidBody z (module_of m)) m.functions m.code ((order_by_sections z m).0 order).1 in
+    let h = module_comes_with z m text t order (each_within z m.code (entries_of t.outer.parts) code) (omega (arith, spelled, typed)) in
+    (h.0, h.1, (h.2.0, h.2.1, h.2.2, subst (AllZip (SpelledFunction z) m.code) (sym h.2.3) code))

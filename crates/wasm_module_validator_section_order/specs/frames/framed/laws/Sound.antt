@@ -12,14 +12,14 @@ use Rattle.wasm_sections_parser.specs.runs.Modules.{IsModule}
 use Rattle.wasm_types.specs.settings.Settings.{Settings}
 use Rattle.wasm_module_validator_rules_in_order.specs.rules.Syntax.{Function, ModuleTree}
 use Rattle.wasm_module_validator_rules_in_order.specs.rules.Spaces.{module_of}
-use Rattle.wasm_module_validator_rules_in_order.specs.rules.Binary.{SpelledFunction, SpelledModule, contents, entries_of}
+use Rattle.wasm_module_validator_rules_in_order.specs.rules.Binary.{SpelledFunction, SpelledModule, SpelledModuleWith, contents, entries_of}
 use Rattle.wasm_module_validator_rules_in_order.specs.rules.Valid.{HasValidBody}
 use Rattle.wasm_module_validator_rules_in_order.specs.contexts.InOrder.{IsValidInOrder}
 use Rattle.wasm_module_validator_rules_in_order.specs.Sections.{Section, number, place, code_place, up_to}
 use Rattle.wasm_module_validator_rules_in_order.specs.Texts.{SpelledSection}
 use Rattle.wasm_module_validator_rules_in_order.specs.Steps.{SoFar, nothing, JudgesSection, JudgesShapes, IsJudged}
 use Rattle.wasm_module_validator_rules_in_order.specs.laws.Fronts.{one_place, same_up_to, spelled_up_to, unread_is_spelled}
-use Rattle.wasm_module_validator_rules_in_order.specs.laws.Judged.{judged_split, nothing_is_judged, shapes_keep, shapes_stay, text_by_sections}
+use Rattle.wasm_module_validator_rules_in_order.specs.laws.Judged.{judged_split, nothing_is_judged, shapes_keep, shapes_stay, text_by_sections_with}
 use Rattle.wasm_module_validator_rules_in_order.specs.laws.Judged.{judged_in_order}
 use Rattle.wasm_module_validator_section_order.specs.frames.framed.laws.Parts.{has_rank, some_place, same_place, contents_here, contents_behind}
 
@@ -169,10 +169,10 @@ module_seen z text xs q m j =
     let others : JudgesShapes z nothing m.frames.shapes q = subst (λ (v : SoFar). JudgesShapes z v m.frames.shapes q) k.1.2 k.2 in
     (k.1.0, k.1.1, parts_seen z m.outer.parts m.frames.parts_text m.frames.shapes nothing q m.frames.framed (nothing_is_judged z) others)
 
-pub judged_is_spelled : (z : Settings) (text : List ℕ) (xs : List Shape) (q : SoFar) (cs : List Function) → IsModule z text xs
-    → JudgesShapes z nothing xs q
-    → AllZip (SpelledFunction z) cs q.bodies → SpelledModule z (record q.tree { code = cs }) text
-judged_is_spelled z text xs q cs m j bodies =
+pub judged_is_spelled_with : (Bodies : List (List ℕ) → Type 0) (z : Settings) (text : List ℕ) (xs : List Shape) (q : SoFar)
+    (cs : List Function) → IsModule z text xs → JudgesShapes z nothing xs q → Bodies q.bodies
+    → SpelledModuleWith Bodies z (record q.tree { code = cs }) text
+judged_is_spelled_with Bodies z text xs q cs m j bodies =
     let n : ModuleTree = record q.tree { code = cs } in
     let seen = module_seen z text xs q m j in
     let h = seen.2 in
@@ -180,11 +180,16 @@ judged_is_spelled z text xs q cs m j bodies =
       outer = m.outer;
       framed = m.spelled;
       core = record { version = seen.0; layer = seen.1; known = h.known; ordered = m.ordered; counts = m.counts };
-      sections = (text_by_sections z n m.outer.parts).1 (
+      sections = (text_by_sections_with z n m.outer.parts Bodies).1 (
         λ s. spelled_alike z s q.tree n (contents (number s) m.outer.parts) refl (h.spelled s (some_place s).0),
-        subst (AllZip (SpelledFunction z) cs) h.bodies bodies,
+        subst Bodies h.bodies bodies,
       );
     }
+
+pub judged_is_spelled : (z : Settings) (text : List ℕ) (xs : List Shape) (q : SoFar) (cs : List Function) → IsModule z text xs
+    → JudgesShapes z nothing xs q
+    → AllZip (SpelledFunction z) cs q.bodies → SpelledModule z (record q.tree { code = cs }) text
+judged_is_spelled z text xs q cs m j bodies = judged_is_spelled_with (AllZip (SpelledFunction z) cs) z text xs q cs m j bodies
 
 pub judged_is_valid : (z : Settings) (xs : List Shape) (q : SoFar) (cs : List Function) → JudgesShapes z nothing xs q
     → AllZip (HasValidBody z (module_of q.tree)) q.tree.functions cs → IsValidInOrder z (record q.tree { code = cs })

@@ -9,6 +9,7 @@ use Rattle.wasm_module_validator_type_list.proofs.Knowing.{can_learn}
 use Rattle.wasm_module_validator_type_list.proofs.Holding.{holds, groups_same, lists_stay, lists_unlearned, depths_kept, on_err}
 use Rattle.wasm_module_validator_type_list.proofs.Rolling.{lists_give}
 use Rattle.wasm_module_validator_type_list.proofs.Adding.{stored_length, short_lists, added_list}
+use Rattle.wasm_module_validator_type_list.proofs.Likeness.{uniform_same}
 use Rattle.wasm_module_validator_type_list.proofs.list.TypeList.add.Goals as goal
 
 pub append-requires-clause-short : goal.append-requires-clause-short
@@ -22,6 +23,12 @@ learn-requires c =
     subst (λ (l : List SubType). CanLearn c.args.is_canonical l c.args.group c.self.inside.known) (sym c.reserve.ensures.same.types)
     (can_learn (groups_in c.self.inside.lists) c.self.inside.lists.types.items c.args.is_canonical c.args.group c.self.inside.known c.self.invariant.knows
     (subst (λ (l : List Group). IsAdded l (group_in c.args.is_canonical c.args.group)) (sym (ap (λ l. l.groups) c.self.view_is)) c.requires.added))
+
+pub append-requires-clause-uniform : goal.append-requires-clause-uniform
+append-requires-clause-uniform c =
+    uniform_same c.self.inside.lists.types.items c.reserve.new.self.types.items c.self.inside.lists.supertypes.items c.reserve.new.self.supertypes.items
+    c.self.inside.lists.uniform.items c.reserve.new.self.uniform.items c.reserve.ensures.same.types c.reserve.ensures.same.supertypes c.reserve.ensures.same.uniform
+    c.self.invariant.uniform
 
 pub invariant_of-self-2 : goal.invariant_of-self-2
 invariant_of-self-2 c =
@@ -37,7 +44,7 @@ invariant_of-self-2 c =
     (subst (λ (l : List SubType). KnowsMore c.args.is_canonical c.reserve.new.self.types.items l c.type_count-start.result c.args.group c.args.id c.self.inside.known c.learn.new.known)
     c.as_slice-2.ensures.value c.in_ok-learn.ensures.ok)
     c.append.ensures.forms c.append.ensures.types c.append.ensures.homes c.append.ensures.supertypes c.append.ensures.elements
-    (ap (λ l. l.can_intern) c.self.view_is ∙ c.requires.can_intern) c.reserve.ensures.depths c.append.ensures.depths)
+    (ap (λ l. l.can_intern) c.self.view_is ∙ c.requires.can_intern) c.reserve.ensures.depths c.append.ensures.depths c.append.ensures.uniform)
 
 pub returns-clause-ok : goal.returns-clause-ok
 returns-clause-ok c =
@@ -53,7 +60,7 @@ returns-clause-ok c =
     (subst (λ (l : List SubType). KnowsMore c.args.is_canonical c.reserve.new.self.types.items l c.type_count-start.result c.args.group c.args.id c.self.inside.known c.learn.new.known)
     c.as_slice-2.ensures.value c.in_ok-learn.ensures.ok)
     c.append.ensures.forms c.append.ensures.types c.append.ensures.homes c.append.ensures.supertypes c.append.ensures.elements
-    (ap (λ l. l.can_intern) c.self.view_is ∙ c.requires.can_intern) c.reserve.ensures.depths c.append.ensures.depths)
+    (ap (λ l. l.can_intern) c.self.view_is ∙ c.requires.can_intern) c.reserve.ensures.depths c.append.ensures.depths c.append.ensures.uniform)
 
 pub returns-clause-depths : goal.returns-clause-depths
 returns-clause-depths c =

@@ -5,9 +5,9 @@ use Rattle.wasm_module_validator_type_list.proofs.list.TypeList.set_subtyping_de
 pub invariant_of-self : goal.invariant_of-self
 invariant_of-self c =
     lists_set c.self.inside.known c.self.inside.lists _ c.args.id.0 c.args.depth
-    (record { forms = refl; types = refl; homes = refl; supertypes = refl; elements = refl }) c.set_depth.ensures c.self.invariant
+    (record { forms = refl; types = refl; homes = refl; supertypes = refl; elements = refl; uniform = refl }) c.set_depth.ensures c.self.invariant
 
 pub returns-clause-groups : goal.returns-clause-groups
 returns-clause-groups c =
-    groups_same c.self.inside.lists _ (record { forms = refl; types = refl; homes = refl; supertypes = refl; elements = refl })
+    groups_same c.self.inside.lists _ (record { forms = refl; types = refl; homes = refl; supertypes = refl; elements = refl; uniform = refl })
     ∙ ap (λ l. l.groups) c.self.view_is

@@ -1,0 +1,47 @@
+-- The worked rows, each by computing it.
+use Rattle.std.proofs.Common.{refl}
+use Rattle.std.specs.Fmt.{digits}
+use Rattle.std.specs.Str.{chars}
+use Rattle.wasm_check_lines.specs.Shown.{shown}
+use Rattle.wasm_check_lines.specs.Json.{json_text}
+use Rattle.wasm_check_lines.specs.Hints.{is_text}
+use Rattle.wasm_check_lines.specs.ShownRows.{ShownRows}
+use Rattle.wasm_check_lines.specs.FormRows.{FormRows}
+
+pub shown_rows : ShownRows
+unfolding shown chars digits lib.Utf8.encode
+shown_rows = record {
+  plain = refl;
+  feed = refl;
+  first_and_last = refl;
+  escape = refl;
+  past_ascii = refl;
+  separators = refl;
+  order = refl;
+  marks = refl;
+  isolates = refl;
+  letters = refl;
+  backslash = refl;
+}
+
+pub form_rows : FormRows
+unfolding shown json_text is_text chars digits lib.Utf8.encode
+form_rows = record {
+  named = refl;
+  refused = refl;
+  vectors = refl;
+  text = refl;
+  spaced = refl;
+  cut = refl;
+  component = refl;
+  behind = refl;
+  nothing = refl;
+  gc = refl;
+  two_bits = refl;
+  part = refl;
+  last = refl;
+  switch = refl;
+  note = refl;
+  valid_json = refl;
+  invalid_json = refl;
+}

@@ -1,0 +1,9 @@
+-- Rules: the texts of lines, in reading order. `ShownRows` and `FormRows` have worked rows, `LineLaws` laws of the lines.
+pub mod Shown
+pub mod Json
+pub mod FeatureWords
+pub mod Hints
+pub mod Forms
+pub mod LineLaws
+pub mod ShownRows
+pub mod FormRows

@@ -1,0 +1,19 @@
+//! The lines that `wasm-check` writes of its files.
+//!
+//! Of each file a [`Form`] makes one text: of a file that is valid [`valid_text`], of one that was refused [`refused_text`]. Whatever
+//! a file's name, the reason of a refusal and an explanation hold, no byte of them ends a line: [`Shown`] writes them in lines, and
+//! [`Quoted`] in strings of JSON. For example a file called `a` and a line feed, if it is valid, is told as `a\u{a}: valid`. `specs/`
+//! defines the texts, and what a person can do about a refusal.
+#![tactic(auto)]
+
+mod forms;
+mod hints;
+mod json;
+mod notes;
+mod shown;
+mod words;
+
+pub use forms::{Form, refused_text, valid_text};
+pub use json::Quoted;
+pub use shown::{Shown, lines_end_once, texts_are_shown_apart};
+pub use words::word_for;

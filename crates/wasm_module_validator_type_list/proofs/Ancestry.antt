@@ -1,0 +1,38 @@
+-- Chains of declared supertypes, by groups and by the list of supertypes.
+use Rattle.std.proofs.Common.{◌≡◌, ◌∙◌, ℕ, zero, suc, List, [], ◌∷◌, get_or, refl, ap, sym, subst, Option, Some, None, Bool, ◌↔◌}
+use Rattle.std.specs.Prelude.{slice_get, IsTrue, IfSome}
+use Rattle.std.proofs.lemmas.Option.{none-some, same_Some}
+use Rattle.wasm_types.specs.trees.declared.index.CoreTypeId.{CoreTypeId}
+use Rattle.wasm_module_validator_type_storage.specs.trees.Groups.{Group, supertype_ids}
+use Rattle.wasm_module_validator_type_storage.specs.trees.ByIds.{supertype_of, IdBelow, itself, declared}
+use Rattle.wasm_module_validator_type_storage.specs.displays.Chains.{IsUnder, HasDepth}
+use Rattle.wasm_module_validator_type_storage.specs.displays.Chains as chain
+
+pub there : (l : List (Option CoreTypeId)) (i : ℕ) (b : CoreTypeId) → get_or l i None ≡ Some b → slice_get l i ≡ Some (Some b)
+there [] i b e = absurd (none-some b e)
+there (x ∷ l) zero b e = ap (λ (o : Option CoreTypeId). Some o) e
+there (x ∷ l) (suc i) b e = there l i b e
+
+read : (l : List (Option CoreTypeId)) (i : ℕ) (b : CoreTypeId) → slice_get l i ≡ Some (Some b) → get_or l i None ≡ Some b
+read [] i b e = absurd (none-some (Some b) e)
+read (x ∷ l) zero b e = same_Some x (Some b) e
+read (x ∷ l) (suc i) b e = read l i b e
+
+module _ (groups : List Group) where
+  pub as_chain : (a b : CoreTypeId) → IdBelow groups a b → IsUnder (supertype_ids groups) a b
+  as_chain a b itself = chain.itself
+  as_chain a b (declared {b = p} e r) = chain.declared {b = p} (there (supertype_ids groups) a.0 p e) (as_chain p b r)
+
+  pub by_groups : (a b : CoreTypeId) → IsUnder (supertype_ids groups) a b → IdBelow groups a b
+  by_groups a b chain.itself = itself
+  by_groups a b (chain.declared {b = p} e r) = declared {b = p} (read (supertype_ids groups) a.0 p e) (by_groups p b r)
+
+  pub told : (l : List (Option CoreTypeId)) (a b : CoreTypeId) (o : Option Bool) → l ≡ supertype_ids groups → IfSome o (λ is. IsTrue is ↔ IsUnder l a b)
+      → IfSome o (λ is. IsTrue is ↔ IdBelow groups a b)
+  told l a b None e h = tt
+  told l a b (Some is) e h =
+      let f = subst (λ (m : List (Option CoreTypeId)). IsTrue is ↔ IsUnder m a b) e h in
+      (λ t. by_groups a b (f.0 t), λ u. f.1 (as_chain a b u))
+
+pub depth_told : (l m : List (Option CoreTypeId)) (a : CoreTypeId) (o : Option ℕ) → l ≡ m → IfSome o (HasDepth l a) → IfSome o (HasDepth m a)
+depth_told l m a o e h = subst (λ (x : List (Option CoreTypeId)). IfSome o (HasDepth x a)) e h

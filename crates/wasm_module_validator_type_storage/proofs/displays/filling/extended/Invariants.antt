@@ -1,0 +1,5 @@
+use Rattle.wasm_module_validator_type_storage.proofs.Ancestors.{IsCopied}
+use Rattle.wasm_module_validator_type_storage.proofs.displays.filling.extended.Given as goal
+
+abbrev pub invariant-loop-j : goal.invariant-loop-j
+invariant-loop-j l = IsCopied l.fn.entries.items l.entries.items l.start l.at l.j

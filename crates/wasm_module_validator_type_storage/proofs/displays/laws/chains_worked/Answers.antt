@@ -1,0 +1,5 @@
+use Rattle.wasm_module_validator_type_storage.proofs.WorkedProofs.{chains_worked}
+use Rattle.wasm_module_validator_type_storage.proofs.displays.laws.chains_worked.Goals as goal
+
+pub returns : goal.returns
+returns c = chains_worked
