@@ -1,7 +1,7 @@
 /* durskeyl.h: a validator of WebAssembly core modules that is proved right. Version 0.2.0. The library needs the C library alone.
  *
  * PROVED, of the library's source: durskeyl_validate answers DURSKEYL_VALID only if the bytes spell a module that is valid by the written
- * rules under the settings (docs/SPECIFICATION.md names them), and a kind that is a verdict only if they do not; fault->kind is that
+ * rules under the settings (docs/RULES.md names them), and a kind that is a verdict only if they do not; fault->kind is that
  * answer; the text ends in a 0. A module that is accepted runs soundly: if the features are those of the standard, so without
  * DURSKEYL_SHARED_EVERYTHING_THREADS, DURSKEYL_STACK_SWITCHING and DURSKEYL_CUSTOM_DESCRIPTORS, no run of it is stuck, whatever its host
  * and its memory answer; docs/SOUNDNESS.md says which checks a compiler may leave out. durskeyl_is_valid answers 1 only if durskeyl_validate may answer DURSKEYL_VALID by the settings by default,
