@@ -29,7 +29,7 @@ gc                         yes      in 3.0              structures, arrays, i31 
 custom-page-sizes          no       proposed            memories with pages of one byte\n\
 legacy-exceptions          no       withdrawn           try, catch, delegate and rethrow\n\
 gc-types                   yes      in 2.0              references that a collector may trace, as externref\n\
-stack-switching            no       proposed            continuations; their operators are refused\n\
+stack-switching            no       proposed            continuations\n\
 wide-arithmetic            no       proposed            sums and products of 128 bits\n\
 call-indirect-overlong     yes      in 2.0              a padded table index of call_indirect\n\
 bulk-memory-opt            yes      in 2.0              memory.copy and memory.fill alone\n\
