@@ -469,8 +469,7 @@ module _ (z : Settings) (id : ValidatorId) where
         pub body_read : (z.limits ≡ h.limits) × IsReadBy z h.features.0 body
         body_read =
             let m = g.some.0 in
-            let s = fits_body.1 m g.some.1 in
-            (
+            let s = fits_body.1 m g.some.1 in (
               limits_are z v w fits_body.0 m f s handed.0 is_entry h handed.3 g.settings,
               subst (IsReadBy z h.features.0) (sym handed.2) (read_so z v w fits_body.0 m f s handed.0 is_entry h handed.3 g.settings),
             )

@@ -86,8 +86,7 @@ returns-in-CustomSection c =
 
 pub returns-in-CodeSectionEntry : goal.returns-in-CodeSectionEntry
 returns-in-CodeSectionEntry c =
-    subst (λ (x : Payload). TakesPayload x c.args.self.now c.hand_out.result c.code_section_entry-answer.new.self) (sym c.in-CodeSectionEntry.is)
-    (
+    subst (λ (x : Payload). TakesPayload x c.args.self.now c.hand_out.result c.code_section_entry-answer.new.self) (sym c.in-CodeSectionEntry.is) (
       c.code_section_entry-answer.result,
       c.hand_out.ensures ∙ ap (λ (b : Bytes). with_body b c.code_section_entry-answer.result) c.read_anew-anew.ensures,
       c.code_section_entry-answer.ensures,
