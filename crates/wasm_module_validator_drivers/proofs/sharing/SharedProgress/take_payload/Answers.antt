@@ -1,4 +1,4 @@
-use Rattle.std.proofs.Common.{◌≡◌, List, refl, sym, ap, subst}
+use Rattle.std.proofs.Common.{List, sym, ap, subst}
 use Rattle.std.specs.Prelude.{OnOk, option_map}
 use Rattle.wasm_types.specs.settings.Settings.{Settings}
 use Rattle.wasm_module_validator_section_order.specs.items.FullLaws.{unless_full_from}
