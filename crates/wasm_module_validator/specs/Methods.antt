@@ -2,7 +2,8 @@
 --
 -- A method that is called out of turn is refused, and the validator stays as it is. In turn, it accepts exactly where its frame may come
 -- next by the rules, memory aside, and what is kept then stands for whatever was judged with it; where it refuses, the validator has
--- failed, and each later method is refused for that.
+-- failed, and each later method is refused for that. The rules are asked by the validator's own features and limits, whatever the frame
+-- was read by.
 use Rattle.std.specs.Prelude.{◌≡◌, ◌⊎◌, ◌+◌, ◌<◌, ◌==◌, ℕ, List, Bool, true, false, Option, Some, None, is_some, Result, Ok, Err, if◌then◌else◌}
 use Rattle.wasm_types.specs.decoding.Decoder.{State as Bytes}
 use Rattle.wasm_types.specs.decoding.Denials.{Denies, Tells}
@@ -106,7 +107,7 @@ BeginsCode v answer w =
 abbrev pub IsBodyTaken : Bytes → Validator → Result Handed ErrorValue → Validator → Type 0
 IsBodyTaken body v (Ok f) w = IsHandedOut v.reached v.settings f × (w ≡ record v { reached = w.reached })
     × (w.reached.code ≡ Some (body_count v.reached.code + 1)) × (w.reached.progress.kept ≡ v.reached.progress.kept)
-    × ((z : Settings) (p q : SoFar) → IsReached z v.reached p → body.settings ≡ z → JudgesBody z p body.rest q → IsReached z w.reached q)
+    × ((z : Settings) (p q : SoFar) → IsReached z v.reached p → JudgesBody z p body.rest q → IsReached z w.reached q)
 IsBodyTaken body v (Err e) w = (NoneLeft v.reached × (e.kind ≡ kinds.Other) × (w ≡ v))
     ⊎ ((w ≡ record v { state = Failed }) × Denies e.kind (FitsNext v.reached body))
 
@@ -114,7 +115,7 @@ IsBodyTaken body v (Err e) w = (NoneLeft v.reached × (e.kind ≡ kinds.Other) �
 abbrev pub TakesBody : Bytes → Validator → Result Handed ErrorValue → Validator → Type 0
 TakesBody body v answer w =
     InTurn (refusal v.state (is_some v.reached.code)) v answer w
-    ((z : Settings) (p : SoFar) → IsReached z v.reached p → body.settings ≡ z → Tells answer ((q : SoFar) × JudgesBody z p body.rest q))
+    ((z : Settings) (p : SoFar) → IsReached z v.reached p → Tells answer ((q : SoFar) × JudgesBody z p body.rest q))
     (IsBodyTaken body v answer w)
 
 -- a section of an id that there is not

@@ -4,6 +4,7 @@ use Rattle.wasm_types.specs.decoding.Decoder.{State as Bytes}
 use Rattle.wasm_types.specs.decoding.ErrorValue.{ErrorValue}
 use Rattle.wasm_sections.specs.declared.payload.Payload.{Payload}
 use Rattle.wasm_sections.specs.declared.payload.Payload.TheVariants as payloads
+use Rattle.wasm_sections.specs.Payloads.{set}
 use Rattle.wasm_operator_validator_state.specs.Refusals.{refused_by}
 use Rattle.wasm_module_validator_drivers.specs.Sharing.{Handed}
 use Rattle.wasm_module_validator.specs.declared.validator.Validator.{Validator}
@@ -38,7 +39,7 @@ ended (Err e) = Err e
 abbrev pub Passes : Answer → (Result (Unit {0}) ErrorValue → Type 0) → Type 0
 Passes answer P = (plain : Result (Unit {0}) ErrorValue) × (answer ≡ passed plain) × P plain
 
--- by its kind
+-- By its kind. A body is handed on so that whoever judges the function reads it by the validator's features and limits.
 abbrev pub TakesPayload : Payload → Validator → Answer → Validator → Type 0
 TakesPayload (payloads.Version n e r) v a w = Passes a (λ p. ReadsHeader n e v p w)
 TakesPayload (payloads.TypeSection s) v a w = Passes a (λ p. Takes (payloads.TypeSection s) v p w)
@@ -54,7 +55,7 @@ TakesPayload (payloads.ElementSection s) v a w = Passes a (λ p. Takes (payloads
 TakesPayload (payloads.DataCountSection n r) v a w = Passes a (λ p. Takes (payloads.DataCountSection n r) v p w)
 TakesPayload (payloads.DataSection s) v a w = Passes a (λ p. TakesData (payloads.DataSection s) v p w)
 TakesPayload (payloads.CodeSectionStart n r k) v a w = Passes a (λ p. BeginsCode v p w)
-TakesPayload (payloads.CodeSectionEntry body) v a w = (f : Result Handed ErrorValue) × (a ≡ with_body body f) × TakesBody body v f w
+TakesPayload (payloads.CodeSectionEntry body) v a w = (f : Result Handed ErrorValue) × (a ≡ with_body (set v.settings body) f) × TakesBody body v f w
 TakesPayload (payloads.CustomSection c) v a w = Passes a (λ p. (refused_by p ≡ failure v.state) × (w ≡ v))
 TakesPayload (payloads.UnknownSection i c r) v a w = Passes a (λ p. RefusesUnknown v p w)
 TakesPayload (payloads.End place) v a w = (r : Result Learned ErrorValue) × (a ≡ ended r) × Ends v r w

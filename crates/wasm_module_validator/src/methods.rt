@@ -175,7 +175,7 @@ impl Validator {
         }
     }
 
-    /// Takes the type section.
+    /// Takes the type section. The items of each section are read by the validator's own features and limits, whatever its reader had.
     ///
     /// # Errors
     ///

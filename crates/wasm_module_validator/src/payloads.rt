@@ -1,6 +1,7 @@
 //! Payloads of a parser, each taken by the method that it is for.
 
 ghost use Rattle.std.specs.Prelude.{◌≡◌};
+ghost use Rattle.wasm_sections.specs.Payloads.{set};
 ghost use Rattle.wasm_module_validator.specs.Payloads.{passed, with_body, ended, TakesPayload};
 
 use crate::methods::check_not_failed;
@@ -14,7 +15,7 @@ use wasm_types::Result;
 pub enum ValidPayload<'a> {
     /// Nothing more is to be done.
     Ok,
-    /// A function is to be judged, and this is its body.
+    /// A function is to be judged, and this is its body, read by the validator's features and limits.
     Func(FuncToValidate<ValidatorResources>, FunctionBody<'a>),
     /// The module has ended, and this is known of it.
     End(Types),
@@ -54,7 +55,18 @@ fn finish<'a>(answer: Result<Types>) -> Result<ValidPayload<'a>>
 }
 
 impl Validator {
-    /// Takes a payload, by the method that it is for. A custom section is never refused but for a refusal before, wherever it comes.
+    // The same body, read by the validator's features and limits.
+    fn read_anew<'a>(&self, body: &FunctionBody<'a>) -> FunctionBody<'a>
+        ensures { result ≡ set self.now.settings body.now }
+    {
+        let mut reader = body.get_binary_reader();
+        reader.set_features(self.settings.features());
+        reader.set_limits(self.settings.limits());
+        FunctionBody::new(self.alloc, reader)
+    }
+
+    /// Takes a payload, by the method that it is for. A custom section is never refused but for a refusal before, wherever it comes. A
+    /// payload is judged by the validator's features and limits, whatever its reader had.
     ///
     /// # Errors
     ///
@@ -88,8 +100,9 @@ impl Validator {
                 size: _,
             } => pass(self.code_section_start(unchecked_range)),
             Payload::CodeSectionEntry(body) => {
+                let anew = self.read_anew(&body);
                 let answer = self.code_section_entry(&body);
-                hand_out(answer, body)
+                hand_out(answer, anew)
             }
             Payload::CustomSection(section) => {
                 pass(check_not_failed(self.state, section.range().start))

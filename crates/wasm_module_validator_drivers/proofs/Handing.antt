@@ -7,6 +7,7 @@ use Rattle.wasm_types.specs.decoding.Denials.{Denies}
 use Rattle.wasm_types.specs.decoding.declared.error.ErrorKind.{ErrorKind}
 use Rattle.wasm_types.specs.settings.Limits.{IsWithinCeilings}
 use Rattle.wasm_types.specs.settings.Settings.{Settings}
+use Rattle.wasm_sections.specs.Payloads.{set}
 use Rattle.wasm_module_validator_resources.specs.index_spaces.declared.module.Function.{Function}
 use Rattle.wasm_module_validator_section_order.specs.declared.items.bodies.Body.{Body}
 use Rattle.wasm_module_validator_section_order.specs.rules_in_order.Steps.{SoFar, JudgesBody}
@@ -63,8 +64,9 @@ module _ (r : Reached) (here : Progress) (n : ℕ) (same : r.progress ≡ here) 
       no_function z p here bodies at body.rest (sym none ∙ next_type z p bodies count at)
 
   module _ (index ty : ℕ) (found : type_at here.kept place ≡ Some ty) where
-    abbrev taken : Body
-    taken = record { index = index; type_index = ty; body = body }
+    -- the body as whoever judges it by these settings reads it
+    abbrev taken : Settings → Body
+    taken z = record { index = index; type_index = ty; body = set z body }
 
     function : (z : Settings) (p : SoFar) (bodies : List Body) → length bodies ≡ n → IsAt z here bodies p → slice_get p.tree.functions (length p.bodies) ≡ Some ty
     function z p bodies count at = sym (next_type z p bodies count at) ∙ found
@@ -73,13 +75,13 @@ module _ (r : Reached) (here : Progress) (n : ℕ) (same : r.progress ≡ here) 
     body_may_come h z p reached =
         let (bodies, count, at) = at_here z p reached in
         let w = fits z p here bodies at body.rest h in
-        (record p { bodies = p.bodies ++ body.rest ∷ [] }, judges z p here bodies at taken w.0 w.1 (function z p bodies count at))
+        (record p { bodies = p.bodies ++ body.rest ∷ [] }, judges z p here bodies at (taken z) w.0 w.1 (function z p bodies count at))
 
-    one_more : (bodies : List Body) → length bodies ≡ n → length (bodies ++ taken ∷ []) ≡ n + 1
-    one_more bodies count = omega (arith, length_push bodies taken, count)
+    one_more : (z : Settings) (bodies : List Body) → length bodies ≡ n → length (bodies ++ taken z ∷ []) ≡ n + 1
+    one_more z bodies count = omega (arith, length_push bodies (taken z), count)
 
-    pub body_follows : (s : Reached) → s ≡ record { progress = here; code = Some (n + 1) } → (z : Settings) (p q : SoFar) → IsReached z r p → body.settings ≡ z → JudgesBody z p body.rest q → IsReached z s q
-    body_follows s left z p q reached set j =
+    pub body_follows : (s : Reached) → s ≡ record { progress = here; code = Some (n + 1) } → (z : Settings) (p q : SoFar) → IsReached z r p → JudgesBody z p body.rest q → IsReached z s q
+    body_follows s left z p q reached j =
         let (bodies, count, at) = at_here z p reached in
         subst (λ (t : Reached). IsReached z t q) (sym left)
-        (bodies ++ taken ∷ [], one_more bodies count, body_behind z p here bodies at taken j.begun j.within (function z p bodies count at) set q j)
+        (bodies ++ taken z ∷ [], one_more z bodies count, body_behind z p here bodies at (taken z) j.begun j.within (function z p bodies count at) refl q j)

@@ -5,22 +5,26 @@ use Rattle.wasm_types.specs.decoding.Decoder.{State}
 use Rattle.wasm_types.specs.decoding.Denials.{Tells}
 use Rattle.wasm_types.specs.decoding.ErrorValue.{ErrorValue}
 use Rattle.wasm_types.specs.settings.Settings.{Settings}
+use Rattle.wasm_types.specs.settings.declared.Limits.{Limits}
 use Rattle.wasm_sections_parser.specs.declared.frame.Frame.{Frame}
 use Rattle.wasm_sections_parser.specs.declared.frame.Frame.TheVariants as frames
 use Rattle.wasm_sections_parser.specs.Parsing.{shape_of}
+use Rattle.wasm_sections_parser.specs.Steps.{Shape}
 use Rattle.wasm_sections.specs.declared.payload.Payload.{Payload}
 use Rattle.wasm_sections.specs.declared.payload.Payload.TheVariants as payloads
-use Rattle.wasm_sections.specs.Payloads.{IsSectionOf, IsPayloadOf}
+use Rattle.wasm_sections.specs.Payloads.{IsSectionOf, IsPayloadOf, read_by}
+use Rattle.wasm_sections.specs.SettingsLaws.{frame_by, same_shape, payload_by}
 use Rattle.wasm_module_validator_section_order.specs.declared.items.bodies.Body.{Body}
 use Rattle.wasm_module_validator_section_order.specs.frames.Walks.{HasSettings}
 use Rattle.wasm_module_validator_section_order.specs.rules_in_order.Sections.{code_place, number}
 use Rattle.wasm_module_validator_section_order.specs.rules_in_order.Sections as section
 use Rattle.wasm_module_validator_section_order.specs.rules_in_order.Steps.{SoFar, JudgesShape, JudgesSection}
-use Rattle.wasm_module_validator_payloads.specs.Progress.{Kept, Progress, IsAt, text_of}
+use Rattle.wasm_module_validator_payloads.specs.declarations.Total.{IsPastTotal}
+use Rattle.wasm_module_validator_payloads.specs.Progress.{HasGroup, Kept, Progress, IsAt, text_of}
 use Rattle.wasm_module_validator_payloads.specs.laws.Shapes.{frame_back}
 use Rattle.wasm_module_validator_payloads.proofs.Arms.{section_answer, section_added}
 use Rattle.wasm_module_validator_payloads.proofs.Counting.{on_ok}
-use Rattle.wasm_module_validator_drivers.specs.Sharing.{Reached, reached, has_no_code, body_count, IsReached, IsWhole, TellsFrame, Follows}
+use Rattle.wasm_module_validator_drivers.specs.Sharing.{Reached, reached, has_no_code, body_count, IsReached, IsWhole, FullNext, TellsFrame, Follows}
 
 -- ---- what is its own, and what is shared
 
@@ -80,28 +84,66 @@ bodies_stay z p q (frames.CodeStart n r k) x whole is j = absurd (subst IsWhole 
 bodies_stay z p q (frames.CodeEntry b) x whole is j = absurd (subst IsWhole is whole)
 bodies_stay z p q (frames.End place) x whole is j = ap (λ (s : SoFar). s.bodies) j
 
+-- ---- a payload that is read anew
+
+-- what reads a section by these settings has them
+has_anew : (z : Settings) (f : Frame) (x : Payload) → IsWhole x → IsPayloadOf f x → HasSettings z (frame_by z f)
+has_anew z (frames.Version n e r) x whole is = tt
+has_anew z (frames.Custom c) x whole is = tt
+has_anew z (frames.Section id b) x whole is = refl
+has_anew z (frames.CodeStart n r k) x whole is = tt
+has_anew z (frames.CodeEntry b) x whole is = absurd (subst IsWhole is whole)
+has_anew z (frames.End place) x whole is = tt
+
+-- What is known of each frame of the payload as these settings read it is known of each frame of the payload as it came.
+frame_anew : (P : Shape → Type 0) (z : Settings) (x : Payload) → IsWhole x
+    → ((g : Frame) → HasSettings z g → IsPayloadOf g (read_by z x) → P (shape_of g)) → (f : Frame) → IsPayloadOf f x → P (shape_of f)
+frame_anew P z x whole h f is = subst P (same_shape z f) (h (frame_by z f) (has_anew z f x whole is) (payload_by z f x is))
+
+-- settings are these features and limits
+pub settings_are : (z : Settings) (features : ℕ) (limits : Limits) → features ≡ z.features → limits ≡ z.limits
+    → record { features = features; limits = limits } ≡ z
+settings_are z features limits e h = λ i. record { features = e i; limits = h i }
+
+-- by the settings that what is kept stands for
+anew_is : (x anew : Payload) (y : Settings) → anew ≡ read_by y x → (r : Progress) → y ≡ r.kept.items.spaces.settings
+    → (z : Settings) (p : SoFar) (bodies : List Body) → IsAt z r bodies p → anew ≡ read_by z x
+anew_is x anew y is r by z p bodies at = is ∙ ap (λ (s : Settings). read_by s x) (by ∙ at.stands.settings)
+
 -- ---- a payload of a module that is not shared
 
-module _ (r : Reached) (own : Progress) (same : r.progress ≡ own) (none : r.code ≡ None) (x : Payload) where
-  pub own_at : (z : Settings) (p : SoFar) → IsReached z r p → IsAt z own [] p
+module _ (r : Reached) (own : Progress) (same : r.progress ≡ own) (none : r.code ≡ None) (x : Payload) (whole : IsWhole x)
+    (anew : Payload) (y : Settings) (read : anew ≡ read_by y x) (by : y ≡ own.kept.items.spaces.settings) where
+  own_at : (z : Settings) (p : SoFar) → IsReached z r p → IsAt z own [] p
   own_at z p (bodies, count, at) =
       let e : bodies ≡ [] = no_items bodies (count ∙ ap body_count none) in
       subst (λ (s : Progress). IsAt z s [] p) same (subst (λ (bs : List Body). IsAt z r.progress bs p) e at)
 
   pub told_next : {X : Type 0} (result : Result X ErrorValue)
-      → ((z : Settings) (p : SoFar) (f : Frame) → IsAt z own [] p → HasSettings z f → IsPayloadOf f x → Tells result ((q : SoFar) × JudgesShape z p (shape_of f) q))
+      → ((z : Settings) (p : SoFar) (f : Frame) → IsAt z own [] p → HasSettings z f → IsPayloadOf f anew → Tells result ((q : SoFar) × JudgesShape z p (shape_of f) q))
       → TellsFrame r x result
-  told_next result h z p f at has is = h z p f (own_at z p at) has is
+  told_next result h z p f reached of =
+      let at = own_at z p reached in
+      frame_anew (λ (s : Shape). Tells result ((q : SoFar) × JudgesShape z p s q)) z x whole
+      (λ g has j. h z p g at has (subst (IsPayloadOf g) (sym (anew_is x anew y read own by z p [] at)) j)) f of
 
-  pub payload_follows : {X : Type 0} (result : Result X ErrorValue) (after : Progress) (bodies : List Body) (s : Reached) → IsWhole x → s ≡ record { progress = after; code = None }
-      → OnOk result ((z : Settings) (p q : SoFar) (f : Frame) → IsAt z own [] p → HasSettings z f → IsPayloadOf f x → JudgesShape z p (shape_of f) q → IsAt z after bodies q)
+  -- there is no room for a group of it
+  pub full_next : (e : ErrorValue) → ((z : Settings) (p : SoFar) → IsAt z own [] p → IsPastTotal own.kept.groups own.kept.items (HasGroup anew) e) → FullNext r x e
+  full_next e full z p reached =
+      let at = own_at z p reached in
+      subst (λ (q : Progress). IsPastTotal q.kept.groups q.kept.items (HasGroup (read_by z x)) e) (sym same)
+      (subst (λ (a : Payload). IsPastTotal own.kept.groups own.kept.items (HasGroup a) e) (anew_is x anew y read own by z p [] at) (full z p at))
+
+  pub payload_follows : {X : Type 0} (result : Result X ErrorValue) (after : Progress) (bodies : List Body) (s : Reached) → s ≡ record { progress = after; code = None }
+      → OnOk result ((z : Settings) (p q : SoFar) (f : Frame) → IsAt z own [] p → HasSettings z f → IsPayloadOf f anew → JudgesShape z p (shape_of f) q → IsAt z after bodies q)
       → OnOk result (Follows r x s)
-  payload_follows result after bodies s whole is h = on_ok result _ _ go h
+  payload_follows result after bodies s is h = on_ok result _ _ go h
     where
-      go : ((z : Settings) (p q : SoFar) (f : Frame) → IsAt z own [] p → HasSettings z f → IsPayloadOf f x → JudgesShape z p (shape_of f) q → IsAt z after bodies q) → Follows r x s
-      go added z p q f at has of j =
-          let here = own_at z p at in
-          let there = added z p q f here has of j in
+      go : ((z : Settings) (p q : SoFar) (f : Frame) → IsAt z own [] p → HasSettings z f → IsPayloadOf f anew → JudgesShape z p (shape_of f) q → IsAt z after bodies q) → Follows r x s
+      go added z p q f reached of j =
+          let here = own_at z p reached in
+          let there = frame_anew (λ (t : Shape). JudgesShape z p t q → IsAt z after bodies q) z x whole
+          (λ g has k. added z p q g here has (subst (IsPayloadOf g) (sym (anew_is x anew y read own by z p [] here)) k)) f of j in
           let texts : map text_of bodies ≡ [] = there.bodies ∙ (bodies_stay z p q f x whole of j ∙ sym here.bodies) in
           subst (λ (t : Reached). IsReached z t q) (sym is) (bodies, no_texts bodies texts, there)
 
@@ -133,15 +175,18 @@ module _ (r : Reached) (own : Progress) (same : r.progress ≡ own) (none : r.co
 
 -- ---- a data section of a module that is shared
 
-module _ (r : Reached) (here : Progress) (same : r.progress ≡ here) (x : Payload) (plain : frame_back x ≡ None) (G : State → Type 0)
-    (of : (id : ℕ) (b : State) → IsSectionOf id b x → (id ≡ number section.data_segments) × G b) where
+module _ (r : Reached) (here : Progress) (same : r.progress ≡ here) (x : Payload) (whole : IsWhole x)
+    (anew : Payload) (y : Settings) (read : anew ≡ read_by y x) (by : y ≡ here.kept.items.spaces.settings) (plain : frame_back anew ≡ None) (G : State → Type 0)
+    (of : (id : ℕ) (b : State) → IsSectionOf id b anew → (id ≡ number section.data_segments) × G b) where
   pub data_told : {X : Type 0} (result : Result X ErrorValue)
       → ((z : Settings) (p : SoFar) (bodies : List Body) (b : State) → IsAt z here bodies p → b.settings ≡ z → G b
       → Tells result ((q : SoFar) × JudgesSection z p section.data_segments b.rest q))
       → TellsFrame r x result
-  data_told result h z p f (bodies, count, at) has is =
-      section_answer result x x refl z p f section.data_segments plain
-      (λ id b k. let m = of id b k in (m.0, λ st. h z p bodies b (subst (λ (s : Progress). IsAt z s bodies p) same at) st m.1)) has is
+  data_told result h z p f (bodies, count, at) is =
+      let there = subst (λ (s : Progress). IsAt z s bodies p) same at in
+      frame_anew (λ (s : Shape). Tells result ((q : SoFar) × JudgesShape z p s q)) z x whole
+      (λ g has j. section_answer result anew (read_by z x) (sym (anew_is x anew y read here by z p bodies there)) z p g section.data_segments plain
+      (λ id b k. let m = of id b k in (m.0, λ st. h z p bodies b there st m.1)) has j) f is
 
   pub data_follows : {X : Type 0} (result : Result X ErrorValue) (after : Progress) (s : Reached) → s ≡ record { progress = after; code = r.code }
       → OnOk result ((z : Settings) (p q : SoFar) (bodies : List Body) (b : State) → IsAt z here bodies p → b.settings ≡ z → G b
@@ -151,6 +196,9 @@ module _ (r : Reached) (here : Progress) (same : r.progress ≡ here) (x : Paylo
     where
       go : ((z : Settings) (p q : SoFar) (bodies : List Body) (b : State) → IsAt z here bodies p → b.settings ≡ z → G b
           → JudgesSection z p section.data_segments b.rest q → IsAt z after bodies q) → Follows r x s
-      go added z p q f (bodies, count, at) has is j =
-          let step = section_added {X = Unit {0}} (Ok tt) x x refl plain here after bodies section.data_segments G of added in
-          subst (λ (t : Reached). IsReached z t q) (sym left) (bodies, count, step z p q f (subst (λ (s : Progress). IsAt z s bodies p) same at) has is j)
+      go added z p q f (bodies, count, at) is j =
+          let there = subst (λ (s : Progress). IsAt z s bodies p) same at in
+          let step = section_added {X = Unit {0}} (Ok tt) anew anew refl plain here after bodies section.data_segments G of added in
+          let next = frame_anew (λ (t : Shape). JudgesShape z p t q → IsAt z after bodies q) z x whole
+          (λ g has k. step z p q g there has (subst (IsPayloadOf g) (sym (anew_is x anew y read here by z p bodies there)) k)) f is j in
+          subst (λ (t : Reached). IsReached z t q) (sym left) (bodies, count, next)

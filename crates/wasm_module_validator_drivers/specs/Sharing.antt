@@ -9,13 +9,12 @@ use Rattle.wasm_sections_parser.specs.declared.frame.Frame.{Frame}
 use Rattle.wasm_sections_parser.specs.Parsing.{shape_of}
 use Rattle.wasm_sections.specs.declared.payload.Payload.{Payload}
 use Rattle.wasm_sections.specs.declared.payload.Payload.TheVariants as payloads
-use Rattle.wasm_sections.specs.Payloads.{IsPayloadOf}
+use Rattle.wasm_sections.specs.Payloads.{IsPayloadOf, read_by}
 use Rattle.wasm_module_validator_resources.specs.index_spaces.declared.module.Function.{Function}
 use Rattle.wasm_module_validator_function_bodies.specs.declared.beginning.FuncToValidate.{FuncToValidate}
 use Rattle.wasm_module_validator_section_order.specs.items.Adding.{UnlessFull}
 use Rattle.wasm_module_validator_payloads.specs.declarations.Total.{IsPastTotal}
 use Rattle.wasm_module_validator_section_order.specs.declared.items.bodies.Body.{Body}
-use Rattle.wasm_module_validator_section_order.specs.frames.Walks.{HasSettings}
 use Rattle.wasm_module_validator_section_order.specs.rules_in_order.Sections.{code_place}
 use Rattle.wasm_module_validator_section_order.specs.rules_in_order.Steps.{SoFar, JudgesShape, JudgesBody}
 use Rattle.wasm_module_validator_payloads.specs.Progress.{Kept, Progress, HasGroup, IsAt, nothing_kept, renewed, next_over}
@@ -87,14 +86,16 @@ IsWhole (payloads.DataCountSection n r) = Unit {0}
 IsWhole (payloads.DataSection s) = Unit {0}
 IsWhole (payloads.UnknownSection i c r) = Unit {0}
 
--- Where what is kept stands for what was judged, the answer tells whether the frame that has this payload may come next by the rules.
+-- Where what is kept stands for what was judged, the answer tells whether the frame that has this payload may come next by the rules,
+-- by whatever settings the payload was read before.
 abbrev pub TellsFrame : {X : Type 0} → Reached → Payload → Result X ErrorValue → Type 0
-TellsFrame r x answer = (z : Settings) (p : SoFar) (f : Frame) → IsReached z r p → HasSettings z f → IsPayloadOf f x
+TellsFrame r x answer = (z : Settings) (p : SoFar) (f : Frame) → IsReached z r p → IsPayloadOf f x
     → Tells answer ((q : SoFar) × JudgesShape z p (shape_of f) q)
 
--- the payload is a type section, of which one group would pass the total of types
+-- the payload is a type section, of which one group, by the settings of what was judged, would pass the total of types
 abbrev pub FullNext : Reached → Payload → ErrorValue → Type 0
-FullNext r x e = (z : Settings) (p : SoFar) → IsReached z r p → IsPastTotal r.progress.kept.groups r.progress.kept.items (HasGroup x) e
+FullNext r x e = (z : Settings) (p : SoFar) → IsReached z r p
+    → IsPastTotal r.progress.kept.groups r.progress.kept.items (HasGroup (read_by z x)) e
 
 -- It does so unless the total of types would be passed.
 abbrev pub TellsNext : {X : Type 0} → Reached → Payload → Result X ErrorValue → Type 0
@@ -102,7 +103,7 @@ TellsNext r x answer = UnlessFull (FullNext r x) answer (TellsFrame r x answer)
 
 -- What is kept then stands for whatever was judged with that frame.
 abbrev pub Follows : Reached → Payload → Reached → Type 0
-Follows r x s = (z : Settings) (p q : SoFar) (f : Frame) → IsReached z r p → HasSettings z f → IsPayloadOf f x
+Follows r x s = (z : Settings) (p q : SoFar) (f : Frame) → IsReached z r p → IsPayloadOf f x
     → JudgesShape z p (shape_of f) q
     → IsReached z s q
 
@@ -139,7 +140,7 @@ NoneLeft r = slice_get r.progress.kept.items.spaces.functions (r.progress.kept.i
 -- What is kept then: one body more, where a function was handed out. It is refused only where it may not come here, memory aside.
 abbrev pub BodyFollows : Reached → Settings → State → Result (Option Handed) ErrorValue → Reached → Type 0
 BodyFollows r y body (Ok (Some f)) s = IsHandedOut r y f × (s.code ≡ Some (body_count r.code + 1)) × (s.progress.kept ≡ r.progress.kept)
-    × ((z : Settings) (p q : SoFar) → IsReached z r p → body.settings ≡ z → JudgesBody z p body.rest q → IsReached z s q)
+    × ((z : Settings) (p q : SoFar) → IsReached z r p → JudgesBody z p body.rest q → IsReached z s q)
 BodyFollows r y body (Ok None) s = (s ≡ r) × NoneLeft r
 BodyFollows r y body (Err e) s = (s ≡ r) × Denies e.kind (FitsNext r body)
 
@@ -147,5 +148,5 @@ BodyFollows r y body (Err e) s = (s ≡ r) × Denies e.kind (FitsNext r body)
 -- memory aside.
 pub record IsNextFunction (r : Reached) (y : Settings) (body : State) (answer : Result (Option Handed) ErrorValue)
     (s : Reached) : Type 0 where
-  pub told : (z : Settings) (p : SoFar) → IsReached z r p → body.settings ≡ z → TellsBody z p body.rest answer
+  pub told : (z : Settings) (p : SoFar) → IsReached z r p → TellsBody z p body.rest answer
   pub follows : BodyFollows r y body answer s

@@ -159,7 +159,7 @@ impl SharedProgress {
         }
     }
 
-    /// Takes a payload that is no part of the code.
+    /// Takes a payload that is no part of the code. Its items are read by the module's own features and limits, whatever its reader had.
     ///
     /// # Errors
     ///
@@ -172,8 +172,9 @@ impl SharedProgress {
         ensures own { self.new.code ≡ None }
         ensures grown { OnOk result (Grows self.old.progress.kept self.new.progress.kept) }
     {
+        let anew = payload.read_by(self.own.features(), self.own.limits());
         let mut bodies = Vec::new(self.alloc);
-        self.own.take_payload(payload, &mut bodies)
+        self.own.take_payload(anew, &mut bodies)
     }
 
     /// Takes the start of the code section: the module is shared from then on.
@@ -200,7 +201,8 @@ impl SharedProgress {
         Ok(())
     }
 
-    /// Takes the data section of a module whose code has begun.
+    /// Takes the data section of a module whose code has begun. Its segments are read by the module's own features and limits, whatever
+    /// their reader had.
     ///
     /// # Errors
     ///
@@ -216,7 +218,8 @@ impl SharedProgress {
         let Some(shared) = &self.shared else {
             unreachable!()
         };
-        match check_data_section(self.alloc, shared, self.last, segments) {
+        let anew = segments.read_by(shared.features(), shared.limits());
+        match check_data_section(self.alloc, shared, self.last, anew) {
             Ok(()) => (),
             Err(error) => return Err(error),
         }

@@ -35,10 +35,10 @@ left_by_body body v w h t = go (refusal v.state (is_some v.reached.code)) refl
 
 module _ (x : Payload) (v w : Validator) (h : Handed) (body : Bytes) (t : TakesPayload x v (Ok (valid.Func h body)) w) (judge : Option PlainJudge) where
   handed : IsHandedOut v.reached v.settings h
-  handed = body_handed body v w h (handed_out x v w h body t).1
+  handed = let out = handed_out x v w h body t in body_handed out.0 v w h out.3
 
   left : (w ≡ record v { reached = w.reached }) × (w.reached.progress.kept ≡ v.reached.progress.kept)
-  left = left_by_body body v w h (handed_out x v w h body t).1
+  left = let out = handed_out x v w h body t in left_by_body out.0 v w h out.3
 
   -- it is one of what is handed out
   pub judge_of_handed : IsJudgeFor v judge → IsJudgeKept (context_of h.resources.shared.value.groups h.resources.shared.value.items.spaces) h.features.0 judge

@@ -53,7 +53,8 @@ module _ (z : Settings) (id : ValidatorId) (got : List ℕ) (eof : Bool) (q : Pa
       → Tells answer (IsFunctionOf z (context_of v.reached.progress.kept.groups v.reached.progress.kept.items.spaces) j.handed.ty j.body.rest)
   judged_here answer j =
       let read = body_read z id got eof q rest v g n f r parses x is w j.handed j.body j.takes in
-      let handed = body_handed j.body v w j.handed (handed_out x v w j.handed j.body j.takes).1 in
+      let out = handed_out x v w j.handed j.body j.takes in
+      let handed = body_handed out.0 v w j.handed out.3 in
       subst (λ (k : Kept). Tells answer (IsFunctionOf z (context_of k.groups k.items.spaces) j.handed.ty j.body.rest)) handed.resources (j.told z read.0 read.1)
 
   passed_on : TakesPayload x v (Ok valid.Ok) w ⊎ JudgesFunction x v (Ok tt) w → Goes z id got eof r (drop n rest) w
@@ -195,4 +196,4 @@ stops_reader z j same most piece before after result s = record {
 
 -- what judges a function that was handed out holds to limits that are within their ceilings
 pub handed_within : (x : Payload) (v w : Validator) (h : Handed) (body : Bytes) → TakesPayload x v (Ok (valid.Func h body)) w → IsWithinCeilings h.limits
-handed_within x v w h body t = (body_handed body v w h (handed_out x v w h body t).1).within
+handed_within x v w h body t = let out = handed_out x v w h body t in (body_handed out.0 v w h out.3).within

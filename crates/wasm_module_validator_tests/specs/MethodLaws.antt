@@ -5,13 +5,14 @@ use Rattle.wasm_types.specs.decoding.ErrorValue.{ErrorValue}
 use Rattle.wasm_types.specs.decoding.declared.error.ErrorKind.{ErrorKind}
 use Rattle.wasm_types.specs.decoding.declared.error.ErrorKind.TheVariants as kinds
 use Rattle.wasm_module_validator_section_order.specs.sections_below.declared.payload.Payload.TheVariants as payloads
+use Rattle.wasm_module_validator_section_order.specs.sections_below.Payloads.{set}
 use Rattle.wasm_module_validator.specs.drivers.Sharing.{Reached, Handed}
 use Rattle.wasm_module_validator.specs.declared.validator.Validator.{Validator}
 use Rattle.wasm_module_validator.specs.declared.validator.State.{State}
 use Rattle.wasm_module_validator.specs.declared.validator.State.TheVariants.{Unparsed, Module, Ended, Failed}
 use Rattle.wasm_module_validator.specs.declared.payloads.ValidPayload.TheVariants as valid
 use Rattle.wasm_module_validator.specs.Shown.{Learned}
-use Rattle.wasm_module_validator.specs.Payloads.{passed, ended}
+use Rattle.wasm_module_validator.specs.Payloads.{passed, with_body, ended}
 use Rattle.wasm_operator_validator_state.specs.Refusals.{refused_by}
 use Rattle.wasm_types.specs.decoding.Denials.{Tells}
 use Rattle.wasm_module_validator_tests.specs.Methods.{Turns, at, for_content, for_memory, failed_before, begun, HeadersRead, before_code, within_code, SectionsTaken, EndsRows, Known, Answers, PayloadsTaken}
@@ -105,7 +106,7 @@ sections_taken v c b = record {
   code_refused_and_going = λ h. module_failed _ _ (h.left refl) refl refl;
   body_early = record { out = λ k e. (e, refl); told = λ e. absurd (no_kind _ e); left = λ e. absurd (no_kind _ e) };
   body_early_failed = λ h. module_failed _ _ (sym (h.out kinds.Other refl).1) refl refl;
-  body_lacking = record { out = λ k e. absurd (none_is k e); told = λ e z p r s. tt; left = λ e. inr (refl, tt) };
+  body_lacking = record { out = λ k e. absurd (none_is k e); told = λ e z p r. tt; left = λ e. inr (refl, tt) };
   body_lacking_and_going = λ h. going (h.left refl);
   unknown = record { out = λ k e. absurd (none_is k e); told = λ e. refl; left = λ e. refl };
   unknown_going = λ h. module_failed _ _ (h.left refl) refl refl;
@@ -177,6 +178,7 @@ payloads_taken v c n r = record {
   end_passed = λ h. no_end h.0 h.1;
   unknown = λ i x. (Err for_content, refl, record { out = λ k e. absurd (none_is k e); told = λ e. refl; left = λ e. refl });
   unknown_passed = λ i x h. taken h.0 h.1 (h.2.told refl);
+  body_by_others = λ b f w other h. other (handed_so b f h.0 h.1);
 }
   where
     passed_on : (p : Result (Unit {0}) ErrorValue) → Ok valid.Ok ≡ passed p → refused_by p ≡ Some kinds.Failed → ⊥
@@ -198,3 +200,7 @@ payloads_taken v c n r = record {
     taken : (p : Result (Unit {0}) ErrorValue) → Ok valid.Ok ≡ passed p → refused_by p ≡ Some kinds.Other → ⊥
     taken (Ok u) e f = absurd cc
     taken (Err x) e f = absurd cc
+
+    handed_so : (b : Bytes) (f : Handed) (h : Result Handed ErrorValue) → Ok (valid.Func f b) ≡ with_body (set v.settings b) h → b.settings ≡ v.settings
+    handed_so b f (Ok g) e = let same : b ≡ set v.settings b = cc in ap (λ (s : Bytes). s.settings) same
+    handed_so b f (Err x) e = absurd cc

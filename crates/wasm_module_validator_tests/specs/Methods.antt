@@ -160,3 +160,5 @@ pub record PayloadsTaken (v : Validator) (c : _) (n : ℕ) (r : _) : Type 0 wher
   pub end_passed : TakesPayload (payloads.End n) (at Module v) (Ok valid.Ok) (record v { state = Ended; reached = next_behind v.reached }) → ⊥
   pub unknown : (i : ℕ) (x : _) → TakesPayload (payloads.UnknownSection i x r) (at Module v) (Err for_content) (at Failed v)
   pub unknown_passed : (i : ℕ) (x : _) → TakesPayload (payloads.UnknownSection i x r) (at Module v) (Ok valid.Ok) (at Module v) → ⊥
+  pub body_by_others : (b : Bytes) (f : Handed) (w : Validator) → (b.settings ≡ v.settings → ⊥)
+      → TakesPayload (payloads.CodeSectionEntry b) v (Ok (valid.Func f b)) w → ⊥

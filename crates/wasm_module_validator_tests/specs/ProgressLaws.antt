@@ -145,17 +145,17 @@ no_version z p q (frames.End a) r i j = absurd cc
 
 end_refused : (groups : List Group) (bits n : ℕ) → TellsNext {X = ℕ} (fresh groups bits) (payloads.End n) (Err at_seven) → ⊥
 end_refused groups bits n (inl full) = (full (under bits) nothing (at_nothing groups bits)).has
-end_refused groups bits n (inr t) = t (under bits) nothing (frames.End n) (at_nothing groups bits) tt refl (nothing, refl)
+end_refused groups bits n (inr t) = t (under bits) nothing (frames.End n) (at_nothing groups bits) refl (nothing, refl)
 
 pub next_told : (groups : List Group) (bits : ℕ) → NextTold groups bits
 next_told groups bits = record {
-  end = λ n z p f r h i. (p, the_end_comes z p f n i);
+  end = λ n z p f r i. (p, the_end_comes z p f n i);
   end_refused = end_refused groups bits;
-  another_version = λ r t. let (q, (v, l, e)) = t (under bits) nothing (frames.Version 2 encodings.Module r) (at_nothing groups bits) tt refl in omega (arith, v);
-  another_version_refused = λ r. inr (λ z p f s h i (q, j). no_version z p q f r i j);
-  follows = λ n z p q f r h i j. subst (λ (x : SoFar). IsReached z (fresh groups bits) x) (sym (the_end_stays z p q f n i j)) r;
+  another_version = λ r t. let (q, (v, l, e)) = t (under bits) nothing (frames.Version 2 encodings.Module r) (at_nothing groups bits) refl in omega (arith, v);
+  another_version_refused = λ r. inr (λ z p f s i (q, j). no_version z p q f r i j);
+  follows = λ n z p q f r i j. subst (λ (x : SoFar). IsReached z (fresh groups bits) x) (sym (the_end_stays z p q f n i j)) r;
   follows_not = λ n h.
-      let (bs, m, a) = h (under bits) nothing nothing (frames.End n) (at_nothing groups bits) tt refl refl in
+      let (bs, m, a) = h (under bits) nothing nothing (frames.End n) (at_nothing groups bits) refl refl in
       no_bodies bs a.bodies m;
 }
 

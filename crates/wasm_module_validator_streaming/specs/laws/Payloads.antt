@@ -15,7 +15,7 @@ use Rattle.wasm_sections_parser.specs.declared.frame.Frame.TheVariants as frames
 use Rattle.wasm_sections_parser.specs.Parsing.{shape_of, layer_of}
 use Rattle.wasm_sections.specs.declared.payload.Payload.{Payload}
 use Rattle.wasm_sections.specs.declared.payload.Payload.TheVariants as payloads
-use Rattle.wasm_sections.specs.Payloads.{IsSectionOf, IsPayloadOf, is_unknown}
+use Rattle.wasm_sections.specs.Payloads.{IsSectionOf, IsPayloadOf, is_unknown, read_by, set}
 use Rattle.wasm_operator_validator_state.specs.Refusals.{refused_by}
 use Rattle.wasm_module_validator_index_spaces.specs.declared.module.Function.{Function}
 use Rattle.wasm_module_validator.specs.resources.Reading.{context_of}
@@ -24,7 +24,6 @@ use Rattle.wasm_module_validator_function_bodies.specs.code.Code.{IsFunctionOf}
 use Rattle.wasm_module_validator_section_order.specs.items.Bodies.{IsReadBy}
 use Rattle.wasm_module_validator.specs.module_validator_payloads.Progress.{Kept, Grows, HasGroup, nothing_over, nothing_kept, kept_groups}
 use Rattle.wasm_module_validator.specs.declarations.Total.{IsPastTotal}
-use Rattle.wasm_module_validator_section_order.specs.frames.Walks.{HasSettings}
 use Rattle.wasm_module_validator.specs.module_validator_payloads.laws.Bodies.{function_is}
 use Rattle.wasm_module_validator.specs.module_validator_payloads.laws.Growing.{grows_by_nothing}
 use Rattle.wasm_module_validator.specs.module_validator_payloads.laws.Shapes.{frame_back, frame_is, of_frame, of_section}
@@ -137,7 +136,7 @@ not_some x e = cc
 
 -- where the list of types is not full it is told
 not_full : (x : Payload) (r : Reached) (e : ErrorValue) (P : Type 0) (z : Settings) (p : SoFar) → IsReached z r p
-    → (IsPastTotal r.progress.kept.groups r.progress.kept.items (HasGroup x) e → ⊥) → FullNext r x e ⊎ P → P
+    → (IsPastTotal r.progress.kept.groups r.progress.kept.items (HasGroup (read_by z x)) e → ⊥) → FullNext r x e ⊎ P → P
 not_full x r e P z p at none (inl full) = absurd (none (full z p at))
 not_full x r e P z p at none (inr told) = told
 
@@ -164,7 +163,7 @@ is_known section.data_segments e = cc
 module _ (z : Settings) (v w : Validator) (going : v.state ≡ Module) where
   -- the list of types is not full because of this
   abbrev pub NotFull : Payload → ErrorValue → Type 0
-  NotFull x e = IsPastTotal v.reached.progress.kept.groups v.reached.progress.kept.items (HasGroup x) e → ⊥
+  NotFull x e = IsPastTotal v.reached.progress.kept.groups v.reached.progress.kept.items (HasGroup (read_by z x)) e → ⊥
 
   before_code : v.reached.code ≡ None → refusal v.state (has_no_code v.reached.code) ≡ None
   before_code c = ap (λ (s : State). refusal s (has_no_code v.reached.code)) going ∙ ap (λ (o : Option ℕ). refusal Module (has_no_code o)) c
@@ -181,7 +180,7 @@ module _ (z : Settings) (v w : Validator) (going : v.state ≡ Module) where
   out_of_code : v.reached.code ≡ None → refusal v.state (is_some v.reached.code) ≡ Some kinds.Other
   out_of_code c = ap (λ (s : State). refusal s (is_some v.reached.code)) going ∙ ap (λ (o : Option ℕ). refusal Module (is_some o)) c
 
-  module _ (m : SoFar) (f : Frame) (s : IsJudgedSoFar z v.reached m) (has : HasSettings z f) where
+  module _ (m : SoFar) (f : Frame) (s : IsJudgedSoFar z v.reached m) where
     -- no place is free behind the start of the code but that of data segments
     too_late : (k : ℕ) → v.reached.code ≡ Some k → (id : ℕ) (text : List ℕ) (n : SoFar) (t : Section) → id ≡ number t → JudgesSection z m t text n → (id ≡ 11 → ⊥) → ⊥
     too_late k c id text n t e j other =
@@ -199,13 +198,13 @@ module _ (z : Settings) (v w : Validator) (going : v.state ≡ Module) where
           late k c n = of_section (λ (g : Frame). JudgesShape z m (shape_of g) n.0 → ⊥) f x none (λ id b h j. too_late k c id b.rest n.0 j.0 j.1 j.2 (other id b h)) is n.1
 
           go : (o : Option ℕ) → v.reached.code ≡ o → Denies e.kind (Next z m f)
-          go None c = not_full x v.reached e (TellsFrame {X = Unit {0}} v.reached x (Err e)) z m s.reached few (t.told (before_code c)) z m f s.reached has is
+          go None c = not_full x v.reached e (TellsFrame {X = Unit {0}} v.reached x (Err e)) z m s.reached few (t.told (before_code c)) z m f s.reached is
           go (Some k) c = denies e.kind (Next z m f) (late k c)
 
       -- what is left behind a section that was taken
       section_left : IsTaken {X = Unit {0}} x v (Ok tt) w → (n : SoFar) → JudgesShape z m (shape_of f) n → IsJudgedSoFar z w.reached n
       section_left left n j = record {
-        reached = left.1 z m n f s.reached has is j;
+        reached = left.1 z m n f s.reached is j;
         place = subst (λ (o : Option ℕ). FitsPlace o n.last) (sym left.2)
             (of_section (λ (g : Frame). JudgesShape z m (shape_of g) n → FitsPlace v.reached.code n.last) f x none (λ id b h k. place_stays z m n k.0 b.rest k.2 v.reached.code s.place) is j);
         bodies = of_section (λ (g : Frame). JudgesShape z m (shape_of g) n → AreFirst z n.tree n.bodies) f x none
@@ -216,14 +215,14 @@ module _ (z : Settings) (v w : Validator) (going : v.state ≡ Module) where
       section_taken t = go v.reached.code refl
         where
           go : (o : Option ℕ) → v.reached.code ≡ o → IsLeft z v m f w
-          go None c = let left = t.left (before_code c) in (left.0, t.told (before_code c) z m f s.reached has is, section_left left, left.3)
+          go None c = let left = t.left (before_code c) in (left.0, t.told (before_code c) z m f s.reached is, section_left left, left.3)
           go (Some k) c = absurd (not_some kinds.Other (t.out kinds.Other (behind_code k c)).0)
 
       data_denied : (e : ErrorValue) → NotFull x e → TakesData {X = Unit {0}} x v (Err e) w → Denies e.kind (Next z m f)
-      data_denied e few t = not_full x v.reached e (TellsFrame {X = Unit {0}} v.reached x (Err e)) z m s.reached few (t.told at_any_time) z m f s.reached has is
+      data_denied e few t = not_full x v.reached e (TellsFrame {X = Unit {0}} v.reached x (Err e)) z m s.reached few (t.told at_any_time) z m f s.reached is
 
       data_taken : TakesData {X = Unit {0}} x v (Ok tt) w → IsLeft z v m f w
-      data_taken t = let left = t.left at_any_time in (left.0, t.told at_any_time z m f s.reached has is, section_left left, left.3)
+      data_taken t = let left = t.left at_any_time in (left.0, t.told at_any_time z m f s.reached is, section_left left, left.3)
 
     -- ---- the start of the code
 
@@ -270,9 +269,6 @@ module _ (z : Settings) (v w : Validator) (going : v.state ≡ Module) where
     -- ---- a body
 
     module _ (body : Bytes) (is : IsPayloadOf f (payloads.CodeSectionEntry body)) where
-      read_by : body.settings ≡ z
-      read_by = subst (HasSettings z) (frame_is f (payloads.CodeSectionEntry body) (frames.CodeEntry body) refl is) has
-
       pub is_body : (n : SoFar) → JudgesShape z m (shape_of f) n → JudgesBody z m body.rest n
       is_body n j = of_frame (λ (h : Frame). JudgesShape z m (shape_of h) n → JudgesBody z m body.rest n) f (payloads.CodeSectionEntry body) (frames.CodeEntry body) refl is (λ k. k) j
 
@@ -286,7 +282,7 @@ module _ (z : Settings) (v w : Validator) (going : v.state ≡ Module) where
 
           go : (o : Option ℕ) → v.reached.code ≡ o → Denies e.kind (Next z m f)
           go None c = denies e.kind (Next z m f) (early c)
-          go (Some k) c = denies_from e.kind ((q : SoFar) × JudgesBody z m body.rest q) (Next z m f) (λ n. (n.0, is_body n.0 n.1)) (t.told (in_code k c) z m s.reached read_by)
+          go (Some k) c = denies_from e.kind ((q : SoFar) × JudgesBody z m body.rest q) (Next z m f) (λ n. (n.0, is_body n.0 n.1)) (t.told (in_code k c) z m s.reached)
 
       module _ (h : Handed) (t : TakesBody body v (Ok h) w) where
         -- the code has begun
@@ -302,11 +298,11 @@ module _ (z : Settings) (v w : Validator) (going : v.state ≡ Module) where
             × ((n : SoFar) → JudgesBody z m body.rest n → IsReached z w.reached n) × Grows v.reached.progress.kept w.reached.progress.kept
         body_left =
             let left = t.left (in_code in_turn.0 in_turn.1) in
-            (left.0, left.1, left.2, (λ n j. left.4 z m n s.reached read_by j), same_kept v.reached.progress.kept w.reached.progress.kept left.3)
+            (left.0, left.1, left.2, (λ n j. left.4 z m n s.reached j), same_kept v.reached.progress.kept w.reached.progress.kept left.3)
 
         pub body_comes : Next z m f
         body_comes =
-            let n = t.told (in_code in_turn.0 in_turn.1) z m s.reached read_by in
+            let n = t.told (in_code in_turn.0 in_turn.1) z m s.reached in
             of_frame (λ (g : Frame). Next z m g) f (payloads.CodeSectionEntry body) (frames.CodeEntry body) refl is n
 
         -- it is that of a function of this type
@@ -326,9 +322,10 @@ module _ (z : Settings) (v w : Validator) (going : v.state ≡ Module) where
         abbrev pub IsHandedBody : Type 0
         IsHandedBody = IsFunctionOf z (context_of v.reached.progress.kept.groups v.reached.progress.kept.items.spaces) h.ty body.rest
 
-        pub read_so : v.settings ≡ z → IsReadBy z h.features.0 body
+        -- so whoever judges it reads it
+        pub read_so : v.settings ≡ z → IsReadBy z h.features.0 (set v.settings body)
         read_so same = record {
-          settings = read_by;
+          settings = same;
           features = sym (body_left.0.features ∙ ap (λ (y : Settings). y.features) same);
           within = (is_body body_comes.0 body_comes.1).within;
         }
@@ -392,7 +389,7 @@ module _ (z : Settings) (v w : Validator) (going : v.state ≡ Module) where
           data_denied (payloads.DataSection c) refl is e none (subst (λ (a : Result (Unit {0}) ErrorValue). TakesData (payloads.DataSection c) v a w) (passed_err p e same) t)
       denied (payloads.CodeSectionStart n r k) e none is (p, same, t) =
           code_denied (payloads.CodeSectionStart n r k) (frames.CodeStart n r k) refl is (λ q j. j) (λ l. (l, refl)) e (subst (λ (a : Result (Unit {0}) ErrorValue). BeginsCode v a w) (passed_err p e same) t)
-      denied (payloads.CodeSectionEntry body) e none is (h, same, t) = body_denied body is e (subst (λ a. TakesBody body v a w) (body_err body h e same) t)
+      denied (payloads.CodeSectionEntry body) e none is (h, same, t) = body_denied body is e (subst (λ a. TakesBody body v a w) (body_err (set v.settings body) h e same) t)
       denied (payloads.CustomSection c) e none is (p, same, (refused, stays)) =
           absurd (not_some e.kind (sym (sym (ap (refused_by {X = Unit {0}}) (passed_err p e same)) ∙ refused ∙ ap failure going)))
       denied (payloads.UnknownSection i c r) e none is (p, same, t) = denies e.kind (Next z m f) (λ n.
@@ -418,7 +415,7 @@ module _ (z : Settings) (v w : Validator) (going : v.state ≡ Module) where
       taken (payloads.DataSection c) is (p, same, t) = data_taken (payloads.DataSection c) refl is (subst (λ (a : Result (Unit {0}) ErrorValue). TakesData (payloads.DataSection c) v a w) (passed_ok p same).1 t)
       taken (payloads.CodeSectionStart n r k) is (p, same, t) =
           code_taken (payloads.CodeSectionStart n r k) (frames.CodeStart n r k) refl is (λ q j. j) (λ l. (l, refl)) (subst (λ (a : Result (Unit {0}) ErrorValue). BeginsCode v a w) (passed_ok p same).1 t)
-      taken (payloads.CodeSectionEntry body) is (h, same, t) = absurd (not_passed_by_body body h same)
+      taken (payloads.CodeSectionEntry body) is (h, same, t) = absurd (not_passed_by_body (set v.settings body) h same)
       taken (payloads.CustomSection c) is (p, same, (refused, stays)) = (
         stays ∙ ap (λ (u : Validator). record v { reached = u.reached }) (sym stays),
         of_frame (λ (g : Frame). Next z m g) f (payloads.CustomSection c) (frames.Custom c) refl is (m, refl),
@@ -443,8 +440,9 @@ module _ (z : Settings) (v w : Validator) (going : v.state ≡ Module) where
 
 -- ---- which payload it was
 
--- a function is handed out for a body alone
-pub handed_out : (x : Payload) (v w : Validator) (h : Handed) (body : Bytes) → TakesPayload x v (Ok (valid.Func h body)) w → (x ≡ payloads.CodeSectionEntry body) × TakesBody body v (Ok h) w
+-- a function is handed out for a body alone, which is handed on to be read by the validator's settings
+pub handed_out : (x : Payload) (v w : Validator) (h : Handed) (body : Bytes) → TakesPayload x v (Ok (valid.Func h body)) w
+    → (b : Bytes) × (x ≡ payloads.CodeSectionEntry b) × (body ≡ set v.settings b) × TakesBody b v (Ok h) w
 handed_out (payloads.Version n l r) v w h body (p, same, t) = absurd (no_function_passed h body p same)
 handed_out (payloads.TypeSection c) v w h body (p, same, t) = absurd (no_function_passed h body p same)
 handed_out (payloads.ImportSection c) v w h body (p, same, t) = absurd (no_function_passed h body p same)
@@ -462,16 +460,13 @@ handed_out (payloads.CodeSectionStart n r k) v w h body (p, same, t) = absurd (n
 handed_out (payloads.CustomSection c) v w h body (p, same, t) = absurd (no_function_passed h body p same)
 handed_out (payloads.UnknownSection i c r) v w h body (p, same, t) = absurd (no_function_passed h body p same)
 handed_out (payloads.End place) v w h body (r, same, t) = absurd (no_function_ended h body r same)
-handed_out (payloads.CodeSectionEntry b) v w h body (r, same, t) = go r same t
+handed_out (payloads.CodeSectionEntry b) v w h body (r, same, t) = let k = go r same t in (b, refl, k.0, k.1)
   where
-    go : (r : Result Handed ErrorValue) → Ok (valid.Func h body) ≡ with_body b r → TakesBody b v r w → (payloads.CodeSectionEntry b ≡ payloads.CodeSectionEntry body) × TakesBody body v (Ok h) w
+    go : (r : Result Handed ErrorValue) → Ok (valid.Func h body) ≡ with_body (set v.settings b) r → TakesBody b v r w → (body ≡ set v.settings b) × TakesBody b v (Ok h) w
     go (Err e) k u = absurd cc
     go (Ok g) k u =
-        let bodies : body ≡ b = ap (body_of_answer body) k in
-        let functions : h ≡ g = ap (function_of_answer h) k in (
-          ap (λ (c : Bytes). payloads.CodeSectionEntry c) (sym bodies),
-          subst (λ (c : Bytes). TakesBody c v (Ok h) w) (sym bodies) (subst (λ (f : Handed). TakesBody b v (Ok f) w) (sym functions) u),
-        )
+        let functions : h ≡ g = ap (function_of_answer h) k in
+        (ap (body_of_answer body) k, subst (λ (f : Handed). TakesBody b v (Ok f) w) (sym functions) u)
 
 -- and it is the module as it is kept, and the function behind those that came
 pub body_handed : (body : Bytes) (v w : Validator) (h : Handed) → TakesBody body v (Ok h) w → IsHandedOut v.reached v.settings h
@@ -499,7 +494,7 @@ end_is_told (payloads.DataSection c) v w t (p, same, k) = absurd (no_end_passed 
 end_is_told (payloads.CodeSectionStart n r i) v w t (p, same, k) = absurd (no_end_passed t p same)
 end_is_told (payloads.CustomSection c) v w t (p, same, k) = absurd (no_end_passed t p same)
 end_is_told (payloads.UnknownSection i c r) v w t (p, same, k) = absurd (no_end_passed t p same)
-end_is_told (payloads.CodeSectionEntry b) v w t (h, same, k) = absurd (no_end_by_body t b h same)
+end_is_told (payloads.CodeSectionEntry b) v w t (h, same, k) = absurd (no_end_by_body t (set v.settings b) h same)
 end_is_told (payloads.End place) v w t k = (place, refl)
 
 -- a payload that passes is not the end

@@ -31,7 +31,7 @@ use Rattle.wasm_sections_parser.specs.runs.steps.StepCases.{header_given, no_end
 use Rattle.wasm_sections.specs.declared.payload.Payload.{Payload}
 use Rattle.wasm_sections.specs.declared.payload.Payload.TheVariants as payloads
 use Rattle.wasm_sections.specs.Parsing.{ParsesPayload}
-use Rattle.wasm_sections.specs.Payloads.{IsPayloadOf, IsRefusedAs}
+use Rattle.wasm_sections.specs.Payloads.{IsPayloadOf, IsRefusedAs, read_by, set}
 use Rattle.wasm_module_validator.specs.resources.Reading.{context_of}
 use Rattle.wasm_module_validator_index_spaces.specs.declared.view.validator_id.ValidatorId.{ValidatorId}
 use Rattle.wasm_module_validator.specs.drivers.Sharing.{Handed}
@@ -42,9 +42,8 @@ use Rattle.wasm_module_validator.specs.module_validator_payloads.Progress.{Grows
 use Rattle.wasm_module_validator.specs.declarations.Total.{IsPastTotal}
 use Rattle.wasm_module_validator.specs.declarations.TotalLaws.{none_past}
 use Rattle.wasm_module_validator.specs.module_validator_payloads.laws.Growing.{grows_further, total_before}
-use Rattle.wasm_module_validator_section_order.specs.frames.FrontLaws.{modules_one, calls_joined, calls_with_end, shapes_before, called_settings}
+use Rattle.wasm_module_validator_section_order.specs.frames.FrontLaws.{modules_one, calls_joined, calls_with_end, shapes_before}
 use Rattle.wasm_module_validator_section_order.specs.frames.JudgedLaws.{judged_more, judged_less}
-use Rattle.wasm_module_validator_section_order.specs.frames.Walks.{HasSettings}
 use Rattle.wasm_module_validator_section_order.specs.frames.framed.laws.Complete.{module_comes}
 use Rattle.wasm_module_validator.specs.module_validator_payloads.laws.Shapes.{frame_is}
 use Rattle.wasm_module_validator.specs.state.invariant.Standing.{Stands}
@@ -343,9 +342,6 @@ module _ (z : Settings) (id : ValidatorId) where
         subst (λ (t : List ℕ). Calls (begins z) (got ++ more) (g.frames ++ f ∷ []) r t) (drop_within n rest more (parsed_within q rest eof n f r parses).0)
         (calls_joined g.frames (begins z) q r (got ++ more) (rest ++ more) n f (g.calls more last) (called more last))
 
-    has : HasSettings z f
-    has = called_settings (begins z) q r (got ++ []) (rest ++ []) g.frames n f (g.calls [] (λ e. refl)) (called [] (λ e. refl))
-
     -- before the header the parser stands where it began
     not_header : g.frames ≡ [] → IsNoHeader f → ⊥
     not_header none later =
@@ -404,9 +400,9 @@ module _ (z : Settings) (id : ValidatorId) where
               (λ m j. subst (λ (k : SoFar). Next z k f) (judged_is_nothing none m j) (subst (λ (y : Frame). Next z nothing y) (sym e) h.3))
               (λ m j k shape. h.4 k (subst (λ (y : Frame). JudgesShape z nothing (shape_of y) k) e (subst (λ (k' : SoFar). JudgesShape z k' (shape_of f) k) (sym (judged_is_nothing none m j)) shape))) (h.5 empty)
           go (inr (st, some, fits, grown)) (inl later) =
-              let first = taken z v w st g.some.0 f (fits g.some.0 g.some.1) has later x is t in
+              let first = taken z v w st g.some.0 f (fits g.some.0 g.some.1) later x is t in
               goes_with (ap (λ (u : Validator). u.settings) first.0 ∙ g.settings) (ap (λ (u : Validator). u.id) first.0 ∙ g.own) (before_end f is) (ap (λ (u : Validator). u.state) first.0 ∙ st)
-              (λ m j. (taken z v w st m f (fits m j) has later x is t).1) (λ m j. (taken z v w st m f (fits m j) has later x is t).2)
+              (λ m j. (taken z v w st m f (fits m j) later x is t).1) (λ m j. (taken z v w st m f (fits m j) later x is t).2)
               (grows_further (nothing_kept z).kept v.reached.progress.kept w.reached.progress.kept grown first.3)
           go (inr (st, some, fits, grown)) (inr (i, l, s, e)) =
               absurd (late_header v w st i l s (subst (λ (y : Payload). TakesPayload y v (Ok valid.Ok) w) (subst (λ (h : Frame). IsPayloadOf h x) e is) t))
@@ -434,7 +430,7 @@ module _ (z : Settings) (id : ValidatorId) where
           go (inr (st, some, fits, grown)) (inl later) =
               denies_each {X = (m : SoFar) × AreJudged g.frames m} e.kind (λ m. Next z m.0 f) (AcceptsUnder z (got ++ more))
               (λ a. let c = comes more last room a in ((c.before, c.judged), (c.behind, c.next)))
-              (λ m. denied z v w st m.0 f (fits m.0 m.1) has later x e (not_past grown e (HasGroup x)) is t)
+              (λ m. denied z v w st m.0 f (fits m.0 m.1) later x e (not_past grown e (HasGroup (read_by z x))) is t)
           go (inr (st, some, fits, grown)) (inr (i, l, s, h)) = denies e.kind (AcceptsUnder z (got ++ more)) (λ a.
               let c = comes more last room a in
               no_second_header z (got ++ more) c.all c.others g.frames _ c.is some (subst (λ (y : Frame). c.all ++ the_end ∷ [] ≡ shapes_of g.frames ++ shape_of y ∷ c.others) h c.front))
@@ -442,17 +438,24 @@ module _ (z : Settings) (id : ValidatorId) where
       -- ---- a body
 
       module _ (h : Handed) (body : Bytes) (t : TakesPayload x v (Ok (valid.Func h body)) w) where
-        abbrev pub IsHandedBody : Type 0
-        IsHandedBody = IsFunctionOf z (context_of v.reached.progress.kept.groups v.reached.progress.kept.items.spaces) h.ty body.rest
+        abbrev pub IsHandedText : List ℕ → Type 0
+        IsHandedText text = IsFunctionOf z (context_of v.reached.progress.kept.groups v.reached.progress.kept.items.spaces) h.ty text
 
-        handed : (x ≡ payloads.CodeSectionEntry body) × TakesBody body v (Ok h) w
+        abbrev pub IsHandedBody : Type 0
+        IsHandedBody = IsHandedText body.rest
+
+        handed : (b : Bytes) × (x ≡ payloads.CodeSectionEntry b) × (body ≡ set v.settings b) × TakesBody b v (Ok h) w
         handed = handed_out x v w h body t
 
-        is_entry : IsPayloadOf f (payloads.CodeSectionEntry body)
-        is_entry = subst (IsPayloadOf f) handed.0 is
+        is_entry : IsPayloadOf f (payloads.CodeSectionEntry handed.0)
+        is_entry = subst (IsPayloadOf f) handed.1 is
 
-        entry_is : f ≡ frames.CodeEntry body
-        entry_is = frame_is f (payloads.CodeSectionEntry body) (frames.CodeEntry body) refl is_entry
+        entry_is : f ≡ frames.CodeEntry handed.0
+        entry_is = frame_is f (payloads.CodeSectionEntry handed.0) (frames.CodeEntry handed.0) refl is_entry
+
+        -- the bytes are those of the frame
+        same_bytes : body.rest ≡ handed.0.rest
+        same_bytes = ap (λ (b : Bytes). b.rest) handed.2
 
         -- it comes behind the header
         fits_body : (v.state ≡ Module) × ((m : SoFar) → AreJudged g.frames m → IsJudgedSoFar z v.reached m) × Grows (nothing_kept z).kept v.reached.progress.kept
@@ -466,13 +469,15 @@ module _ (z : Settings) (id : ValidatorId) where
         pub body_read : (z.limits ≡ h.limits) × IsReadBy z h.features.0 body
         body_read =
             let m = g.some.0 in
-            let s = fits_body.1 m g.some.1 in
-            (limits_are z v w fits_body.0 m f s has body is_entry h handed.1 g.settings, read_so z v w fits_body.0 m f s has body is_entry h handed.1 g.settings)
+            let s = fits_body.1 m g.some.1 in (
+              limits_are z v w fits_body.0 m f s handed.0 is_entry h handed.3 g.settings,
+              subst (IsReadBy z h.features.0) (sym handed.2) (read_so z v w fits_body.0 m f s handed.0 is_entry h handed.3 g.settings),
+            )
 
         pub body_goes_on : IsHandedBody → Goes got eof r (drop n rest) w
         body_goes_on valid =
             let st = fits_body.0 in
-            let step = λ (m : SoFar) (j : AreJudged g.frames m). body_taken z v w st m f (fits_body.1 m j) has body is_entry h handed.1 valid in
+            let step = λ (m : SoFar) (j : AreJudged g.frames m). body_taken z v w st m f (fits_body.1 m j) handed.0 is_entry h handed.3 (subst IsHandedText same_bytes valid) in
             let first = step g.some.0 g.some.1 in
             goes_with (ap (λ (u : Validator). u.settings) first.0 ∙ g.settings) (ap (λ (u : Validator). u.id) first.0 ∙ g.own) (ap is_end entry_is)
             (ap (λ (u : Validator). u.state) first.0 ∙ st) (λ m j. (step m j).1) (λ m j. (step m j).2)
@@ -486,10 +491,11 @@ module _ (z : Settings) (id : ValidatorId) where
                 let c = comes more last room a in
                 let st = fits_body.0 in
                 let s = fits_body.1 c.before c.judged in
-                let j = is_body z v w st c.before f s has body is_entry c.behind c.next in
+                let j = is_body z v w st c.before f s handed.0 is_entry c.behind c.next in
                 let known = shape_keeps z (shape_of f) c.before c.behind s.reached.2.judged c.next in
                 let firsts = shapes_less z c.others c.behind c.last known c.rest c.bodies in
-                by_module z v w st c.before f s has body is_entry h handed.1 c.behind j (body_less z c.before c.behind body.rest j firsts).1
+                subst IsHandedText (sym same_bytes)
+                (by_module z v w st c.before f s handed.0 is_entry h handed.3 c.behind j (body_less z c.before c.behind handed.0.rest j firsts).1)
 
       -- ---- the end
 

@@ -30,7 +30,7 @@ returns-in-Ok-None c =
     let next = subst (λ (o : Option Handed). IsNextFunction v.reached v.settings c.args.body.now (Ok o) c.take_body.new.self) c.in-Ok-None.field-0-is c.in-Ok-None.ensures in
     let left = next.follows in
     in_turn (refusal v.state (is_some v.reached.code)) v _ _ _ _ (c.in-Ok.ensures ∙ ap (refusal v.state) c.has_code.ensures)
-    (λ z p reached same. denies c.too_many_bodies.result.kind _ (next.told z p reached same))
+    (λ z p reached. denies c.too_many_bodies.result.kind _ (next.told z p reached))
     (inl (left.1, c.too_many_bodies.ensures, ap (λ (r : Reached). record v { reached = r }) left.0))
 
 pub returns-in-Err-take_body : goal.returns-in-Err-take_body

@@ -1,6 +1,7 @@
-use Rattle.std.proofs.Common.{refl, sym, subst}
+use Rattle.std.proofs.Common.{◌∙◌, refl, sym, ap, subst}
+use Rattle.wasm_types.specs.decoding.Decoder.{State as Bytes}
 use Rattle.wasm_sections.specs.declared.payload.Payload.{Payload}
-use Rattle.wasm_module_validator.specs.Payloads.{TakesPayload}
+use Rattle.wasm_module_validator.specs.Payloads.{with_body, TakesPayload}
 use Rattle.wasm_module_validator.proofs.validator.Validator.payload.Goals as goal
 
 pub returns-in-Version : goal.returns-in-Version
@@ -85,8 +86,11 @@ returns-in-CustomSection c =
 
 pub returns-in-CodeSectionEntry : goal.returns-in-CodeSectionEntry
 returns-in-CodeSectionEntry c =
-    subst (λ (x : Payload). TakesPayload x c.args.self.now c.hand_out.result c.code_section_entry-answer.new.self) (sym c.in-CodeSectionEntry.is)
-    (c.code_section_entry-answer.result, c.hand_out.ensures, c.code_section_entry-answer.ensures)
+    subst (λ (x : Payload). TakesPayload x c.args.self.now c.hand_out.result c.code_section_entry-answer.new.self) (sym c.in-CodeSectionEntry.is) (
+      c.code_section_entry-answer.result,
+      c.hand_out.ensures ∙ ap (λ (b : Bytes). with_body b c.code_section_entry-answer.result) c.read_anew-anew.ensures,
+      c.code_section_entry-answer.ensures,
+    )
 
 pub returns-in-End : goal.returns-in-End
 returns-in-End c = subst (λ (x : Payload). TakesPayload x c.args.self.now c.finish.result c.end.new.self) (sym c.in-End.is) (c.end.result, c.finish.ensures, c.end.ensures.ends)

@@ -21,7 +21,7 @@ returns-in-Err c =
     let code = ap body_count (shared_code v i.own i.last i.bodies o shared is c.self.view_is) in
     let d = subst (λ (s : Kept). Denies c.in-Err.error.kind (FitsBehind (record { kept = s; last = i.last }) c.args.body.now.rest)) c.deref.ensures c.in-Err.ensures in
     record {
-      told = λ z p reached set. body_denied v here i.bodies same code c.args.body.now c.in-Err.error.kind d z p reached;
+      told = λ z p reached. body_denied v here i.bodies same code c.args.body.now c.in-Err.error.kind d z p reached;
       follows = (
         refl,
         subst (λ (p : Progress). Denies c.in-Err.error.kind ((p.last ≡ code_place) × (length c.args.body.now.rest ≤ p.kept.items.spaces.settings.limits.body_bytes))) (sym same) d,
@@ -39,7 +39,7 @@ returns-in-None c =
     let same = shared_progress v i.own i.last i.bodies o shared is c.self.view_is in
     let code = ap body_count (shared_code v i.own i.last i.bodies o shared is c.self.view_is) in
     let none = subst (λ (s : Kept). type_at s (s.items.spaces.imported_functions + i.bodies) ≡ None) c.deref-2.ensures (sym c.in-None.ensures.typed) in
-    record { told = λ z p reached set. no_body v here i.bodies same code c.args.body.now none z p reached; follows = (refl, none_left v here i.bodies same code c.args.body.now none) }
+    record { told = λ z p reached. no_body v here i.bodies same code c.args.body.now none z p reached; follows = (refl, none_left v here i.bodies same code c.args.body.now none) }
 
 pub returns : goal.returns
 returns c =
@@ -59,7 +59,7 @@ returns c =
     let f : Handed = record { resources = c.new-resources.result; index = index; ty = ty; features = c.features.result; limits = c.limits.result } in
     let left = shared_left v i.own i.last i.bodies o shared is i.last (i.bodies + 1) in
     record {
-      told = λ z p reached set. body_may_come v here i.bodies same code c.args.body.now index ty found fits z p reached;
+      told = λ z p reached. body_may_come v here i.bodies same code c.args.body.now index ty found fits z p reached;
       follows = (
         is_handed_out v shared i.last i.bodies c.args.settings.now f same code (c.new-resources.ensures ∙ c.in_ok-clone.ensures.cases) place found c.features.ensures c.limits.ensures.value c.limits.ensures.within,
         ap (λ (r : Reached). r.code) left ∙ ap (λ (m : ℕ). Some (m + 1)) (sym code),
