@@ -193,6 +193,13 @@ uint64_t durskeyl_features(uint32_t set);
 void durskeyl_settings_default(durskeyl_settings *settings);
 uint32_t durskeyl_validate(const durskeyl_settings *settings, const uint8_t *bytes, size_t length, durskeyl_fault *fault);
 
+/* Judges one part of a module, so that a caller's own threads share the work: all sections, and each body whose number, counted from 0, is
+ * part modulo parts. If every part from 0 to parts - 1 answers DURSKEYL_VALID, the bytes are a valid module. If one answers
+ * DURSKEYL_END_OF_DATA, DURSKEYL_MISSING_FEATURE or DURSKEYL_INVALID they are not, and the other parts need not be waited for. If one answers
+ * DURSKEYL_OUT_OF_MEMORY there is no verdict. DURSKEYL_BAD_SETTINGS too if part is not below parts. Each thread hands over a fault of its own. */
+uint32_t durskeyl_validate_part(const durskeyl_settings *settings, const uint8_t *bytes, size_t length, uint32_t part, uint32_t parts,
+                                durskeyl_fault *fault);
+
 /* 1 if the bytes are a valid module by the settings by default; else 0, also if there was no memory. */
 uint32_t durskeyl_is_valid(const uint8_t *bytes, size_t length);
 

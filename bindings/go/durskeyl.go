@@ -98,6 +98,11 @@ func IsValid(module []byte) bool {
 func (settings *Settings) Validate(module []byte) error {
 	var fault C.durskeyl_fault
 	kind := C.durskeyl_validate(settings.held(), first(module), C.size_t(len(module)), &fault)
+	return errorOf(kind, &fault)
+}
+
+// errorOf is what a call answered, and nil if that is a yes.
+func errorOf(kind C.uint32_t, fault *C.durskeyl_fault) error {
 	if kind == C.DURSKEYL_VALID {
 		return nil
 	}

@@ -99,6 +99,18 @@ func TestBadSettings(t *testing.T) {
 	}
 }
 
+func TestValidateOn(t *testing.T) {
+	settings := DefaultSettings()
+	bad := DefaultSettings()
+	bad.Limits[LimitLocals] = 1000001
+	for _, workers := range []int{1, 2, 5} {
+		want(t, "valid by parts", settings.ValidateOn(workers, module) == nil, true)
+		err := settings.ValidateOn(workers, module[:len(module)-1])
+		want(t, "the same refusal by parts", *err.(*Error), *settings.Validate(module[: len(module)-1]).(*Error))
+		want(t, "bad settings by parts", kind(bad.ValidateOn(workers, header)), BadSettings)
+	}
+}
+
 func TestVersion(t *testing.T) {
 	first, second, third := LibraryVersion()
 	want(t, "version", fmt.Sprintf("%d.%d.%d", first, second, third), Version)

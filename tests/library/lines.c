@@ -1,5 +1,6 @@
-// Says of each file whether it is a valid module, by lines as those of wasm-check. usage: lines FILE.. ; lines --calls ; lines --stack FILE..
-// After --stack each file is judged, and its entries listed, on a stack of 128 KiB, which a page without access ends.
+// Says of each file whether it is a valid module, by lines as those of wasm-check.
+// usage: lines FILE.. ; lines --calls ; lines --stack FILE.. ; lines --parts N FILE..
+// After --parts each file is judged in N parts, whose verdict has to be that of the whole. After --stack each file is judged, and its entries listed, on a stack of 128 KiB, which a page without access ends.
 #define _GNU_SOURCE
 #include <durskeyl.h>
 #include <pthread.h>
@@ -49,6 +50,29 @@ static void say(const durskeyl_settings *settings, const char *name) {
         printf("%s: invalid at 0x%llx: ", name, (unsigned long long)fault.offset);
         print_text(fault.text, fault.text_length);
         printf("\n");
+    }
+    free(bytes);
+}
+
+// The verdict of all parts is that of the whole, unless memory ran out.
+static void say_parts(const durskeyl_settings *settings, const char *name, uint32_t parts) {
+    size_t length;
+    uint8_t *bytes = read_file(name, &length);
+    durskeyl_fault fault;
+    uint32_t whole = durskeyl_validate(settings, bytes, length, &fault);
+    uint32_t valid = 0;
+    for (uint32_t part = 0; part < parts; part++) {
+        uint32_t kind = durskeyl_validate_part(settings, bytes, length, part, parts, &fault);
+        valid += kind == DURSKEYL_VALID;
+        wrong += kind != fault.kind || fault.text[fault.text_length] != 0;
+        if (kind == DURSKEYL_OUT_OF_MEMORY || kind == DURSKEYL_BAD_SETTINGS) {
+            printf("%s: part %u answers %u\n", name, part, kind);
+            wrong++;
+        }
+    }
+    if ((valid == parts) != (whole == DURSKEYL_VALID)) {
+        printf("%s: %u of %u parts are valid, and the whole answers %u\n", name, valid, parts, whole);
+        wrong++;
     }
     free(bytes);
 }
@@ -133,6 +157,15 @@ static void calls(void) {
     locals[23] = 11;
     want("eleven locals", durskeyl_validate(&other, locals, sizeof locals, &fault), DURSKEYL_INVALID);
     want("eleven locals by default", durskeyl_validate(&settings, locals, sizeof locals, &fault), DURSKEYL_VALID);
+    // the same body is judged by part 0 alone, and sections by each part
+    other.limits[DURSKEYL_LOCALS] = 10;
+    want("the part with the body", durskeyl_validate_part(&other, locals, sizeof locals, 0, 2, &fault), DURSKEYL_INVALID);
+    want("the part without", durskeyl_validate_part(&other, locals, sizeof locals, 1, 2, &fault), DURSKEYL_VALID);
+    want("a part of a header", durskeyl_validate_part(&settings, header, 7, 1, 2, &fault), DURSKEYL_END_OF_DATA);
+    want("no such part", durskeyl_validate_part(&settings, header, 8, 2, 2, &fault), DURSKEYL_BAD_SETTINGS);
+    want("no parts", durskeyl_validate_part(&settings, header, 8, 0, 0, &fault), DURSKEYL_BAD_SETTINGS);
+    other.limits[DURSKEYL_LOCALS] = 1000001;
+    want("a part by bad settings", durskeyl_validate_part(&other, header, 8, 0, 1, &fault), DURSKEYL_BAD_SETTINGS);
     // two memories, which need a feature
     const uint8_t memories[] = {0, 'a', 's', 'm', 1, 0, 0, 0, 5, 5, 2, 0, 0, 0, 0};
     want("two memories", durskeyl_validate(&settings, memories, sizeof memories, &fault), DURSKEYL_VALID);
@@ -242,6 +275,11 @@ static void measure(int count, char **names) {
 int main(int count, char **words) {
     if (count == 2 && !strcmp(words[1], "--calls")) {
         calls();
+    } else if (count > 3 && !strcmp(words[1], "--parts")) {
+        durskeyl_settings settings;
+        durskeyl_settings_default(&settings);
+        for (int i = 3; i < count; i++)
+            say_parts(&settings, words[i], (uint32_t)atoi(words[2]));
     } else if (count > 2 && !strcmp(words[1], "--stack")) {
         measure(count - 2, words + 2);
     } else {

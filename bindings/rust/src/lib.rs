@@ -14,6 +14,7 @@
 
 mod error;
 mod module;
+mod parts;
 mod settings;
 pub mod sys;
 

@@ -49,6 +49,14 @@ unsafe extern "C" {
     pub safe fn durskeyl_features(set: u32) -> u64;
     pub fn durskeyl_settings_default(settings: *mut Settings);
     pub fn durskeyl_validate(settings: *const Settings, bytes: *const u8, length: usize, fault: *mut Fault) -> u32;
+    pub fn durskeyl_validate_part(
+        settings: *const Settings,
+        bytes: *const u8,
+        length: usize,
+        part: u32,
+        parts: u32,
+        fault: *mut Fault,
+    ) -> u32;
     pub fn durskeyl_is_valid(bytes: *const u8, length: usize) -> u32;
     pub fn durskeyl_imports(bytes: *const u8, length: usize, rows: *mut ImportRow, capacity: usize) -> u64;
     pub fn durskeyl_exports(bytes: *const u8, length: usize, rows: *mut ExportRow, capacity: usize) -> u64;

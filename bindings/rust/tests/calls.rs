@@ -71,6 +71,19 @@ fn settings() {
 }
 
 #[test]
+fn on_threads() {
+    let ten = Settings::new().with_limit(Limit::Locals, 10);
+    for threads in [1, 2, 5].map(|it| std::num::NonZeroU32::new(it).unwrap()) {
+        assert!(ten.validate_on(threads, &with_locals(10)).is_ok());
+        let alone = ten.validate(&with_locals(11)).unwrap_err();
+        assert_eq!(ten.validate_on(threads, &with_locals(11)).unwrap_err(), alone);
+        assert!(ten.validate_on(threads, &HEADER[..7]).is_err_and(|it| it.is_verdict()));
+        let above = Settings::new().with_limit(Limit::Locals, 1_000_001);
+        assert!(above.validate_on(threads, HEADER).is_err_and(|it| !it.is_verdict()));
+    }
+}
+
+#[test]
 fn bad_settings() {
     let unknown = Settings::new().with_features(Features::from_bits(1 << 40));
     let above = Settings::new().with_limit(Limit::Locals, 1_000_001);

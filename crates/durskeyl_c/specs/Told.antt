@@ -1,8 +1,9 @@
 -- What the number that a call answers tells C.
-use Rattle.std.specs.Prelude.{◌≡◌, ◌≤◌, ℕ, List, slice_index_or}
+use Rattle.std.specs.Prelude.{◌≡◌, ◌<◌, ◌≤◌, ℕ, List, slice_index_or}
 use Rattle.wasm_types.specs.decoding.declared.error.ErrorKind.{ErrorKind}
 use Rattle.wasm_types.specs.decoding.declared.error.ErrorKind.TheVariants.{EndOfData, MissingFeature, OutOfMemory, Failed, Other}
 use Rattle.wasm_module_validator_import_export_places.specs.rules.Accepts.{AcceptsUnder}
+use Rattle.wasm_module_validator.specs.Parts.{AcceptsPart}
 use Rattle.durskeyl_c.specs.declared.settings.DurskeylSettings.{DurskeylSettings}
 use Rattle.durskeyl_c.specs.declared.fault.DurskeylFault.{DurskeylFault}
 use Rattle.durskeyl_c.specs.Settings.{settings_in, AreSettings}
@@ -14,6 +15,13 @@ pub record Told (code : ℕ) (s : DurskeylSettings) (bytes : List ℕ) : Type 0 
   pub invalid : ¬ (code ≡ 0) → ¬ (code ≡ 3) → ¬ (code ≡ 6) → ¬ AcceptsUnder (settings_in s) bytes
   pub settings : code ≡ 6 → ¬ AreSettings s
   pub judged : ¬ AreSettings s → code ≡ 6
+
+-- The same of one part in so many: 0 only if the part is accepted; 6 exactly if the settings are none, or there is no such part.
+pub record ToldPart (code : ℕ) (s : DurskeylSettings) (part parts : ℕ) (bytes : List ℕ) : Type 0 where
+  pub valid : code ≡ 0 → AcceptsPart (settings_in s) part parts bytes
+  pub invalid : ¬ (code ≡ 0) → ¬ (code ≡ 3) → ¬ (code ≡ 6) → ¬ AcceptsUnder (settings_in s) bytes
+  pub settings : code ≡ 6 → ¬ (AreSettings s × (part < parts))
+  pub judged : ¬ (AreSettings s × (part < parts)) → code ≡ 6
 
 -- the kinds of errors by their numbers, from 1
 abbrev pub number_of : ErrorKind → ℕ

@@ -7,10 +7,12 @@
 
 mod fault;
 mod listing;
+mod parts;
 mod settings;
 mod validate;
 
 pub use fault::DurskeylFault;
 pub use listing::{durskeyl_exports, durskeyl_imports};
+pub use parts::{durskeyl_validate_part, parts_tell_of_the_whole};
 pub use settings::{DurskeylSettings, durskeyl_features, durskeyl_settings_default};
 pub use validate::{durskeyl_is_valid, durskeyl_validate, durskeyl_version};

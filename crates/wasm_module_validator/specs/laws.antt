@@ -5,3 +5,4 @@ pub mod Ids
 pub mod Lists
 pub mod ListRows
 pub mod Unasked
+pub mod Parts

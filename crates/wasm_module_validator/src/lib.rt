@@ -18,6 +18,7 @@
 mod laws;
 mod lists;
 mod methods;
+mod parts;
 mod payloads;
 pub mod soundness;
 mod types;
@@ -27,6 +28,7 @@ pub use laws::{
     ids_stay, lists_are_worked, states_are_worked, validators_begin, vectors_are_asked_for,
 };
 pub use lists::Verdict;
+pub use parts::{parts_are_whole, validate_part};
 pub use payloads::ValidPayload;
 pub use soundness::{accepted_is_sound, default_is_standard, modules_are_sound};
 pub use types::Types;

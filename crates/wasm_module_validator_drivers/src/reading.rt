@@ -8,6 +8,6 @@ mod reading;
 pub use crate::judging::{
     Body, FuncToValidate, FuncValidator, FuncValidatorAllocations, HeldSettings, InProgress,
     ModuleState, OperatorValidatorAllocations, SectionItem, SharedModule, TypeList,
-    check_data_with, check_header, check_short_data_item, judge, judge_bodies,
+    check_data_with, check_header, check_short_data_item, judge, judge_bodies, judge_part,
 };
 pub use reading::read_module;

@@ -10,14 +10,14 @@ ghost use Rattle.wasm_module_validator_payloads.specs.state.Items.{no_items};
 ghost use Rattle.wasm_module_validator_section_order.specs.rules_in_order.Sections.{code_place};
 ghost use Rattle.wasm_module_validator_section_order.specs.rules_in_order.Steps.{SoFar};
 ghost use Rattle.wasm_module_validator_payloads.specs.Progress.{Grows, IsAt, kept_groups, renewed};
-ghost use Rattle.wasm_module_validator_drivers.specs.judging.Bodies.{AreBodies};
+ghost use Rattle.wasm_module_validator_drivers.specs.judging.Bodies.{AreBodies, ArePartBodies};
 ghost use Rattle.wasm_module_validator_drivers.specs.reading.Reading.{HasGroupIn, IsReadAs};
 ghost use Rattle.wasm_module_validator_drivers.specs.Sharing.{nothing_reached, renewed_behind, next_behind, has_no_code, IsReached, IsWhole, TellsNext, Follows, IsNextFunction};
 
 use crate::data::check_data_section;
 use crate::reading::{
     Body, FuncToValidate, HeldSettings, InProgress, ModuleState, SharedModule, TypeList, judge,
-    read_module,
+    judge_part, read_module,
 };
 use crate::resources::ValidatorResources;
 use std::alloc::Global;
@@ -138,6 +138,21 @@ impl SharedProgress {
             → Tells result (AreBodies z q) }
     {
         judge(self.alloc, &self.own, bodies)
+    }
+
+    /// Judges one part of the bodies of a module whose sections were read: each whose number is `part` modulo `parts`.
+    ///
+    /// # Errors
+    ///
+    /// As `judge_part`.
+    pub fn judge_part(&self, bodies: Vec<Body<'_>>, part: u32, parts: u32) -> Result<()>
+        requires own { self.now.code ≡ None }
+        requires some { 0 < parts }
+        ensures { (z : Settings) (q : SoFar) → IsAt z self.now.progress bodies.entry.items q
+            → length q.bodies ≡ length q.tree.functions
+            → Tells result (ArePartBodies z part parts q) }
+    {
+        judge_part(self.alloc, &self.own, bodies, part, parts)
     }
 
     /// Gives the module as it was read, so that it may be shared, and begins with another over the same list of types.

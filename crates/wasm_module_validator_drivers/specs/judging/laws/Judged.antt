@@ -30,7 +30,7 @@ tells_same (Err e) P Q f h = denies_from e.kind P Q f.1 h
 
 module _ (z : Settings) (g h : Module) (alike : (x : ℕ) (f : Function) → HasValidBody z g x f ↔ HasValidBody z h x f) where
   -- a body of a valid function of this type
-  abbrev IsBody : ℕ → List ℕ → Type 0
+  abbrev pub IsBody : ℕ → List ℕ → Type 0
   IsBody x text = (f : Function) × SpelledFunction z f text × HasValidBody z h x f
 
   -- each body spells a valid function of its type
@@ -47,18 +47,18 @@ module _ (z : Settings) (g h : Module) (alike : (x : ℕ) (f : Function) → Has
 
 module _ (z : Settings) (r : Progress) (bodies : List Body) (q : SoFar) (at : IsAt z r bodies q)
     (as_many : length q.bodies ≡ length q.tree.functions) where
-  abbrev here : Module
+  abbrev pub here : Module
   here = context_of r.kept.groups r.kept.items.spaces
 
   abbrev IsOne : ℕ → List ℕ → Type 0
   IsOne x text = (f : Function) × SpelledFunction z f text × HasValidBody z (module_of q.tree) x f
 
-  types_are : map type_of bodies ≡ q.tree.functions
+  pub types_are : map type_of bodies ≡ q.tree.functions
   types_are =
       let count : length bodies ≡ length q.tree.functions = sym (length-map bodies text_of) ∙ (ap length at.bodies ∙ as_many) in
       at.types ∙ (ap (λ (n : ℕ). take n q.tree.functions) count ∙ take-length q.tree.functions)
 
-  are_alike : (x : ℕ) (f : Function) → HasValidBody z here x f ↔ HasValidBody z (module_of q.tree) x f
+  pub are_alike : (x : ℕ) (f : Function) → HasValidBody z here x f ↔ HasValidBody z (module_of q.tree) x f
   are_alike x f = body_is_judged r.kept.groups r.kept.items.spaces q.tree at.stands.read at.stands.referred z x f
 
   abbrev AreThose : List ℕ → List (List ℕ) → Type 0
