@@ -1,5 +1,5 @@
 -- The bodies of a part are judged valid exactly if those of what was read are; and all parts together are the whole.
-use Rattle.std.proofs.Common.{◌≡◌, ◌∙◌, ◌<◌, ◌%◌, ℕ, suc, nat_eq, Bool, true, false, if◌then◌else◌, List, [], ◌∷◌, ◌++◌, length, map, take, refl, sym, ap, subst}
+use Rattle.std.proofs.Common.{◌≡◌, ◌∙◌, ◌+◌, ◌<◌, ◌%◌, ℕ, suc, arith, nat_eq, Bool, true, false, if◌then◌else◌, List, [], ◌∷◌, ◌++◌, length, map, take, refl, sym, ap, subst}
 use Rattle.std.specs.Prelude.{◌↔◌}
 use Rattle.std.specs.List.{AllZip}
 use Rattle.std.proofs.lemmas.Nat.{mod_below}
@@ -21,13 +21,13 @@ use Rattle.wasm_module_validator_drivers.specs.judging.laws.Judged.{IsBody, type
 not_so : false ≡ true → ⊥
 not_so e = cc
 
-each_if : {A : Type 0} (P : A → Type 0) (c : Bool) (a : A) (as : List A) → Each P (if c then a ∷ as else as) → (c ≡ true → P a) × Each P as
-each_if P true a as e = (λ k. e.0, e.1)
-each_if P false a as e = (λ k. absurd (not_so k), e)
+each_if : {A : Type 0} (P : A → Type 0) (c : Bool) (a : A) (rest : List A) → Each P (if c then a ∷ rest else rest) → (c ≡ true → P a) × Each P rest
+each_if P true a rest e = (λ k. e.0, e.1)
+each_if P false a rest e = (λ k. absurd (not_so k), e)
 
-if_each : {A : Type 0} (P : A → Type 0) (c : Bool) (a : A) (as : List A) → (c ≡ true → P a) × Each P as → Each P (if c then a ∷ as else as)
-if_each P true a as h = (h.0 refl, h.1)
-if_each P false a as h = h.1
+if_each : {A : Type 0} (P : A → Type 0) (c : Bool) (a : A) (rest : List A) → (c ≡ true → P a) × Each P rest → Each P (if c then a ∷ rest else rest)
+if_each P true a rest h = (h.0 refl, h.1)
+if_each P false a rest h = h.1
 
 -- ---- the whole and its parts
 
@@ -50,6 +50,25 @@ module _ (R : ℕ → List ℕ → Type 0) where
       same k = grind
 
 -- ---- bodies that were kept
+
+-- those of a part with one body more, of which the number is how many there were
+pub of_part_push : (part parts k : ℕ) (bs : List Body) (b : Body) → k ≡ length bs
+    → of_part part parts 0 (bs ++ b ∷ []) ≡ of_part part parts 0 bs ++ (if is_of part parts k then b ∷ [] else [])
+of_part_push part parts k bs b counted =
+    push 0 bs ∙ ap (λ (m : ℕ). of_part part parts 0 bs ++ (if is_of part parts m then b ∷ [] else [])) (sym counted)
+  where
+    front : (c : Bool) (x : Body) (xs ys : List Body) → (if c then x ∷ (xs ++ ys) else (xs ++ ys)) ≡ (if c then x ∷ xs else xs) ++ ys
+    front true x xs ys = refl
+    front false x xs ys = refl
+
+    push : (n : ℕ) (xs : List Body)
+        → of_part part parts n (xs ++ b ∷ []) ≡ of_part part parts n xs ++ (if is_of part parts (n + length xs) then b ∷ [] else [])
+    push n [] = ap (λ (m : ℕ). if is_of part parts m then b ∷ [] else []) (omega arith)
+    push n (x ∷ xs) =
+        let tail : List Body = if is_of part parts (suc n + length xs) then b ∷ [] else [] in
+        ap (λ (ys : List Body). if is_of part parts n then x ∷ ys else ys) (push (suc n) xs)
+        ∙ (front (is_of part parts n) x (of_part part parts (suc n) xs) tail
+        ∙ ap (λ (m : ℕ). of_part part parts n (x ∷ xs) ++ (if is_of part parts m then b ∷ [] else [])) (omega arith))
 
 -- what holds of all bodies holds of those of a part
 pub each_of_part : (P : Body → Type 0) (part parts n : ℕ) (bs : List Body) → Each P bs → Each P (of_part part parts n bs)
