@@ -94,26 +94,26 @@ module _ (z : Settings) (g h : Module) (alike : (x : ℕ) (f : Function) → Has
   part_zip n (b ∷ bs) e = if_each Is (is_of part parts n) b (of_part part parts (suc n) bs)
       (λ c. let f = e.0 c in (f.0, f.1, (alike b.type_index f.0).1 f.2), part_zip (suc n) bs e.1)
 
--- the bodies of a part that were kept are judged valid exactly if those of what was read are
-pub part_bodies_are : (z : Settings) (r : Progress) (bodies : List Body) (q : SoFar) (at : IsAt z r bodies q)
-    (as_many : length q.bodies ≡ length q.tree.functions) (part parts : ℕ)
-    → Each (λ (b : Body). IsFunctionOf z (here z r bodies q at as_many) b.type_index b.body.rest) (of_part part parts 0 bodies)
-    ↔ ArePartBodies z part parts q
-part_bodies_are z r bodies q at as_many part parts = (
+module _ (z : Settings) (r : Progress) (bodies : List Body) (q : SoFar) (at : IsAt z r bodies q)
+    (as_many : length q.bodies ≡ length q.tree.functions) (part parts : ℕ) where
+  abbrev there : Module
+  there = here z r bodies q at as_many
+
+  abbrev AreThose : List ℕ → List (List ℕ) → Type 0
+  AreThose xs ts = AllOfPart (λ x body. (f : Function) × SpelledFunction z f body × HasValidBody z (module_of q.tree) x f) part parts 0 xs ts
+
+  alike : (x : ℕ) (f : Function) → HasValidBody z there x f ↔ HasValidBody z (module_of q.tree) x f
+  alike = are_alike z r bodies q at as_many
+
+  types : map type_of bodies ≡ q.tree.functions
+  types = types_are z r bodies q at as_many
+
+  -- the bodies of a part that were kept are judged valid exactly if those of what was read are
+  pub part_bodies_are : Each (λ (b : Body). IsFunctionOf z there b.type_index b.body.rest) (of_part part parts 0 bodies)
+      ↔ ArePartBodies z part parts q
+  part_bodies_are = (
     λ e. subst (λ ts. AreThose q.tree.functions ts) at.bodies
         (subst (λ xs. AreThose xs (map text_of bodies)) types (zip_part z there (module_of q.tree) alike part parts 0 bodies e)),
     λ e. part_zip z there (module_of q.tree) alike part parts 0 bodies
         (subst (λ xs. AreThose xs (map text_of bodies)) (sym types) (subst (λ ts. AreThose q.tree.functions ts) (sym at.bodies) e)),
   )
-  where
-    abbrev there : Module
-    there = here z r bodies q at as_many
-
-    alike : (x : ℕ) (f : Function) → HasValidBody z there x f ↔ HasValidBody z (module_of q.tree) x f
-    alike = are_alike z r bodies q at as_many
-
-    types : map type_of bodies ≡ q.tree.functions
-    types = types_are z r bodies q at as_many
-
-    abbrev AreThose : List ℕ → List (List ℕ) → Type 0
-    AreThose xs ts = AllOfPart (λ x body. (f : Function) × SpelledFunction z f body × HasValidBody z (module_of q.tree) x f) part parts 0 xs ts
