@@ -21,13 +21,13 @@ abbrev pub is_of : ℕ → ℕ → ℕ → Bool
 is_of part parts number = nat_eq (number % parts) part
 
 -- those bodies of a part, of which the first has this number
-pub of_part : ℕ → ℕ → ℕ → List Body → List Body
+abbrev pub of_part : ℕ → ℕ → ℕ → List Body → List Body
 of_part part parts number [] = []
 of_part part parts number (b ∷ bs) =
     if is_of part parts number then b ∷ of_part part parts (suc number) bs else of_part part parts (suc number) bs
 
 -- there are as many of the one as of the other, of which the first has this number; and for each pair of the part this holds
-pub AllOfPart : (ℕ → List ℕ → Type 0) → ℕ → ℕ → ℕ → List ℕ → List (List ℕ) → Type 0
+abbrev pub AllOfPart : (ℕ → List ℕ → Type 0) → ℕ → ℕ → ℕ → List ℕ → List (List ℕ) → Type 0
 AllOfPart R part parts number [] [] = Unit {0}
 AllOfPart R part parts number [] (t ∷ ts) = ⊥
 AllOfPart R part parts number (x ∷ xs) [] = ⊥

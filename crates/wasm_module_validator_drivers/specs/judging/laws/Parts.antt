@@ -47,7 +47,7 @@ module _ (R : ℕ → List ℕ → Type 0) where
       ((h (n % parts) (mod_below n parts some)).0 (same (n % parts)), whole_of_parts parts (suc n) some xs ts (λ p l. (h p l).1))
     where
       same : (k : ℕ) → nat_eq k k ≡ true
-      same k = grind
+      same k = grind arith
 
 -- ---- bodies that were kept
 
@@ -55,7 +55,7 @@ module _ (R : ℕ → List ℕ → Type 0) where
 pub of_part_push : (part parts k : ℕ) (bs : List Body) (b : Body) → k ≡ length bs
     → of_part part parts 0 (bs ++ b ∷ []) ≡ of_part part parts 0 bs ++ (if is_of part parts k then b ∷ [] else [])
 of_part_push part parts k bs b counted =
-    push 0 bs ∙ ap (λ (m : ℕ). of_part part parts 0 bs ++ (if is_of part parts m then b ∷ [] else [])) (sym counted)
+    push 0 bs ∙ ap (λ (m : ℕ). of_part part parts 0 bs ++ (if is_of part parts m then b ∷ [] else [])) (omega (arith, counted))
   where
     front : (c : Bool) (x : Body) (xs ys : List Body) → (if c then x ∷ (xs ++ ys) else (xs ++ ys)) ≡ (if c then x ∷ xs else xs) ++ ys
     front true x xs ys = refl

@@ -1,4 +1,4 @@
-use Rattle.std.proofs.Common.{[], ◌∷◌, ◌++◌, ◌∙◌, ap, sym, if◌then◌else◌, refl, arith, ℕ, List}
+use Rattle.std.proofs.Common.{[], ◌∷◌, ◌++◌, ◌∙◌, ap, sym, if◌then◌else◌, refl, rules, arith, ℕ, List}
 use Rattle.std.proofs.lemmas.List.{length_push}
 use Rattle.wasm_module_validator_section_order.specs.declared.items.bodies.Body.{Body}
 use Rattle.wasm_module_validator_drivers.specs.judging.Bodies.{is_of}
@@ -6,7 +6,7 @@ use Rattle.wasm_module_validator_drivers.specs.judging.laws.Parts.{of_part_push}
 use Rattle.wasm_module_validator_drivers.proofs.judging.parts.bodies_of_part.Goals as goal
 
 pub loop-body-init : goal.loop-body-init
-loop-body-init c = record { can = tt; finite = tt; counted = refl; kept = refl }
+loop-body-init c = record { can = tt; finite = tt; counted = refl; kept = search rules }
 
 pub loop-body-preserved : goal.loop-body-preserved
 loop-body-preserved c =
