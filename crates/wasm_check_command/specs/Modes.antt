@@ -18,6 +18,10 @@ use Rattle.wasm_check_command.specs.Settings.{settings_by}
 abbrev pub IsShort : List ℕ → Type 0
 IsShort bytes = length bytes ≤ 2 ^ 30
 
+-- some bytes that end: their number has 64 bits
+abbrev pub IsCounted : List ℕ → Type 0
+IsCounted bytes = length bytes < 2 ^ 64
+
 -- a reader whose bytes are known has more than an input may have
 abbrev pub IsTooLong : Option (List ℕ) → Type 0
 IsTooLong said = IfSome said (λ xs. 2 ^ 30 < length xs)
@@ -34,12 +38,12 @@ pub record Ruling : Type 1 where
   pub manner : Manner
   pub seen : List ℕ → List ℕ
 
--- An input that is read whole has at most 2^30 bytes, if a line is written of it. One that comes in pieces is valid only if it has, and of its
--- first bytes the line tells nothing.
+-- An input that is read whole has at most 2^30 bytes, if a line is written of it. One that comes in pieces may be refused before its end,
+-- however long it is, and of its first bytes the line tells nothing.
 abbrev pub ruled : Manner → Mode → (List ℕ → Type 0) → Ruling
 ruled manner Whole accepts = record { accepts = accepts; fits = IsShort; manner = manner; seen = λ bytes. bytes }
 ruled manner (Pieces piece) accepts =
-    record { accepts = λ bytes. IsShort bytes × accepts bytes; fits = λ bytes. Unit {0}; manner = manner; seen = λ bytes. [] }
+    record { accepts = λ bytes. IsCounted bytes × accepts bytes; fits = λ bytes. Unit {0}; manner = manner; seen = λ bytes. [] }
 
 -- by these features and limits, and as inputs are read
 abbrev pub ruling_by : (Settings → List ℕ → Type 0) → ℕ → Limits → Mode → Ruling
@@ -71,9 +75,9 @@ AreLeft said bytes = IfSome said (λ xs. xs ≡ bytes)
 abbrev pub HasValid : (List ℕ → Type 0) → Option (List ℕ) → Type 0
 HasValid accepts said = (bytes : List ℕ) × AreLeft said bytes × IsShort bytes × accepts bytes
 
--- it has none that are valid and at most 2^30
+-- it has none that end and are valid
 abbrev pub HasInvalid : (List ℕ → Type 0) → Option (List ℕ) → Type 0
-HasInvalid accepts said = (bytes : List ℕ) × AreLeft said bytes × (IsShort bytes × accepts bytes → ⊥)
+HasInvalid accepts said = (bytes : List ℕ) × AreLeft said bytes × (IsCounted bytes × accepts bytes → ⊥)
 
 -- why it is not said that they are valid: they are not, or memory ran out; or there is no verdict
 abbrev pub FailsJudging : (List ℕ → Type 0) → Option (List ℕ) → Unjudged → Type 0

@@ -8,7 +8,7 @@ use Rattle.wasm_types.specs.decoding.declared.error.ErrorKind.TheVariants as kin
 use Rattle.wasm_module_validator_streaming.specs.declared.reading.ReadError.{ReadError}
 use Rattle.wasm_module_validator_streaming.specs.declared.reading.ReadError.TheVariants as faults
 use Rattle.wasm_module_validator_streaming.specs.Pieces.{AcceptsAll, Answers, RefusesAll, ReadsSome}
-use Rattle.wasm_check_command.specs.Modes.{AreLeft, FailsJudging, IsShort, IsTooLong, HasValid, HasInvalid}
+use Rattle.wasm_check_command.specs.Modes.{AreLeft, FailsJudging, IsCounted, IsTooLong, HasValid, HasInvalid}
 use Rattle.wasm_check_program.specs.Faults.{unjudged}
 
 -- all that a reader had was accepted
@@ -33,11 +33,11 @@ told kinds.Other S A H d f = f (λ a. d a.0 a.1)
 pub some_invalid : (accepts : List ℕ → Type 0) (before after : Option (List ℕ)) (e : ErrorValue)
     → RefusesAll (λ text x. Denies x.kind (accepts text)) before after e → UnlessMemory e.kind (HasInvalid accepts before)
 some_invalid accepts None after e r =
-    told e.kind (IsShort (r.got ++ [])) (accepts (r.got ++ [])) (HasInvalid accepts None) (λ s. r.refused [] (λ last. refl) (omega (arith, s)))
+    told e.kind (IsCounted (r.got ++ [])) (accepts (r.got ++ [])) (HasInvalid accepts None) (λ s. r.refused [] (λ last. refl) s)
     (λ none. (r.got ++ [], tt, none))
 some_invalid accepts (Some x) None e r = absurd r.read
 some_invalid accepts (Some x) (Some y) e r =
-    told e.kind (IsShort (r.got ++ y)) (accepts (r.got ++ y)) (HasInvalid accepts (Some x)) (λ s. r.refused y (λ last. r.ended last) (omega (arith, s)))
+    told e.kind (IsCounted (r.got ++ y)) (accepts (r.got ++ y)) (HasInvalid accepts (Some x)) (λ s. r.refused y (λ last. r.ended last) s)
     (λ none. (r.got ++ y, r.read, none))
 
 -- more bytes were read than an input may have
