@@ -161,6 +161,39 @@ fn find_operator(
     Ok(Found::Nothing)
 }
 
+/// Adds what is known of a body that has this offset, at a validator that was just made for it.
+fn body_notes(
+    alloc: Global,
+    types: &TypesRef<'_>,
+    validator: &mut FuncValidator<ValidatorResources>,
+    body: &FunctionBody<'_>,
+    offset: u64,
+    notes: &mut Vec<String>,
+) -> Result<Found, AllocError> {
+    let mut reader = body.get_binary_reader();
+    if body.get_binary_reader_for_operators().is_err() {
+        notes.push(format!(in alloc; "its locals are misspelt or too many")?)?;
+        return Ok(Found::Spelling);
+    }
+    if validator.read_locals(&mut reader).is_err() {
+        notes.push(format!(in alloc;
+            "its locals are too many, or of types that may not be there"
+        )?)?;
+        return Ok(Found::Rule);
+    }
+    let mut operators = OperatorsReader::new(alloc, reader);
+    let length = body.as_bytes().len();
+    find_operator(
+        alloc,
+        types,
+        validator,
+        &mut operators,
+        length,
+        offset,
+        notes,
+    )
+}
+
 /// Adds what is known of a function whose body has this offset.
 fn function_notes(
     alloc: Global,
@@ -191,28 +224,7 @@ fn function_notes(
     let Ok(mut validator) = function.into_validator(FuncValidatorAllocations::new(alloc)) else {
         return Ok(Found::Nothing);
     };
-    let mut reader = body.get_binary_reader();
-    if body.get_binary_reader_for_operators().is_err() {
-        notes.push(format!(in alloc; "its locals are misspelt or too many")?)?;
-        return Ok(Found::Spelling);
-    }
-    if validator.read_locals(&mut reader).is_err() {
-        notes.push(format!(in alloc;
-            "its locals are too many, or of types that may not be there"
-        )?)?;
-        return Ok(Found::Rule);
-    }
-    let mut operators = OperatorsReader::new(alloc, reader);
-    let length = body.as_bytes().len();
-    find_operator(
-        alloc,
-        types,
-        &mut validator,
-        &mut operators,
-        length,
-        offset,
-        notes,
-    )
+    body_notes(alloc, types, &mut validator, body, offset, notes)
 }
 
 /// Takes a body, and adds what is known of its function if it has this offset.
