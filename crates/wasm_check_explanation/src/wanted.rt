@@ -2,10 +2,8 @@
 
 use std::alloc::{AllocError, Global};
 use wasm_module_validator::{FuncValidator, ValidatorResources};
-use wasm_operator_validator::WasmModuleResources;
-use wasm_operator_validator_state::blocks::{
-    block_params, block_results, function_at, label_types,
-};
+use wasm_operator_validator::{BlockType, WasmModuleResources};
+use wasm_operator_validator_state::blocks::{block_results, function_at, label_types};
 use wasm_operators_reader::{ControlOperator, MemoryOperator, Operator};
 use wasm_types::ValType;
 
@@ -36,6 +34,18 @@ fn params_of_type(
     Some(function.params())
 }
 
+/// What a block of this type takes.
+fn params_of_block(
+    validator: &FuncValidator<ValidatorResources>,
+    block_type: BlockType,
+) -> Option<&[ValType]> {
+    match block_type {
+        BlockType::Empty => Some(&[]),
+        BlockType::Val(_) => Some(&[]),
+        BlockType::FuncType(type_index) => params_of_type(validator, type_index),
+    }
+}
+
 /// What the function at an index takes.
 fn params_of_function(
     validator: &FuncValidator<ValidatorResources>,
@@ -59,13 +69,12 @@ fn place_in(validator: &FuncValidator<ValidatorResources>, table_index: u32) -> 
 /// What an operator of control takes from a list, below what it takes on top.
 fn listed<'a>(
     validator: &'a FuncValidator<ValidatorResources>,
-    op: &'a ControlOperator<'_>,
+    op: &ControlOperator<'_>,
 ) -> Option<&'a [ValType]> {
-    let module = validator.resources();
     match op {
-        ControlOperator::Block { blockty } => Some(block_params(module, blockty)),
-        ControlOperator::Loop { blockty } => Some(block_params(module, blockty)),
-        ControlOperator::If { blockty } => Some(block_params(module, blockty)),
+        ControlOperator::Block { blockty } => params_of_block(validator, *blockty),
+        ControlOperator::Loop { blockty } => params_of_block(validator, *blockty),
+        ControlOperator::If { blockty } => params_of_block(validator, *blockty),
         ControlOperator::Else => results_at(validator, 0),
         ControlOperator::End => results_at(validator, 0),
         ControlOperator::Br { relative_depth } => label_at(validator, *relative_depth),
