@@ -5,6 +5,7 @@ pub mod States
 pub mod Methods
 pub mod Payloads
 pub mod Lists
+pub mod Alone
 pub mod Unasked
 -- Laws, with the proofs. `StateRows` there has worked rows.
 pub mod laws

@@ -4,4 +4,5 @@ pub mod StateRows
 pub mod Ids
 pub mod Lists
 pub mod ListRows
+pub mod Alone
 pub mod Unasked

@@ -38,7 +38,7 @@ list_grown old new before after g a = go a.is_new a.interned.groups
     go false e = ([], e)
 
 -- no more types than the module has with it
-ids_counted : (first n : ℕ) → length (ids_from first n) ≡ n
+pub ids_counted : (first n : ℕ) → length (ids_from first n) ≡ n
 ids_counted first zero = refl
 ids_counted first (suc n) = ap suc (ids_counted (suc first) n)
 
@@ -53,7 +53,7 @@ types_grown old new before after g a =
     go false e all = let same : count new ≡ count old = ap count e in omega (arith, same, all)
 
 -- and no others
-ids_contain : (first n : ℕ) (id : CoreTypeId) → first ≤ id.0 → id.0 < first + n → Contains (ids_from first n) id
+pub ids_contain : (first n : ℕ) (id : CoreTypeId) → first ≤ id.0 → id.0 < first + n → Contains (ids_from first n) id
 ids_contain first zero id low high = absurd (omega (arith, low, high))
 ids_contain first (suc n) id low high =
     ⊎_elim (λ further. let c = ids_contain (suc first) n id further (omega (arith, high)) in (suc c.0, omega (arith, c.1), c.2))
