@@ -144,7 +144,7 @@ no_more_than (t ∷ ts) all d a =
     let p = parted all t (a t (zero, omega arith, refl)) in
     let rest = no_more_than ts (p.0 ++ p.1) d.1 (λ u c. still_there p.0 p.1 t u (λ e. d.0 (subst (Contains ts) (sym e) c))
     (Contains-append_cases p.0 (t ∷ p.1) u (subst (λ (us : List TypeTree). Contains us u) p.2 (a u (suc c.0, omega (arith, c.1), c.2))))) in
-    let whole : length all ≡ length p.0 + (1 + length p.1) = ap length p.2 ∙ length-append p.0 (t ∷ p.1) in
+    let whole : length all ≡ length p.0 + length (t ∷ p.1) = ap length p.2 ∙ length-append p.0 (t ∷ p.1) in
     let less = length-append p.0 p.1 in
     omega (arith, rest, whole, less)
 
