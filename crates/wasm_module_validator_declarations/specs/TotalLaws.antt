@@ -1,5 +1,5 @@
 -- When the total is passed, by what was read before.
-use Rattle.std.proofs.Common.{◌≡◌, ◌+◌, ◌<◌, ◌≤◌, ◌++◌, ℕ, zero, suc, List, [], ◌∷◌, length, Result, arith, refl, sym, ap, subst, ◌∙◌, ⊎_elim}
+use Rattle.std.proofs.Common.{◌≡◌, ◌+◌, ◌≤◌, ◌++◌, ℕ, zero, suc, List, [], ◌∷◌, length, Result, arith, refl, sym, ap, subst, ◌∙◌, ⊎_elim}
 use Rattle.std.specs.Prelude.{codes, Contains}
 use Rattle.std.proofs.lemmas.Bool.{cases_lt}
 use Rattle.std.proofs.lemmas.List.Elements.{Contains-append_left, Contains-append_right}
@@ -19,7 +19,7 @@ use Rattle.wasm_module_validator_type_groups.specs.composites.Composites.{WhereC
 use Rattle.wasm_module_validator_state.specs.Items.{Items, no_items}
 use Rattle.wasm_module_validator_state.specs.invariant.Standing.{GrowsWith}
 use Rattle.wasm_module_validator_state.specs.invariant.laws.Growing.{most_types, grown_further}
-use Rattle.wasm_module_validator_declarations.specs.Total.{HasEachOnce, TakesOf, IsPastTotal, OneGroup, TellsWithinTotal}
+use Rattle.wasm_module_validator_declarations.specs.Total.{HasEachOnce, IsPastTotal, OneGroup, TellsWithinTotal}
 
 -- the type of an id of a module is one of the module's
 pub type_there : (groups : List Group) (ids : List CoreTypeId) (id : CoreTypeId) → Contains ids id → Contains (space_of groups ids) (tree_of groups id.0)
