@@ -13,7 +13,7 @@ use Rattle.wasm_module_validator_index_spaces.specs.declared.view.validator_id.V
 use Rattle.wasm_module_validator_type_list.specs.List.{max_types}
 use Rattle.wasm_module_validator_type_storage.specs.trees.Groups.{Group, count, tree_of}
 use Rattle.wasm_module_validator_type_groups.specs.adding.Interned.{space_of, ids_from}
-use Rattle.wasm_module_validator_drivers.specs.declarations.Total.{HasEachOnce, IsPastTotal, TakesOf}
+use Rattle.wasm_module_validator_drivers.specs.declarations.Total.{HasEachOnce, IsPastTotal, OneGroup, TakesOf}
 use Rattle.wasm_module_validator_drivers.specs.declarations.TotalLaws.{type_there}
 use Rattle.wasm_module_validator_drivers.specs.reading.Reading.{HasGroupIn}
 use Rattle.wasm_module_validator_drivers.specs.state.invariant.Standing.{IsGrown}
@@ -73,9 +73,9 @@ known_further types now more next k grown few of = (
 
 -- ---- a group that was refused had no room
 
-module _ (z : Settings) (types : List TypeTree) (now : List Group) (x : List ℕ) (known : AreKnown types now)
-    (room : (before : List TypeTree) (own : ℕ) → HasGroupIn z x before own → length before + own ≤ z.limits.types → HasRoomAfter z (types ++ before) own) where
-  module _ (e : ErrorValue) (p : IsPastTotal now (no_items z) (HasGroupIn z x) e) where
+module _ (z : Settings) (types : List TypeTree) (now : List Group) (Has : List TypeTree → ℕ → Type 0) (known : AreKnown types now)
+    (room : (before : List TypeTree) (own : ℕ) → Has before own → length before + own ≤ z.limits.types → HasRoomAfter z (types ++ before) own) where
+  module _ (e : ErrorValue) (p : IsPastTotal now (no_items z) Has e) where
     within : HasRoomAfter z (types ++ p.before) p.own
     within = room p.before p.own p.has p.within
 
@@ -91,10 +91,10 @@ module _ (z : Settings) (types : List TypeTree) (now : List Group) (x : List ℕ
         omega (arith, fits, many, past)
     refuted false off = let fits = within.as_written off in let few = held_known.1 in let past = p.past in omega (arith, fits, few, past)
 
-  not_past : (e : ErrorValue) → IsPastTotal now (no_items z) (HasGroupIn z x) e → ⊥
+  not_past : (e : ErrorValue) → IsPastTotal now (no_items z) Has e → ⊥
   not_past e p = refuted e p (needs_canonical_types z.features) refl
 
-  none_past : (e : ErrorValue) {P : Type 0} → IsPastTotal now (no_items z) (HasGroupIn z x) e ⊎ (P → ⊥) → P → ⊥
+  none_past : (e : ErrorValue) {P : Type 0} → IsPastTotal now (no_items z) Has e ⊎ (P → ⊥) → P → ⊥
   none_past e (inl p) valid = not_past e p
   none_past e (inr none) valid = none valid
 
@@ -117,7 +117,7 @@ module _ (z : Settings) (id : ValidatorId) where
       let took = left.1 read.0 read.1 in
       ((is.0, is.2), alone_from (types ++ more) next xs vs (known_further types now more next k left.0 took.0 took.1) (w.1 read.0 read.1) rest)
   alone_from types now (x ∷ xs) (Refused e false ∷ vs) k w (is, ends) =
-      let none = none_past z types now x k w.0 e is.1 in
+      let none = none_past z types now (HasGroupIn z x) k w.0 e is.1 in
       ((λ a. let read = accepted_is_read z x a in none ((outside_is_read z x).1 (read.0, read.1)), none), ends)
 
   pub verdicts_are_alone : (held : List Group) (xs : List (List ℕ)) (vs : List Verdict) → AreVerdicts z id held xs vs → IsWithinTotal z held xs → AreAlone z xs vs
@@ -151,12 +151,15 @@ no_more_than (t ∷ ts) all d a =
 -- ---- worked rows
 
 -- Types that come a second time take no room where they are kept in canonical form, and do where they are not; and behind as many as a list has,
--- there is no room for one more. A second module that is the same has the verdict of the first.
+-- there is no room for one more. A module whose types the list has all passes no total by them, and a second module that is the same has the
+-- verdict of the first.
 pub record AloneRows (z : Settings) (types : List TypeTree) (own : ℕ) (x : List ℕ) (t : Learned) (e : ErrorValue) : Type 0 where
   pub again : IsTrue (needs_canonical_types z.features) → length types + own ≤ max_types → HasRoomAfter z (types ++ types) own
   pub full : IsTrue (needs_canonical_types z.features) → AreDifferent types → length types ≡ max_types → HasRoomAfter z types 1 → ⊥
   pub as_written : needs_canonical_types z.features ≡ false → length types + length types + own ≤ max_types → HasRoomAfter z (types ++ types) own
   pub full_as_written : needs_canonical_types z.features ≡ false → length types + length types ≡ max_types → HasRoomAfter z (types ++ types) 1 → ⊥
+  pub held_already : IsTrue (needs_canonical_types z.features) → (groups : List Group) → AreAmong types (all_types groups) → count groups + own ≤ max_types
+      → IsPastTotal groups (no_items z) (OneGroup types own) e → ⊥
   pub accepted_again : AcceptsUnder z x → AreAlone z (x ∷ x ∷ []) (Accepted t ∷ Accepted t ∷ [])
   pub refused_again : (b : Bool) → AreAlone z (x ∷ x ∷ []) (Accepted t ∷ Refused e b ∷ []) → ⊥
   pub none_more : AreAlone z [] (Accepted t ∷ []) → ⊥
@@ -170,6 +173,19 @@ not_accepted : (z : Settings) (x : List ℕ) (t : Learned) (e : ErrorValue) (b :
 not_accepted z x t e true (a, (none, ends)) = none.0 a
 not_accepted z x t e false (a, (none, ends)) = none.0 a
 
+-- what the list has takes no room in it
+room_again : (z : Settings) (groups : List Group) (types : List TypeTree) (own : ℕ) → IsTrue (needs_canonical_types z.features) → AreAmong types (all_types groups)
+    → count groups + own ≤ max_types → (before : List TypeTree) (n : ℕ) → OneGroup types own before n → length before + n ≤ z.limits.types
+    → HasRoomAfter z (all_types groups ++ before) n
+room_again z groups types own on among fits before n (is, same) within = record {
+  canonical = λ on some d a.
+      let few = no_more_than some (all_types groups) d (λ t c. ⊎_elim (λ l. l) (λ r. among t (subst (λ (ts : List TypeTree). Contains ts t) is r))
+      (Contains-append_cases (all_types groups) before t (a t c))) in
+      let all = counted groups in
+      omega (arith, few, all, fits, same);
+  as_written = λ off. absurd (let both : true ≡ false = sym on ∙ off in cc);
+}
+
 pub alone_rows : (z : Settings) (types : List TypeTree) (own : ℕ) (x : List ℕ) (t : Learned) (e : ErrorValue) → AloneRows z types own x t e
 alone_rows z types own x t e = record {
   again = λ on fits. record {
@@ -182,6 +198,8 @@ alone_rows z types own x t e = record {
     as_written = λ off. let whole = length-append types types in omega (arith, whole, fits);
   };
   full_as_written = λ off many room. let fits = room.as_written off in let whole = length-append types types in omega (arith, fits, whole, many);
+  held_already = λ on groups among fits p.
+      not_past z (all_types groups) groups (OneGroup types own) (known_first groups) (room_again z groups types own on among fits) e p;
   accepted_again = λ a. (a, (a, tt));
   refused_again = not_accepted z x t e;
   none_more = λ h. h;
