@@ -2,7 +2,7 @@
 //!
 //! A decoder is a function from the place of a reader to its answer. Three laws hold of each: a value and a fault stay
 //! whatever bytes follow, the hint at an end of data is exact, and a value is read exactly if a grammar spells it. Readers
-//! of the crates above state their contracts by these definitions; `docs/decoding.md` explains them in plain words.
+//! of the crates above state their contracts by these definitions; `docs/OPERATORS.md` explains them in plain words.
 //!
 //! Numbers (WebAssembly 3.0, binary format, values, integers) are groups of seven bits, the lowest first, in a byte each,
 //! whose highest bit says that more follow: 300 is `ac 02`. No reader moves here: each function takes the bytes and an
