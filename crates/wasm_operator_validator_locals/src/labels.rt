@@ -1,5 +1,5 @@
 //! Labels of a table that were met. A table of labels may name one label many times over, and what a label takes may be long: who keeps
-//! the labels that were asked asks each of them once. The first 64 lie in the value itself, so that few tables take memory. A set has the
+//! the labels that were asked asks each of them once. The first eight lie in the value itself, so that few tables take memory. A set has the
 //! others; where there is no memory for it, they are asked again.
 
 ghost use Rattle.std.specs.Prelude.{◌≡◌, [], true};
@@ -13,7 +13,7 @@ use std::marker::Model;
 /// Labels. A contract sees them as a list, in no order that means anything.
 #[derive(Drop)]
 pub struct Met {
-    few: ArrayVec<u32, 64>,
+    few: ArrayVec<u32, 8>,
     many: BTreeSet<u32>,
 }
 
