@@ -1,5 +1,6 @@
-// Refuses each allocation of a validation in turn, of whole bytes and in pieces, and all that come after it, until one meets no refusal. The answer is "out of memory",
-// or that of a validation with ample memory, since a type's ancestors are looked for one by one if there is no memory to keep them.
+// Refuses each allocation of a validation in turn, of whole bytes and in pieces, and all that come after it, until one meets no refusal. The
+// answer is "out of memory", or that of a validation with ample memory, since a type's ancestors are looked for one by one if there is no
+// memory to keep them.
 // It is linked with the archive of proved code alone, whose three functions of memory are defined here. usage: memory FILE..
 #include <durskeyl.h>
 #include <stdbool.h>

@@ -1,6 +1,6 @@
 //! The verdict on a module whose pieces are handed over one after the other.
 
-ghost use Rattle.std.specs.Prelude.{◌≡◌, ◌≤◌, ◌<◌, ◌++◌, ◌↔◌, ◌⊎◌, List, [], ℕ, IfSome, MatchOption};
+ghost use Rattle.std.specs.Prelude.{◌≡◌, ◌≤◌, ◌<◌, ◌^◌, ◌++◌, ◌↔◌, ◌⊎◌, List, [], ℕ, length, IfSome, MatchOption};
 ghost use Rattle.wasm_module_validator_streaming.specs.HandedOver.{IsUnderWay};
 ghost use Rattle.durskeyl_c.specs.declared.settings.DurskeylSettings.{DurskeylSettings};
 ghost use Rattle.durskeyl_c.specs.Settings.{AreSettings};
@@ -59,7 +59,8 @@ fn take(it: &mut ModuleInPieces, bytes: &[u8], fault: &mut DurskeylFault) -> u32
 /// Ends the module, and writes the verdict.
 fn end(it: ModuleInPieces, fault: &mut DurskeylFault) -> u32
     requires { IsUnderWay it }
-    ensures told { (s : DurskeylSettings) (got : List ℕ) → Holds (Some it) s got → Told result s got }
+    ensures told { (s : DurskeylSettings) (got : List ℕ) → Holds (Some it) s got → length got < 2 ^ 64
+        → Told result s got }
     ensures few { result ≤ 5 }
     ensures stays { 0 < answer_of (Some it) → result ≡ answer_of (Some it) }
     ensures kind { fault.new.kind ≡ result }
@@ -166,7 +167,8 @@ pub extern "C" fn durskeyl_end(
     fault: &mut DurskeylFault,
 ) -> u32
     requires { IfSome pieces.old.value IsUnderWay }
-    ensures told { (s : DurskeylSettings) (got : List ℕ) → Holds pieces.old.value s got → Told result s got }
+    ensures told { (s : DurskeylSettings) (got : List ℕ) → Holds pieces.old.value s got → length got < 2 ^ 64
+        → Told result s got }
     ensures begun { (result ≡ 6) ↔ (pieces.old.value ≡ None) }
     ensures stays { 0 < answer_of pieces.old.value → result ≡ answer_of pieces.old.value }
     ensures empty { pieces.new.value ≡ None }

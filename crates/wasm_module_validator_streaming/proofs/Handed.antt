@@ -28,10 +28,10 @@ module _ {S : Type 0} (stands : S → List ℕ → Bool → List ℕ → S → T
   pub part_denies : {E : Type 0} (denied : S → List ℕ → E → Type 0) (text : List ℕ) (n : ℕ) (e : E) → DeniesFrom stands denied false (rest ++ take n text) now e → DeniesBehind stands denied rest now text e
   part_denies denied text n e h = λ first got s room more last room'.
       let parts : (got ++ take n text) ++ (drop n text ++ more) ≡ (got ++ text) ++ more =
-          append_assoc (got ++ take n text) (drop n text) more
-          ∙ ap (λ (l : List ℕ). l ++ more) (sym (append_assoc got (take n text) (drop n text)) ∙ ap (λ (l : List ℕ). got ++ l) (take-append-drop n text)) in
+      sym (append_assoc (got ++ take n text) (drop n text) more)
+      ∙ ap (λ (l : List ℕ). l ++ more) (append_assoc got (take n text) (drop n text) ∙ ap (λ (l : List ℕ). got ++ l) (take-append-drop n text)) in
       let all : length (got ++ take n text) + length (drop n text) ≡ length (got ++ text) =
-          sym (length-append (got ++ take n text) (drop n text)) ∙ ap length (sym (append_assoc got (take n text) (drop n text)) ∙ ap (λ (l : List ℕ). got ++ l) (take-append-drop n text)) in
+      sym (length-append (got ++ take n text) (drop n text)) ∙ ap length (append_assoc got (take n text) (drop n text) ∙ ap (λ (l : List ℕ). got ++ l) (take-append-drop n text)) in
       subst (λ (l : List ℕ). denied first l e) parts
       (h first (got ++ take n text) (grow first got rest now (take n text) s) (omega (arith, all, room)) (drop n text ++ more) (λ t. absurd (false≢true t))
       (subst (λ (l : List ℕ). length l < 2 ^ 64) (sym parts) room'))
@@ -53,7 +53,7 @@ module _ {S : Type 0} (stands : S → List ℕ → Bool → List ℕ → S → T
 module _ {S : Type 0} (stands : S → List ℕ → Bool → List ℕ → S → Type 0) (before : List ℕ) (then : S) (text : List ℕ) (n : ℕ) (few : n ≤ length text)
     (rest : List ℕ) (now : S) (came : Follows stands before then (take n text) rest now) where
   parts : (got : List ℕ) → (got ++ take n text) ++ drop n text ≡ got ++ text
-  parts got = sym (append_assoc got (take n text) (drop n text)) ∙ ap (λ (l : List ℕ). got ++ l) (take-append-drop n text)
+  parts got = append_assoc got (take n text) (drop n text) ∙ ap (λ (l : List ℕ). got ++ l) (take-append-drop n text)
 
   counts : (got : List ℕ) → length (got ++ take n text) + length (drop n text) ≡ length (got ++ text)
   counts got = sym (length-append (got ++ take n text) (drop n text)) ∙ ap length (parts got)
@@ -75,7 +75,7 @@ module _ {S : Type 0} (stands : S → List ℕ → Bool → List ℕ → S → T
       → Follows stands before then (take (n + k) text) left after
   rest_follows k fits left after h = λ first got s room.
       let whole : got ++ take (n + k) text ≡ (got ++ take n text) ++ take k (drop n text) =
-          ap (λ (l : List ℕ). got ++ l) (take-add n k text) ∙ append_assoc got (take n text) (take k (drop n text)) in
+      ap (λ (l : List ℕ). got ++ l) (take-add n k text) ∙ sym (append_assoc got (take n text) (take k (drop n text))) in
       let room' : length ((got ++ take n text) ++ take k (drop n text)) < 2 ^ 64 = subst (λ (l : List ℕ). length l < 2 ^ 64) whole room in
       let sum = length-append (got ++ take n text) (take k (drop n text)) in
       subst (λ (l : List ℕ). stands first l false left after) (sym whole) (h first (got ++ take n text) (came first got s (omega (arith, sum, room'))) room')

@@ -10,3 +10,5 @@ pub mod KeptJudge
 pub mod Waiting
 -- Bytes that are handed over.
 pub mod Handed
+-- A module whose pieces are handed over.
+pub mod HandedModule

@@ -1,6 +1,6 @@
 //! A module whose pieces are handed over, one after the other.
 
-ghost use Rattle.std.specs.Prelude.{◌≡◌, ◌≤◌, ◌++◌, [], List, ℕ, vec_len, IfErr, IfSome, OnOk};
+ghost use Rattle.std.specs.Prelude.{◌≡◌, ◌≤◌, ◌<◌, ◌^◌, ◌++◌, [], List, ℕ, length, vec_len, IfErr, IfSome, OnOk};
 ghost use Rattle.wasm_types.specs.settings.Limits.{IsWithinCeilings};
 ghost use Rattle.wasm_types.specs.settings.Settings.{Settings};
 ghost use Rattle.wasm_module_validator_index_spaces.specs.declared.view.validator_id.ValidatorId.{ValidatorId};
@@ -124,7 +124,8 @@ impl ModuleInPieces {
     /// The bytes are no valid module, or were refused before; or there is no memory, which is no verdict.
     pub fn end(self) -> Result<Types>
         requires { IsUnderWay self }
-        ensures told { (z : Settings) (id : ValidatorId) (got : List ℕ) → Came z id got self → TellsModule z id got result }
+        ensures told { (z : Settings) (id : ValidatorId) (got : List ℕ) → Came z id got self → length got < 2 ^ 64
+            → TellsModule z id got result }
         ensures stays { IfSome self.refused (λ e. result ≡ Err e) }
     {
         let ModuleInPieces {
