@@ -1,5 +1,5 @@
 -- Bytes that are handed over: one part more of them, and what that leads to.
-use Rattle.std.proofs.Common.{◌≡◌, ◌∙◌, ◌<◌, ◌≤◌, ◌+◌, ◌^◌, ℕ, Bool, false, List, [], ◌++◌, length, take, drop, sym, ap, subst, arith, append_assoc, length-append, length-take-le, take-append-drop, take-add}
+use Rattle.std.proofs.Common.{◌≡◌, ◌∙◌, ◌<◌, ◌≤◌, ◌+◌, ◌^◌, ℕ, Bool, false, List, [], ◌++◌, length, take, drop, sym, ap, subst, arith, append-nil, append_assoc, length-append, length-take-le, take-append-drop, take-add}
 use Rattle.std.proofs.lemmas.Bool.{false≢true}
 use Rattle.wasm_module_validator_streaming.specs.Taking.{IsMidst, DeniesFrom}
 use Rattle.wasm_module_validator_streaming.specs.Handing.{HasRoom, Follows, DeniesBehind}
@@ -49,6 +49,10 @@ module _ {S : Type 0} (stands : S → List ℕ → Bool → List ℕ → S → T
   all_denies denied text e none h = λ first got s room. h first (got ++ text) (subst (λ (l : List ℕ). stands first (got ++ text) false (l ++ text) now) none (grow first got rest now text s)) room
 
 -- ---- one part after the other
+
+-- no bytes lead nowhere
+pub none_follows : {S : Type 0} (stands : S → List ℕ → Bool → List ℕ → S → Type 0) (rest : List ℕ) (now : S) → Follows stands rest now [] rest now
+none_follows stands rest now first got s room = subst (λ (l : List ℕ). stands first l false rest now) (sym (append-nil got)) s
 
 module _ {S : Type 0} (stands : S → List ℕ → Bool → List ℕ → S → Type 0) (before : List ℕ) (then : S) (text : List ℕ) (n : ℕ) (few : n ≤ length text)
     (rest : List ℕ) (now : S) (came : Follows stands before then (take n text) rest now) where
