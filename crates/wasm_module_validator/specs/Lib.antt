@@ -6,6 +6,7 @@ pub mod Methods
 pub mod Payloads
 pub mod Lists
 pub mod Parts
+pub mod Alone
 pub mod Unasked
 -- Laws, with the proofs. `StateRows` there has worked rows.
 pub mod laws

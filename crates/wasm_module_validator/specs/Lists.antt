@@ -7,7 +7,7 @@ use Rattle.wasm_types.specs.reader.Reading.{IsNotMemory}
 use Rattle.wasm_sections_parser.specs.Parsing.{one_of}
 use Rattle.wasm_module_validator_index_spaces.specs.declared.view.validator_id.ValidatorId.{ValidatorId}
 use Rattle.wasm_module_validator_drivers.specs.reading.Reading.{HasGroupIn, IsReadAs}
-use Rattle.wasm_module_validator_drivers.specs.declarations.Total.{IsPastTotal}
+use Rattle.wasm_module_validator_drivers.specs.declarations.Total.{IsPastTotal, TakesOf}
 use Rattle.wasm_module_validator_drivers.specs.state.invariant.Standing.{IsGrown}
 use Rattle.wasm_module_validator_drivers.specs.state.Items.{no_items}
 use Rattle.wasm_module_validator_section_order.specs.rules_in_order.Steps.{SoFar}
@@ -47,12 +47,13 @@ abbrev pub goes_on : Verdict → Bool
 goes_on (Accepted types) = true
 goes_on (Refused error ended) = ended
 
--- the list has taken no more types than these bytes have
+-- the list has taken no more types than these bytes have, and no others
 abbrev pub TakesNoMore : Settings → List Group → List ℕ → List Group → Type 0
-TakesNoMore z held bytes next = (q : SoFar) → IsReadAs z bytes q → count next ≤ count held + length (types_behind [] q.tree.types)
+TakesNoMore z held bytes next = (q : SoFar) → IsReadAs z bytes q
+    → (count next ≤ count held + length (types_behind [] q.tree.types)) × TakesOf (types_behind [] q.tree.types) held next
 
--- What a verdict on these bytes makes of the list of types: it has taken further groups, of no more types than the bytes have, and it is that
--- of the module which was accepted.
+-- What a verdict on these bytes makes of the list of types: it has taken further groups, of no more types than the bytes have and of no others,
+-- and it is that of the module which was accepted.
 abbrev pub IsHeldBehind : Settings → List Group → List ℕ → Verdict → List Group → Type 0
 IsHeldBehind z held bytes (Accepted types) next = IsGrown held next × (types.kept.groups ≡ next) × TakesNoMore z held bytes next
 IsHeldBehind z held bytes (Refused error ended) next = IsGrown held next × TakesNoMore z held bytes next

@@ -4,5 +4,6 @@ pub mod StateRows
 pub mod Ids
 pub mod Lists
 pub mod ListRows
+pub mod Alone
 pub mod Unasked
 pub mod Parts

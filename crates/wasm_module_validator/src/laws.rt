@@ -1,14 +1,19 @@
 //! Laws and worked rows, each on the contract of a function that does nothing.
 
 ghost use Rattle.wasm_types.specs.settings.Settings.{Settings};
-ghost use Rattle.std.specs.Prelude.{◌≡◌, ◌<◌, ℕ, List};
+ghost use Rattle.std.specs.Prelude.{◌≡◌, ◌<◌, ◌≤◌, ℕ, List, length};
 ghost use Rattle.wasm_types.specs.decoding.ErrorValue.{ErrorValue};
+ghost use Rattle.wasm_types.specs.trees.Trees.{TypeTree};
 ghost use Rattle.wasm_module_validator_index_spaces.specs.declared.view.validator_id.ValidatorId.{ValidatorId};
 ghost use Rattle.wasm_module_validator_drivers.specs.state.invariant.Standing.{IsGrown};
 ghost use Rattle.wasm_module_validator_section_order.specs.rules_in_order.Steps.{nothing};
 ghost use Rattle.wasm_module_validator_type_storage.specs.trees.Groups.{Group, count, tree_of};
 ghost use Rattle.wasm_module_validator_drivers.specs.Sharing.{Reached, renewed_behind, IsReached};
 ghost use Rattle.wasm_module_validator.specs.Shown.{Learned};
+ghost use Rattle.wasm_module_validator.specs.Alone.{AreAlone, AreAmong, AreDifferent, IsWithinTotal};
+ghost use Rattle.wasm_module_validator.specs.Lists.{AreVerdicts};
+ghost use Rattle.wasm_module_validator.specs.declared.lists.Verdict.{Verdict};
+ghost use Rattle.wasm_module_validator.specs.laws.Alone.{AloneRows};
 ghost use Rattle.wasm_module_validator.specs.laws.ListRows.{ListRows};
 ghost use Rattle.wasm_module_validator.specs.laws.StateRows.{LeftRows, AcceptedRows, RenewedRows};
 ghost use Rattle.wasm_module_validator.specs.Unasked.{VectorsAreAskedFor};
@@ -25,6 +30,16 @@ pub const fn states_are_worked()
 pub const fn lists_are_worked()
     ensures { (z : Settings) (id : ValidatorId) (held : List Group) (x y : List ℕ) (t : Learned) (e : ErrorValue)
         → ListRows z id held x y t e }
+{}
+
+/// Modules that are validated one after the other have the verdicts that they have alone, while one list has room for the types of all of them;
+/// and if types are kept in canonical form, those that are the same count once: so many that are different are no more than those they are among.
+pub const fn verdicts_are_isolated()
+    ensures alone { (z : Settings) (id : ValidatorId) (held : List Group) (xs : List (List ℕ)) (vs : List Verdict)
+        → AreVerdicts z id held xs vs → IsWithinTotal z held xs → AreAlone z xs vs }
+    ensures once { (some all : List TypeTree) → AreDifferent some → AreAmong some all → length some ≤ length all }
+    ensures rows { (z : Settings) (types : List TypeTree) (own : ℕ) (x : List ℕ) (t : Learned) (e : ErrorValue)
+        → AloneRows z types own x t e }
 {}
 
 /// A validator behind a header stands for a module of which nothing was judged, whatever it read before.

@@ -11,6 +11,7 @@ ghost use Rattle.wasm_module_validator_section_order.specs.items.Adding.{UnlessF
 ghost use Rattle.wasm_module_validator_canonical_types.specs.Written.{AreModuleIndices};
 ghost use Rattle.wasm_module_validator_type_groups.specs.adding.Interned.{written_group};
 ghost use Rattle.wasm_module_validator_type_storage.specs.trees.Groups.{count};
+ghost use Rattle.wasm_module_validator_type_storage.specs.trees.Formed.{IsFormed};
 ghost use Rattle.wasm_module_validator_state.specs.resources.Named.{IsReadOver};
 ghost use Rattle.wasm_module_validator_section_order.specs.rules.Syntax.{ModuleTree};
 ghost use Rattle.wasm_module_validator_section_order.specs.rules_in_order.Sections as section;
@@ -53,6 +54,7 @@ fn past_total(offset: u64) -> Error
 fn is_within_total(types: &TypeList, further: usize) -> bool
     ensures within { IsTrue result → count types.now.groups + further ≤ max_types }
     ensures past { result ≡ false → max_types < count types.now.groups + further }
+    ensures formed { IsFormed types.now.groups }
 {
     further <= MAX_TYPES - types.type_count()
 }
@@ -83,7 +85,7 @@ pub fn add_group(
     requires within { IsWithinCeilings state.old.spaces.settings.limits }
     requires indices { AreModuleIndices (declared_types rec_group) }
     ensures answer { UnlessFull (IsPastTotal types.old.groups state.old
-        (HasGroupNext state.old (written_group rec_group))) result
+        (HasGroupNext types.old.groups state.old (written_group rec_group))) result
         ((z : Settings) (m : ModuleTree) → IsReading section.types types.old.groups state.old z m
         → groups ≡ length m.types
         → Tells result ((n : ModuleTree) × AddsRead z section.types m (written_group rec_group) n)) }

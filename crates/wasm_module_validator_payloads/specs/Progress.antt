@@ -5,6 +5,7 @@ use Rattle.wasm_types.specs.decoding.ErrorValue.{ErrorValue}
 use Rattle.wasm_types.specs.decoding.Decoder.{Grammar}
 use Rattle.wasm_types.specs.DecodeTypes.{rec_group}
 use Rattle.wasm_types.specs.SpellsTypes.{group_value}
+use Rattle.wasm_types.specs.trees.Trees.{TypeTree}
 use Rattle.wasm_types.specs.trees.ValidGroup.{Written}
 use Rattle.wasm_types.specs.settings.declared.Limits.{Limits}
 use Rattle.wasm_types.specs.settings.contracts.LimitsPartialEq.TheImpl as limits
@@ -24,7 +25,7 @@ use Rattle.wasm_module_validator_section_order.specs.rules_in_order.Sections.{Se
 use Rattle.wasm_module_validator_section_order.specs.rules_in_order.Sections as section
 use Rattle.wasm_module_validator_section_order.specs.rules_in_order.Steps.{SoFar, IsJudged}
 use Rattle.wasm_module_validator_section_order.specs.rules_in_order.Texts.{ItemRead, AddsRead}
-use Rattle.wasm_module_validator_state.specs.invariant.Standing.{IsGrown, Stands, IsReading}
+use Rattle.wasm_module_validator_state.specs.invariant.Standing.{IsGrown, TakesOwn, Stands, IsReading}
 use Rattle.wasm_module_validator_declarations.specs.Total.{HasGroupNext, IsPastTotal, IsSizeOf}
 use Rattle.wasm_module_validator_section_order.specs.sections.Kinds.{group_read}
 use Rattle.wasm_module_validator_section_order.specs.sections.Sections.{Reading, AddsIn}
@@ -81,10 +82,11 @@ renewed z k = nothing_over (kept_groups z k) z
 abbrev pub next_over : Kept → Progress
 next_over k = nothing_over k.groups k.items.spaces.settings
 
--- further groups may stand in the list, of no more types than the module has besides, and the settings are the same
+-- further groups may stand in the list, of no more types than the module has besides, and of no others, and the settings are the same
 pub record Grows (k l : Kept) : Type 0 where
   pub groups : IsGrown k.groups l.groups
   pub types : count l.groups + length k.items.spaces.types ≤ count k.groups + length l.items.spaces.types
+  pub own : TakesOwn k.groups k.items.spaces.types l.groups l.items.spaces.types
   pub settings : l.items.spaces.settings ≡ k.items.spaces.settings
 
 -- ---- while the items of a section are added
@@ -105,28 +107,28 @@ abbrev pub AddsShortIn : {T V : Type 0} (s : Section) → (T → V) → (T → I
 AddsShortIn s view of g groups i j l text from to =
     (count : ℕ) → AddsShort view of g (AddsIn s) (IsRead s) (kept groups i count) (kept groups j count) l text from to
 
--- after so many types an item that was read is next a group of so many
-abbrev pub HasNext : (s : Section) → Items → ItemRead s → ℕ → ℕ → Type 0
-HasNext section.types items x before own = HasGroupNext items x before own
-HasNext section.imports items x before own = ⊥
-HasNext section.functions items x before own = ⊥
-HasNext section.tables items x before own = ⊥
-HasNext section.memories items x before own = ⊥
-HasNext section.tags items x before own = ⊥
-HasNext section.globals items x before own = ⊥
-HasNext section.exports items x before own = ⊥
-HasNext section.start items x before own = ⊥
-HasNext section.element_segments items x before own = ⊥
-HasNext section.data_count items x before own = ⊥
-HasNext section.data_segments items x before own = ⊥
+-- after these types, over the list of types, an item that was read is next a group of so many
+abbrev pub HasNext : (s : Section) → List Group → Items → ItemRead s → List TypeTree → ℕ → Type 0
+HasNext section.types groups items x before own = HasGroupNext groups items x before own
+HasNext section.imports groups items x before own = ⊥
+HasNext section.functions groups items x before own = ⊥
+HasNext section.tables groups items x before own = ⊥
+HasNext section.memories groups items x before own = ⊥
+HasNext section.tags groups items x before own = ⊥
+HasNext section.globals groups items x before own = ⊥
+HasNext section.exports groups items x before own = ⊥
+HasNext section.start groups items x before own = ⊥
+HasNext section.element_segments groups items x before own = ⊥
+HasNext section.data_count groups items x before own = ⊥
+HasNext section.data_segments groups items x before own = ⊥
 
 -- only a group of types is refused because the list is full
 abbrev pub FullIn : (s : Section) → List Group → Items → ItemRead s → ErrorValue → Type 0
-FullIn s groups items x e = (s ≡ section.types) × IsPastTotal groups items (HasNext s items x) e
+FullIn s groups items x e = (s ≡ section.types) × IsPastTotal groups items (HasNext s groups items x) e
 
--- after groups with so many types one of these items is a group of so many
-abbrev pub HasItem : (s : Section) → (List (ItemRead s) → ItemRead s → Type 0) → ℕ → ℕ → Type 0
-HasItem section.types Is before own = (front : List Written) × (x : Written) × Is front x × (before ≡ length (types_behind [] front)) × IsSizeOf x own
+-- after groups of these types one of these items is a group of so many
+abbrev pub HasItem : (s : Section) → (List (ItemRead s) → ItemRead s → Type 0) → List TypeTree → ℕ → Type 0
+HasItem section.types Is before own = (front : List Written) × (x : Written) × Is front x × (before ≡ types_behind [] front) × IsSizeOf x own
 HasItem section.imports Is before own = ⊥
 HasItem section.functions Is before own = ⊥
 HasItem section.tables Is before own = ⊥
@@ -164,13 +166,13 @@ pub record IsAt (z : Settings) (r : Progress) (bs : List Body) (p : SoFar) : Typ
   pub types : map type_of bs ≡ take (length bs) p.tree.functions
   pub read : Each (λ (b : Body). IsReadBy z z.features b.body) bs
 
--- a section of types has a group of so many types, after groups that have so many
-abbrev pub HasGroup : Payload → ℕ → ℕ → Type 0
+-- a section of types has a group of so many types, after groups that have these
+abbrev pub HasGroup : Payload → List TypeTree → ℕ → Type 0
 HasGroup (payloads.TypeSection s) before own = HasItem section.types (IsItemOf group_value group_read rec_group s.count s.reader) before own
 HasGroup x before own = ⊥
 
 -- The list has no room for a group that is one of these: of types that the section has, over whatever was judged before.
-abbrev pub FullWhere : Progress → Section → (ℕ → ℕ → Type 0) → ErrorValue → Type 0
+abbrev pub FullWhere : Progress → Section → (List TypeTree → ℕ → Type 0) → ErrorValue → Type 0
 FullWhere r s Has e = (s ≡ section.types)
     × ((z : Settings) (p : SoFar) (bodies : List Body) → IsAt z r bodies p → IsPastTotal r.kept.groups r.kept.items Has e)
 

@@ -13,7 +13,8 @@ use Rattle.wasm_module_validator_section_order.specs.sections_below.declared.pay
 use Rattle.wasm_module_validator_initialisers.specs.index_spaces.Spaces.{own_function}
 use Rattle.wasm_module_validator.specs.drivers.judging.Bodies.{AreBodies}
 use Rattle.wasm_module_validator_section_order.specs.declared.items.bodies.Body.{Body}
-use Rattle.wasm_module_validator_type_storage.specs.trees.Groups.{Group}
+use Rattle.wasm_module_validator_type_storage.specs.trees.Groups.{Group, count}
+use Rattle.wasm_module_validator_type_groups.specs.adding.Interned.{ids_from}
 use Rattle.wasm_module_validator_initialisers.specs.state.Items.{no_items}
 use Rattle.wasm_module_validator_initialisers.specs.state.Adding.{adding_function}
 use Rattle.wasm_module_validator_section_order.specs.rules_in_order.Sections.{code_place}
@@ -53,7 +54,8 @@ pub record KeptRows (z : Settings) (g h : Group) : Type 0 where
   pub renewed_otherwise : renewed (under 6) (one_function 5 (g ∷ [])) ≡ nothing_kept (under 6)
   pub renewed_by_limits : renewed (of_ten_locals 5) (one_function 5 (g ∷ [])) ≡ nothing_kept (of_ten_locals 5)
   pub next : next_over (one_function 5 (g ∷ [])) ≡ nothing_over (g ∷ []) (under 5)
-  pub grows : (ids : List CoreTypeId) → length ids ≡ length h.types → Grows (one_function 5 (g ∷ [])) (of_types ids (one_function 5 (h ∷ g ∷ [])))
+  pub grows : Grows (one_function 5 (g ∷ [])) (of_types (ids_from (count (g ∷ [])) (length h.types)) (one_function 5 (h ∷ g ∷ [])))
+  pub grows_by_others : 0 < length h.types → Grows (one_function 5 (g ∷ [])) (of_types (ids_from (count (h ∷ g ∷ [])) (length h.types)) (one_function 5 (h ∷ g ∷ []))) → ⊥
   pub grows_by_more : 0 < length h.types → Grows (one_function 5 (g ∷ [])) (one_function 5 (h ∷ g ∷ [])) → ⊥
   pub grows_not : Grows (one_function 5 (g ∷ [])) (one_function 5 []) → ⊥
   pub grows_alike : Grows (one_function 5 []) (one_function 6 []) → ⊥

@@ -1,9 +1,11 @@
 -- The rows of `Progress`.
-use Rattle.std.proofs.Common.{◌≡◌, ◌∙◌, ◌+◌, ◌++◌, ◌<◌, ◌≤◌, ℕ, Bool, true, false, List, [], ◌∷◌, length, map, take, Option, Some, None, option_map, slice_get, refl, sym, ap, subst, arith, lit<, lit≤, rules, Err, inl, inr}
+use Rattle.std.proofs.Common.{◌≡◌, ◌∙◌, ◌+◌, ◌++◌, ◌<◌, ◌≤◌, ℕ, zero, suc, Bool, true, false, List, [], ◌∷◌, length, map, take, Option, Some, None, option_map, slice_get, refl, sym, ap, subst, arith, lit<, lit≤, rules, Err, inl, inr}
+use Rattle.std.specs.Prelude.{Contains}
 use Rattle.wasm_types.specs.decoding.Decoder.{State}
 use Rattle.wasm_types.specs.settings.declared.Limits.{Limits}
 use Rattle.wasm_types.specs.settings.Limits.{default_limits}
 use Rattle.wasm_types.specs.settings.Settings.{Settings}
+use Rattle.wasm_types.specs.trees.declared.index.CoreTypeId.{CoreTypeId}
 use Rattle.wasm_sections_parser.specs.declared.frame.Encoding.TheVariants as encodings
 use Rattle.wasm_sections_parser.specs.declared.frame.Frame.TheVariants as frames
 use Rattle.wasm_sections_parser.specs.declared.frame.Frame.{Frame}
@@ -14,8 +16,10 @@ use Rattle.wasm_module_validator_initialisers.specs.index_spaces.Spaces.{own_fun
 use Rattle.wasm_module_validator_initialisers.specs.index_spaces.declared.module.Function.{Function}
 use Rattle.wasm_module_validator.specs.drivers.reading.laws.Walking.{nothing_is_at}
 use Rattle.wasm_module_validator_section_order.specs.declared.items.bodies.Body.{Body}
-use Rattle.wasm_module_validator_type_storage.specs.trees.Groups.{Group}
+use Rattle.wasm_module_validator_type_storage.specs.trees.Groups.{Group, count}
 use Rattle.wasm_module_validator_type_storage.specs.trees.laws.Unrolled.{count_push}
+use Rattle.wasm_module_validator_type_groups.specs.adding.Interned.{ids_from}
+use Rattle.wasm_module_validator_initialisers.specs.state.invariant.laws.Growing.{ids_contain, ids_counted}
 use Rattle.wasm_module_validator_initialisers.specs.state.invariant.laws.Worked.{worked_nothing}
 use Rattle.wasm_module_validator_section_order.specs.rules.Syntax.{ModuleTree}
 use Rattle.wasm_module_validator_section_order.specs.rules_in_order.Steps.{SoFar, nothing, JudgesBody, JudgesShape}
@@ -30,6 +34,12 @@ no_list : {A : Type 0} (xs : List A) (x : A) → [] ≡ xs ++ x ∷ [] → ⊥
 no_list [] x e = absurd cc
 no_list (y ∷ xs) x e = absurd cc
 
+-- an id of those from the first on
+at_least : (first n : ℕ) (id : CoreTypeId) → Contains (ids_from first n) id → first ≤ id.0
+at_least first zero id (k, l, at) = absurd (omega (arith, l))
+at_least first (suc n) id (zero, l, at) = let same : first ≡ id.0 = ap (λ (i : CoreTypeId). i.0) at in omega (arith, same)
+at_least first (suc n) id (suc k, l, at) = let h = at_least (suc first) n id (k, omega (arith, l), at) in omega (arith, h)
+
 pub kept_rows : (z : Settings) (g h : Group) → KeptRows z g h
 unfolding default_limits
 kept_rows z g h = record {
@@ -39,7 +49,25 @@ kept_rows z g h = record {
   renewed_otherwise = refl;
   renewed_by_limits = refl;
   next = refl;
-  grows = λ ids same. let more = count_push h (g ∷ []) in record { groups = (h ∷ [], refl); types = omega (arith, more, same); settings = refl };
+  grows =
+      let more = count_push h (g ∷ []) in
+      let same = ids_counted (count (g ∷ [])) (length h.types) in
+      record {
+        groups = (h ∷ [], refl);
+        types = omega (arith, more, same);
+        own = record {
+          ids = ids_from (count (g ∷ [])) (length h.types);
+          behind = refl;
+          own = λ id low high. ids_contain (count (g ∷ [])) (length h.types) id low (omega (arith, high, more));
+        };
+        settings = refl;
+      };
+  grows_by_others = λ some x.
+      let more = count_push h (g ∷ []) in
+      let first : CoreTypeId = record { 0 = count (g ∷ []) } in
+      let there = x.own.own first (omega arith) (omega (arith, more, some)) in
+      let low = at_least (count (h ∷ g ∷ [])) (length h.types) first (subst (λ (ids : List CoreTypeId). Contains ids first) (sym x.own.behind) there) in
+      omega (arith, more, some, low);
   grows_by_more = λ some x. let more = count_push h (g ∷ []) in let few = x.types in omega (arith, more, few, some);
   grows_not = λ x. no_list x.groups.0 g x.groups.1;
   grows_alike = λ x. let e = ap (λ (y : Settings). y.features) x.settings in omega (arith, e);

@@ -8,6 +8,7 @@ use Rattle.wasm_types.specs.trees.Types.{SubtypeOf}
 use Rattle.wasm_types.specs.trees.ValidGroup.{Written}
 use Rattle.wasm_operators_bodies.specs.declared.short.ShortConstant.TheVariants as short
 use Rattle.wasm_operators_bodies.specs.Short.{SpellsShort}
+use Rattle.wasm_module_validator_section_order.specs.rules.Spaces.{types_behind}
 use Rattle.wasm_module_validator_section_order.specs.rules_in_order.Between.{IsBetween}
 use Rattle.wasm_module_validator_section_order.specs.rules_in_order.Sections as section
 use Rattle.wasm_module_validator_initialisers.specs.segments.Short.{IsShortData}
@@ -65,7 +66,7 @@ pub record RoomRows (t : SubtypeOf ℕ) : Type 0 where
   pub second : IsByteOf three 3 (1 ∷ []) 2
   pub not_first : IsByteOf three 3 [] 2 → ⊥
   pub not_of_one : IsByteOf three 1 (1 ∷ []) 2 → ⊥
-  pub one_and_one : HasItem section.types (Twice t) 1 1
-  pub none_before : HasItem section.types (Twice t) 0 1 → ⊥
-  pub two_types : HasItem section.types (Twice t) 1 2 → ⊥
-  pub function : HasItem section.functions (λ front x. Unit {0}) 0 1 → ⊥
+  pub one_and_one : HasItem section.types (Twice t) (types_behind [] (alone t ∷ [])) 1
+  pub none_before : HasItem section.types (Twice t) [] 1 → ⊥
+  pub two_types : HasItem section.types (Twice t) (types_behind [] (alone t ∷ [])) 2 → ⊥
+  pub function : HasItem section.functions (λ front x. Unit {0}) [] 1 → ⊥

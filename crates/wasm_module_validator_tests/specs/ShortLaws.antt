@@ -6,6 +6,7 @@ use Rattle.wasm_types.specs.decoding.ExactLaws.{value_is}
 use Rattle.wasm_types.specs.decoding.Leb.{IsUnsigned, last, more}
 use Rattle.wasm_types.specs.settings.declared.Limits.{Limits}
 use Rattle.wasm_types.specs.settings.Settings.{no_features}
+use Rattle.wasm_types.specs.trees.Trees.{TypeTree}
 use Rattle.wasm_types.specs.trees.Types.{SubtypeOf}
 use Rattle.wasm_types.specs.trees.ValidGroup.{Written, types_from}
 use Rattle.wasm_operators_bodies.specs.declared.short.ShortConstant.TheVariants as short
@@ -130,9 +131,9 @@ not_two here there is (x, same, read) =
     omega (arith, both, same)
 
 -- a group of one type comes after one type
-one_before : (t : SubtypeOf ℕ) (n : ℕ) (front : List Written) → front ≡ alone t ∷ [] → n ≡ length (types_behind [] front) → n ≡ 1
+one_before : (t : SubtypeOf ℕ) (types : List TypeTree) (front : List Written) → front ≡ alone t ∷ [] → types ≡ types_behind [] front → length types ≡ 1
 unfolding types_from
-one_before t n front is counted = counted ∙ ap (λ (gs : List Written). length (types_behind [] gs)) is
+one_before t types front is same = ap (λ (ts : List TypeTree). length ts) same ∙ ap (λ (gs : List Written). length (types_behind [] gs)) is
 
 one_own : (t : SubtypeOf ℕ) (n : ℕ) (x : Written) → x ≡ alone t → n ≡ length x.types → n ≡ 1
 one_own t n x is size = size ∙ ap (λ (g : Written). length g.types) is
@@ -151,7 +152,7 @@ room_rows t = record {
   not_first = λ h. not_two h.here h.there h.read h.is;
   not_of_one = λ h. let fewer = h.fewer in omega (arith, fewer);
   one_and_one = (alone t ∷ [], alone t, (refl, refl), refl, refl);
-  none_before = λ h. let one = one_before t 0 h.0 h.2.0 h.3 in omega (arith, one);
+  none_before = λ h. let one = one_before t [] h.0 h.2.0 h.3 in omega (arith, one);
   two_types = λ h. let one = one_own t 2 h.1 h.2.1 h.4 in omega (arith, one);
   function = λ h. h;
 }

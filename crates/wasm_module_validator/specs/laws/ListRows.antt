@@ -4,6 +4,7 @@ use Rattle.std.proofs.Common.{refl, inl, inr}
 use Rattle.wasm_types.specs.decoding.ErrorValue.{ErrorValue}
 use Rattle.wasm_types.specs.settings.Limits.{IsWithinCeilings}
 use Rattle.wasm_types.specs.settings.Settings.{Settings}
+use Rattle.wasm_types.specs.trees.Trees.{TypeTree}
 use Rattle.wasm_module_validator_index_spaces.specs.declared.view.validator_id.ValidatorId.{ValidatorId}
 use Rattle.wasm_module_validator_drivers.specs.declarations.Total.{IsPastTotal}
 use Rattle.wasm_module_validator_drivers.specs.declarations.TotalLaws.{none_past}
@@ -33,7 +34,7 @@ not_empty : (v : Verdict) → (v ∷ []) ≡ [] → ⊥
 not_empty v e = cc
 
 -- over a list with no types the total is not passed
-not_past : {z : Settings} {Has : ℕ → ℕ → Type 0} {e : ErrorValue} {P : Type 0} → IsPastTotal [] (no_items z) Has e ⊎ (P → ⊥) → IsWithinCeilings z.limits → P → ⊥
+not_past : {z : Settings} {Has : List TypeTree → ℕ → Type 0} {e : ErrorValue} {P : Type 0} → IsPastTotal [] (no_items z) Has e ⊎ (P → ⊥) → IsWithinCeilings z.limits → P → ⊥
 not_past {z} {Has} {e} (inl past) within p = none_past z within Has e past
 not_past (inr none) within p = none p
 

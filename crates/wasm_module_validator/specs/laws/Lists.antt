@@ -14,6 +14,7 @@ use Rattle.wasm_module_validator_index_spaces.specs.declared.view.validator_id.V
 use Rattle.wasm_module_validator_drivers.specs.Sharing.{renewed_behind}
 use Rattle.wasm_module_validator_drivers.specs.payloads.Progress.{are_same}
 use Rattle.wasm_module_validator_drivers.specs.state.invariant.Standing.{IsGrown}
+use Rattle.wasm_module_validator_drivers.specs.state.invariant.laws.Growing.{grown_further}
 use Rattle.wasm_module_validator_type_storage.specs.trees.Groups.{Group, count, tree_of}
 use Rattle.wasm_module_validator_type_storage.specs.trees.Formed.{IsFormed, AreCanonical}
 use Rattle.wasm_module_validator_type_storage.specs.trees.laws.Apart.{apart}
@@ -159,9 +160,6 @@ told_turned gs hs told i j a b = let t = told j i b a in (λ e. sym (t.0 (sym e)
 -- a list in canonical form has each type once
 pub told_apart : (groups : List Group) → IsFormed groups → AreCanonical groups → AreTold groups groups
 told_apart groups formed canonical i j a b = (λ e. ap (tree_of groups) e, λ e. apart groups formed canonical i j a b e)
-
-grown_further : (a b c : List Group) → IsGrown a b → IsGrown b c → IsGrown a c
-grown_further a b c (more, e) (others, f) = (others ++ more, f ∙ ap (λ gs. others ++ gs) e ∙ sym (append_assoc others more a))
 
 contains_push : (vs : List Verdict) (d x : Verdict) (k : ℕ) → k < length (vs ++ d ∷ []) → get_or (vs ++ d ∷ []) k x ≡ x → Contains vs x ⊎ (d ≡ x)
 contains_push [] d x zero l e = inr e

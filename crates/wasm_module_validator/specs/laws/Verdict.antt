@@ -1,13 +1,14 @@
 -- A module is accepted exactly where it is read and each of its bodies is judged valid.
-use Rattle.std.proofs.Common.{◌≡◌, ◌∙◌, ◌⊎◌, ◌≤◌, ◌+◌, ℕ, Bool, true, false, if◌then◌else◌, List, [], length, Result, Ok, Err, refl, sym, ap, subst, arith, inl, inr}
+use Rattle.std.proofs.Common.{◌≡◌, ◌∙◌, ◌⊎◌, ◌<◌, ◌≤◌, ℕ, Bool, true, false, if◌then◌else◌, List, [], length, Result, Ok, Err, refl, sym, ap, subst, arith, inl, inr}
 use Rattle.std.proofs.lemmas.List.{length-map}
-use Rattle.std.specs.Prelude.{◌↔◌}
+use Rattle.std.specs.Prelude.{◌↔◌, Contains}
 use Rattle.wasm_types.specs.decoding.Denials.{Denies, Tells}
 use Rattle.wasm_types.specs.decoding.DenialLaws.{denies_from}
 use Rattle.wasm_types.specs.decoding.ErrorValue.{ErrorValue}
 use Rattle.wasm_types.specs.decoding.declared.error.ErrorKind.{ErrorKind}
 use Rattle.wasm_types.specs.decoding.declared.error.ErrorKind.TheVariants.{EndOfData, MissingFeature, OutOfMemory, Failed, Other}
 use Rattle.wasm_types.specs.trees.declared.index.CoreTypeId.{CoreTypeId}
+use Rattle.wasm_types.specs.trees.Trees.{TypeTree}
 use Rattle.wasm_types.specs.settings.Limits.{IsWithinCeilings}
 use Rattle.wasm_types.specs.settings.Settings.{Settings}
 use Rattle.wasm_types.specs.reader.Reading.{IsNotMemory}
@@ -21,11 +22,11 @@ use Rattle.wasm_module_validator_drivers.specs.state.invariant.Standing.{Stands}
 use Rattle.wasm_module_validator_drivers.specs.state.Items.{no_items}
 use Rattle.wasm_module_validator_type_storage.specs.trees.Groups.{Group, count, tree_of}
 use Rattle.wasm_module_validator_drivers.specs.declarations.Total.{IsPastTotal, TellsWithinTotal}
-use Rattle.wasm_module_validator_drivers.specs.declarations.TotalLaws.{within_total}
+use Rattle.wasm_module_validator_drivers.specs.declarations.TotalLaws.{type_there, within_total}
 use Rattle.wasm_module_validator_section_order.specs.frames.framed.laws.Complete.{module_comes}
 use Rattle.wasm_module_validator_section_order.specs.frames.framed.laws.Accepted.{accepted_comes, accepted_exactly, bodies_of_functions}
 use Rattle.wasm_module_validator_section_order.specs.frames.framed.laws.Outside.{outside_exactly}
-use Rattle.wasm_module_validator_drivers.specs.payloads.Progress.{Kept, Progress, IsAt, are_same, kept_groups}
+use Rattle.wasm_module_validator_drivers.specs.payloads.Progress.{Kept, Progress, Grows, IsAt, are_same, kept_groups, nothing_over}
 use Rattle.wasm_module_validator_drivers.specs.reading.Reading.{HasGroupIn, IsReadAs}
 use Rattle.wasm_module_validator_drivers.specs.judging.Bodies.{AreBodies}
 use Rattle.wasm_module_validator.specs.declared.validator.State.{State}
@@ -88,7 +89,7 @@ none_held z k e = go (are_same k.items.spaces.settings z)
     go false = refl
 
 -- so it passes no total
-pub alone_told : {X : Type 0} (z : Settings) (k : Kept) → k.groups ≡ [] → IsWithinCeilings z.limits → (Has : ℕ → ℕ → Type 0) (r : Result X ErrorValue)
+pub alone_told : {X : Type 0} (z : Settings) (k : Kept) → k.groups ≡ [] → IsWithinCeilings z.limits → (Has : List TypeTree → ℕ → Type 0) (r : Result X ErrorValue)
     (P : Type 0) → TellsWithinTotal (kept_groups z k) (no_items z) Has r P → Tells r P
 alone_told z k none w Has r P h =
     within_total z w Has r P (subst (λ (gs : List Group). TellsWithinTotal gs (no_items z) Has r P) (none_held z k none) h)
@@ -112,11 +113,18 @@ left_unread X groups z bytes e s is (inr d) =
 pub failed_not_ended : states.Failed ≡ states.Ended → ⊥
 failed_not_ended e = cc
 
--- of what was read the list of types has taken no more types than the bytes have
+-- of what was read the list of types has taken no more types than the bytes have, and no others
 pub no_more_read : (z : Settings) (text : List ℕ) (held : List Group) (r : Progress) (bodies : List Body) → ((q : SoFar) → IsReadAs z text q → IsAt z r bodies q)
-    → count r.kept.groups + 0 ≤ count held + length r.kept.items.spaces.types → TakesNoMore z held text r.kept.groups
+    → Grows (nothing_over held z).kept r.kept → TakesNoMore z held text r.kept.groups
 no_more_read z text held r bodies stands grown q h =
     let at = stands q h in
     let counted : length r.kept.items.spaces.types ≡ length (types_behind [] q.tree.types) =
     sym (length-map r.kept.items.spaces.types (λ (i : CoreTypeId). tree_of r.kept.groups i.0)) ∙ ap length at.stands.read.types in
-    omega (arith, grown, counted)
+    let more = grown.types in
+    let is = r.kept.items.spaces.types in
+    let there : (id : CoreTypeId) → count held ≤ id.0 → id.0 < count r.kept.groups → Contains is id = λ id low high.
+    subst (λ (js : List CoreTypeId). Contains js id) (sym grown.own.behind) (grown.own.own id low high) in (
+      omega (arith, more, counted),
+      λ id low high. subst (λ (ts : List TypeTree). Contains ts (tree_of r.kept.groups id)) at.stands.read.types
+          (type_there r.kept.groups is (record { 0 = id }) (there (record { 0 = id }) low high)),
+    )

@@ -1,6 +1,7 @@
 -- When bytes are a module whose frames are judged one after the other (WebAssembly 3.0, binary format, modules; validation, modules).
 use Rattle.std.specs.Prelude.{ℕ, List, [], ◌∷◌, ◌++◌}
 use Rattle.wasm_types.specs.settings.Settings.{Settings}
+use Rattle.wasm_types.specs.trees.Trees.{TypeTree}
 use Rattle.wasm_sections_parser.specs.declared.frame.Frame.{Frame}
 use Rattle.wasm_sections_parser.specs.Parsers.{Parser}
 use Rattle.wasm_sections_parser.specs.Steps.{Shape}
@@ -20,9 +21,9 @@ IsReadAs z text q = (xs : List Shape) × IsModule z text xs × JudgesShapes z no
 abbrev pub first_parser : Settings → Parser
 first_parser z = record { offset = 0; settings = z; progress = fresh }
 
--- Of these bytes a parser gives some frames, of which the last is a section of types. After groups with so many types it has a group of so
+-- Of these bytes a parser gives some frames, of which the last is a section of types. After groups with these types it has a group of so
 -- many.
-pub record HasGroupIn (z : Settings) (text : List ℕ) (before own : ℕ) : Type 0 where
+pub record HasGroupIn (z : Settings) (text : List ℕ) (before : List TypeTree) (own : ℕ) : Type 0 where
   pub frames : List Frame
   pub last : Frame
   pub section : Payload

@@ -1,11 +1,10 @@
 -- A group for which the list of types has no room is one of the section, and the types before it are those of the groups before it.
-use Rattle.std.proofs.Common.{◌≡◌, ◌∙◌, ◌<◌, ℕ, List, [], ◌∷◌, ◌++◌, length, refl, sym, ap, subst, append_assoc}
-use Rattle.std.proofs.lemmas.List.{append-nil, length-map}
+use Rattle.std.proofs.Common.{◌≡◌, ◌∙◌, ◌<◌, List, [], ◌∷◌, ◌++◌, refl, sym, ap, subst, append_assoc}
+use Rattle.std.proofs.lemmas.List.{append-nil}
 use Rattle.wasm_types.specs.decoding.ErrorValue.{ErrorValue}
-use Rattle.wasm_types.specs.trees.declared.index.CoreTypeId.{CoreTypeId}
 use Rattle.wasm_types.specs.settings.Settings.{Settings}
 use Rattle.wasm_types.specs.trees.ValidGroup.{Written}
-use Rattle.wasm_module_validator_type_storage.specs.trees.Groups.{tree_of}
+use Rattle.wasm_module_validator_type_groups.specs.adding.Interned.{space_of}
 use Rattle.wasm_module_validator_section_order.specs.items.Adding.{AddsEach, IsFullFor}
 use Rattle.wasm_module_validator_section_order.specs.declared.items.bodies.Body.{Body}
 use Rattle.wasm_module_validator_declarations.specs.Total.{HasGroupNext, IsPastTotal}
@@ -39,12 +38,11 @@ types_past r Is first same order e f z p bodies at =
     let here = subst (λ (k : Kept). IsRead section.types k (reading z p.tree)) (sym same) (starts z p r bodies at section.types o) in
     let k = f.some (reading z p.tree) here in
     let all : k.0.tree.types ≡ f.front = groups_added (reading z p.tree) f.front k.0 k.1 ∙ ap (λ (gs : List Written). gs ++ f.front) empty in
-    let counted : length f.state.items.spaces.types ≡ length (types_behind [] f.front) =
-    sym (length-map f.state.items.spaces.types (λ (i : CoreTypeId). tree_of f.state.groups i.0))
-    ∙ (ap length k.2.reading.stands.read.types ∙ ap (λ (gs : List Written). length (types_behind [] gs)) all) in
+    let types : space_of f.state.groups f.state.items.spaces.types ≡ types_behind [] f.front =
+    k.2.reading.stands.read.types ∙ ap (λ (gs : List Written). types_behind [] gs) all in
     let grown = subst (λ (j : Kept). Grows j f.state) same f.grown in
-    past_by r.kept.groups r.kept.items (HasGroupNext f.state.items f.item) (HasItem section.types Is) e (λ b n h. (f.front, f.item, f.is, h.0 ∙ counted, h.1))
-    (total_before r.kept f.state (HasGroupNext f.state.items f.item) e grown f.full.1)
+    past_by r.kept.groups r.kept.items (HasGroupNext f.state.groups f.state.items f.item) (HasItem section.types Is) e (λ b n h. (f.front, f.item, f.is, h.0 ∙ types, h.1))
+    (total_before r.kept f.state (HasGroupNext f.state.groups f.state.items f.item) e grown f.full.1)
 
 pub full_where : (s : Section) (r : Progress) (Is : List (ItemRead s) → ItemRead s → Type 0) (first : Kept) → first ≡ r.kept → r.last < place s
     → (e : ErrorValue) → IsFullFor Is (AddsIn s) (IsRead s) Grows (λ k x f. FullIn s k.groups k.items x f) first e → FullWhere r s (HasItem s Is) e

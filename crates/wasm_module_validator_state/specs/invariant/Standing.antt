@@ -1,8 +1,9 @@
 -- The state of a module that is being read stands for the tree of what was read (WebAssembly 3.0, structure, modules; validation, modules).
-use Rattle.std.specs.Prelude.{◌≡◌, ◌+◌, ◌<◌, ◌≤◌, ◌++◌, ◌∷◌, [], ℕ, true, IsTrue, List, Result, length, filter_map}
+use Rattle.std.specs.Prelude.{◌≡◌, ◌+◌, ◌<◌, ◌≤◌, ◌++◌, ◌∷◌, [], ℕ, true, IsTrue, List, Result, length, filter_map, Contains}
 use Rattle.wasm_types.specs.decoding.ErrorValue.{ErrorValue}
 use Rattle.wasm_types.specs.decoding.Denials.{Tells}
 use Rattle.wasm_types.specs.settings.Settings.{Settings}
+use Rattle.wasm_types.specs.trees.declared.index.CoreTypeId.{CoreTypeId}
 use Rattle.wasm_types.specs.trees.ValidGroup.{Written, IsValidGroup}
 use Rattle.wasm_module_validator_type_storage.specs.trees.Groups.{Group, count}
 use Rattle.wasm_module_validator_type_groups.specs.adding.Interned.{space_of}
@@ -55,9 +56,15 @@ imports_by_name is = named_behind [] [] is
 abbrev pub IsGrown : List Group → List Group → Type 0
 IsGrown old new = (more : List Group) × (new ≡ more ++ old)
 
--- and they have no more types than the module has besides
+-- Types of these ids came to the module's, and each type that the list took is one of them.
+pub record TakesOwn (old : List Group) (before : List CoreTypeId) (new : List Group) (after : List CoreTypeId) : Type 0 where
+  pub ids : List CoreTypeId
+  pub behind : after ≡ before ++ ids
+  pub own : (id : CoreTypeId) → count old ≤ id.0 → id.0 < count new → Contains ids id
+
+-- and they have no more types than the module has besides, and no others
 abbrev pub GrowsWith : List Group → Spaces → List Group → Spaces → Type 0
-GrowsWith old s new t = IsGrown old new × (count new + length s.types ≤ count old + length t.types)
+GrowsWith old s new t = IsGrown old new × (count new + length s.types ≤ count old + length t.types) × TakesOwn old s.types new t.types
 
 -- ---- the state
 

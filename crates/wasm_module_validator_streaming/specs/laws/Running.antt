@@ -11,6 +11,7 @@ use Rattle.wasm_types.specs.decoding.declared.error.ErrorKind.{ErrorKind}
 use Rattle.wasm_types.specs.decoding.declared.error.ErrorKind.TheVariants.{OutOfMemory}
 use Rattle.wasm_types.specs.settings.Limits.{IsWithinCeilings}
 use Rattle.wasm_types.specs.settings.Settings.{Settings}
+use Rattle.wasm_types.specs.trees.Trees.{TypeTree}
 use Rattle.wasm_sections_parser.specs.items.frames.Outer.{Header, Part}
 use Rattle.wasm_sections_parser.specs.items.frames.Outer as outer
 use Rattle.wasm_sections_parser.specs.declared.frame.Encoding.{Encoding}
@@ -408,7 +409,7 @@ module _ (z : Settings) (id : ValidatorId) where
               absurd (late_header v w st i l s (subst (λ (y : Payload). TakesPayload y v (Ok valid.Ok) w) (subst (λ (h : Frame). IsPayloadOf h x) e is) t))
 
       -- the list of types is not full because of this module alone
-      not_past : Grows (nothing_kept z).kept v.reached.progress.kept → (e : ErrorValue) (Has : ℕ → ℕ → Type 0)
+      not_past : Grows (nothing_kept z).kept v.reached.progress.kept → (e : ErrorValue) (Has : List TypeTree → ℕ → Type 0)
           → IsPastTotal v.reached.progress.kept.groups v.reached.progress.kept.items Has e → ⊥
       not_past grown e Has p = none_past z g.within Has e (total_before (nothing_kept z).kept v.reached.progress.kept Has e grown p)
 

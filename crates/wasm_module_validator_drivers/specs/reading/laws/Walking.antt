@@ -1,6 +1,7 @@
 -- A walk over all bytes of a module that takes each payload: what is kept stands for whatever was judged so far.
 use Rattle.std.proofs.Common.{◌≡◌, ◌+◌, ◌<◌, ◌^◌, ℕ, List, [], ◌∷◌, ◌++◌, length, refl, sym, subst, arith, false, Some, None, Ok, Err}
 use Rattle.wasm_types.specs.settings.Settings.{Settings}
+use Rattle.wasm_types.specs.trees.Trees.{TypeTree}
 use Rattle.wasm_types.specs.decoding.ErrorValue.{ErrorValue}
 use Rattle.wasm_types.specs.decoding.Denials.{Denies}
 use Rattle.wasm_types.specs.decoding.DenialLaws.{denies}
@@ -84,7 +85,7 @@ module _ (p : Parser) (text : List ℕ) where
           }
 
       -- a group of the payload is one of the bytes
-      pub group_in : (b n : ℕ) → p ≡ first_parser z → HasGroup x b n → HasGroupIn z text b n
+      pub group_in : (b : List TypeTree) (n : ℕ) → p ≡ first_parser z → HasGroup x b n → HasGroupIn z text b n
       group_in b n at h = record {
         frames = g.frames;
         last = taken.0;

@@ -1,13 +1,17 @@
 -- Groups of types: what is decided of them, and what is left.
-use Rattle.std.proofs.Common.{◌≡◌, ◌∙◌, ◌↔◌, ◌+◌, ◌<◌, ◌≤◌, ℕ, zero, suc, Bool, true, false, if◌then◌else◌, List, [], ◌∷◌, ◌++◌, length, refl, sym, ap, subst, arith}
-use Rattle.std.proofs.lemmas.List.{length-append}
+use Rattle.std.proofs.Common.{◌≡◌, ◌∙◌, ◌↔◌, ◌+◌, ◌<◌, ◌≤◌, ℕ, zero, suc, Bool, true, false, IsTrue, if◌then◌else◌, List, [], ◌∷◌, ◌++◌, length, Some, slice_get, refl, sym, ap, subst, arith, ⊎_elim}
+use Rattle.std.specs.Prelude.{Contains}
+use Rattle.std.proofs.lemmas.Bool.{cases_lt}
+use Rattle.std.proofs.lemmas.List.{append-nil, append_assoc, length-append}
+use Rattle.std.proofs.lemmas.List.Elements.{Contains-append_left, Contains-append_right}
 use Rattle.wasm_types.specs.trees.declared.index.CoreTypeId.{CoreTypeId}
 use Rattle.wasm_types.specs.settings.Limits.{ceilings, IsWithinCeilings}
 use Rattle.wasm_types.specs.settings.Settings.{Settings}
 use Rattle.wasm_types.specs.trees.ValidGroup.{Written, IsValidGroup, types_of}
-use Rattle.wasm_module_validator_type_storage.specs.trees.Groups.{Group, count}
+use Rattle.wasm_module_validator_type_storage.specs.trees.Groups.{Group, count, group_ranges}
 use Rattle.wasm_module_validator_type_storage.specs.trees.laws.Unrolled.{count_push}
 use Rattle.wasm_module_validator_type_groups.specs.adding.Interned.{space_of, ids_from, AddsGroup}
+use Rattle.wasm_module_validator_type_groups.proofs.Stands.{range_new, same_range}
 use Rattle.wasm_module_validator_state.specs.invariant.so_far.laws.Adding.{types_alone, group_is_added}
 use Rattle.wasm_module_validator_resources.specs.index_spaces.Spaces.{Spaces}
 use Rattle.wasm_module_validator_state.specs.Items.{Items}
@@ -16,7 +20,7 @@ use Rattle.wasm_module_validator_checks.specs.rules.Spaces.{types_behind}
 use Rattle.wasm_module_validator_resources.specs.rules_in_order.Sections as section
 use Rattle.wasm_module_validator_resources.specs.rules_in_order.Sections.{adding, up_to}
 use Rattle.wasm_module_validator_resources.specs.rules_in_order.Adding.{Adds}
-use Rattle.wasm_module_validator_state.specs.invariant.Standing.{Stands, IsGrown, GrowsWith, MayGrow}
+use Rattle.wasm_module_validator_state.specs.invariant.Standing.{Stands, IsGrown, GrowsWith, MayGrow, TakesOwn}
 use Rattle.wasm_module_validator_state.specs.invariant.laws.Deciding.{may_be_added, counts, below, above}
 
 -- ---- the list of types
@@ -34,7 +38,7 @@ list_grown old new before after g a = go a.is_new a.interned.groups
     go false e = ([], e)
 
 -- no more types than the module has with it
-ids_counted : (first n : ℕ) → length (ids_from first n) ≡ n
+pub ids_counted : (first n : ℕ) → length (ids_from first n) ≡ n
 ids_counted first zero = refl
 ids_counted first (suc n) = ap suc (ids_counted (suc first) n)
 
@@ -48,9 +52,49 @@ types_grown old new before after g a =
     go true e all = let more : count new ≡ count old + length g.types = ap count e ∙ count_push g old in omega (arith, more, all)
     go false e all = let same : count new ≡ count old = ap count e in omega (arith, same, all)
 
+-- and no others
+pub ids_contain : (first n : ℕ) (id : CoreTypeId) → first ≤ id.0 → id.0 < first + n → Contains (ids_from first n) id
+ids_contain first zero id low high = absurd (omega (arith, low, high))
+ids_contain first (suc n) id low high =
+    ⊎_elim (λ further. let c = ids_contain (suc first) n id further (omega (arith, high)) in (suc c.0, omega (arith, c.1), c.2))
+    (λ here. let same : first ≡ id.0 = omega (arith, low, here) in (zero, omega arith, ap (λ (k : ℕ). record { 0 = k }) same))
+    (cases_lt first id.0)
+
+pub types_own : (old new : List Group) (before after : List CoreTypeId) (g : Group) → AddsGroup old new before after g → TakesOwn old before new after
+types_own old new before after g a = record {
+  ids = ids_from a.first (length g.types);
+  behind = a.added;
+  own = go a.is_new a.interned.groups a.interned.next;
+}
+  where
+    go : (b : Bool) → new ≡ (if b then g ∷ old else old) → (IsTrue b → a.number ≡ length old)
+        → (id : CoreTypeId) → count old ≤ id.0 → id.0 < count new → Contains (ids_from a.first (length g.types)) id
+    go true e next id low high =
+        let there : slice_get (group_ranges (g ∷ old)) (length old) ≡ Some (a.first, a.first + length g.types) =
+        ap (λ gs. slice_get (group_ranges gs) (length old)) (sym e) ∙ (ap (slice_get (group_ranges new)) (sym (next refl)) ∙ a.ids) in
+        let range = same_range (slice_get (group_ranges (g ∷ old)) (length old)) (count old) (count old + length g.types) a.first (a.first + length g.types) (range_new g old) there in
+        let same : count old ≡ a.first = range.0 in
+        let more : count new ≡ count old + length g.types = ap count e ∙ count_push g old in
+        ids_contain a.first (length g.types) id (omega (arith, low, same)) (omega (arith, high, more, same))
+    go false e next id low high = let same : count new ≡ count old = ap count e in absurd (omega (arith, low, high, same))
+
+-- a list that grows twice
+pub grown_further : (a b c : List Group) → IsGrown a b → IsGrown b c → IsGrown a c
+grown_further a b c (m, e) (n, f) = (n ++ m, f ∙ (ap (λ gs. n ++ gs) e ∙ sym (append_assoc n m a)))
+
+pub own_further : (a b c : List Group) (is js ks : List CoreTypeId) → TakesOwn a is b js → TakesOwn b js c ks → TakesOwn a is c ks
+own_further a b c is js ks t u = record {
+  ids = t.ids ++ u.ids;
+  behind = u.behind ∙ (ap (λ ls. ls ++ u.ids) t.behind ∙ append_assoc is t.ids u.ids);
+  own = λ id low high. ⊎_elim
+      (λ first. Contains-append_left t.ids u.ids id (t.own id low first)) (λ later. Contains-append_right t.ids u.ids id (u.own id later high)) (cases_lt id.0 (count b));
+}
+
 -- a list that stays beside a module whose types stay
 pub grows_by_none : (groups : List Group) (s t : Spaces) → t.types ≡ s.types → GrowsWith groups s groups t
-grows_by_none groups s t e = let same : length t.types ≡ length s.types = ap length e in (([], refl), omega (arith, same))
+grows_by_none groups s t e =
+    let same : length t.types ≡ length s.types = ap length e in
+    (([], refl), omega (arith, same), record { ids = []; behind = e ∙ sym (append-nil s.types); own = λ id low high. absurd (omega (arith, low, high)) })
 
 module _ (groups : List Group) (s : Items) (z : Settings) where
   -- ---- what is decided

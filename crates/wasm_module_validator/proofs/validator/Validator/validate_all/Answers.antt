@@ -89,9 +89,9 @@ returns-in-Err-clause-few c = λ e. absurd (failed_not_ended e)
 
 pub returns-in-Err-judge-clause-few : goal.returns-in-Err-judge-clause-few
 returns-in-Err-judge-clause-few c = λ e.
-    no_more_read c.args.self.now.settings c.args.bytes.now (held_by c.args.self.now) c.read.new.self.progress c.in-Ok.bodies.items c.in-Ok.ensures.stands c.in-Ok.ensures.grown.types
+    no_more_read c.args.self.now.settings c.args.bytes.now (held_by c.args.self.now) c.read.new.self.progress c.in-Ok.bodies.items c.in-Ok.ensures.stands c.in-Ok.ensures.grown
 
 pub returns-in-Ok-finish-clause-few : goal.returns-in-Ok-finish-clause-few
 returns-in-Ok-finish-clause-few c = λ e.
     subst (λ (r : Reached). TakesNoMore c.args.self.now.settings (held_by c.args.self.now) c.args.bytes.now r.progress.kept.groups) (sym c.in-Ok-finish.ensures.next)
-    (no_more_read c.args.self.now.settings c.args.bytes.now (held_by c.args.self.now) c.read.new.self.progress c.in-Ok.bodies.items c.in-Ok.ensures.stands c.in-Ok.ensures.grown.types)
+    (no_more_read c.args.self.now.settings c.args.bytes.now (held_by c.args.self.now) c.read.new.self.progress c.in-Ok.bodies.items c.in-Ok.ensures.stands c.in-Ok.ensures.grown)

@@ -1,0 +1,11 @@
+use Rattle.wasm_module_validator.specs.laws.Alone.{alone_rows, no_more_than, verdicts_are_alone}
+use Rattle.wasm_module_validator.proofs.laws.verdicts_are_isolated.Goals as goal
+
+pub returns-clause-alone : goal.returns-clause-alone
+returns-clause-alone c = verdicts_are_alone
+
+pub returns-clause-once : goal.returns-clause-once
+returns-clause-once c = no_more_than
+
+pub returns-clause-rows : goal.returns-clause-rows
+returns-clause-rows c = alone_rows
