@@ -1,6 +1,6 @@
 //! Exports.
 
-ghost use Rattle.std.specs.Prelude.{◌≡◌, ◌+◌, ◌<◌, ◌≤◌, IsTrue, IfErr, IfOk, OnOk, OnErr, length};
+ghost use Rattle.std.specs.Prelude.{◌≡◌, ◌+◌, ◌<◌, ◌≤◌, IsTrue, false, IfErr, IfOk, OnOk, OnErr, length};
 ghost use Rattle.wasm_types.specs.decoding.Denials.{Tells, UnlessMemory};
 ghost use Rattle.wasm_types.specs.decoding.declared.error.ErrorKind.TheVariants.{Other};
 ghost use Rattle.wasm_module_validator_checks.specs.rules.Valid.{IsValidExport, export_size};
@@ -9,9 +9,12 @@ ghost use Rattle.wasm_module_validator_resources.specs.Named.{IsReadOver};
 ghost use Rattle.wasm_module_validator_resources.specs.Reading.{context_of};
 ghost use Rattle.wasm_module_validator_state.specs.Adding.{exporting};
 ghost use Rattle.wasm_module_validator_state.specs.Items.{IsExportable, IsExported, IsRefusedBy};
+ghost use Rattle.wasm_sections_items.specs.declared.imports.kind.ExternalKind.TheVariants.{Func};
 
 use crate::ModuleState;
-use wasm_module_validator_exports::{check_export, combine_export_size};
+use wasm_module_validator_exports::{
+    Tried, check_export, combine_export_size, exported_function_size,
+};
 use wasm_module_validator_type_list::TypeList;
 use wasm_sections_items::imports::ExternalKind;
 use wasm_types::Result;
@@ -91,6 +94,31 @@ impl ModuleState {
             ExternalKind::Global => (),
             ExternalKind::Tag => (),
         }
+    }
+
+    /// Exports a function by a name, where nothing refuses it: whether it was exported. Code may then refer to it. Else the state stays. The
+    /// limit of exports is not tested. It makes no error.
+    pub fn export_function(&mut self, name: &str, index: u32, types: &TypeList) -> bool
+        requires { IsReadOver types.now.groups self.old.spaces }
+        ensures exportable { IsTrue result → IsExportable types.now.groups self.old name.now Func index false }
+        ensures exported { IsTrue result → IsExported types.now.groups name.now Func index self.old self.new }
+        ensures read { IsReadOver types.now.groups self.new.spaces }
+        ensures stays { result ≡ false → self.new ≡ self.old }
+    {
+        let limit = self.module.limits().type_size;
+        let sum = self.type_size;
+        let size = exported_function_size(&self.resources(types), sum, index, limit);
+        let Some(type_size) = size else {
+            return false;
+        };
+        match self.exports.add(name, ExternalKind::Func, index) {
+            Tried::Added => (),
+            Tried::Taken => return false,
+            Tried::NoMemory => return false,
+        }
+        self.module.refer_to_function(index);
+        self.type_size = type_size;
+        true
     }
 
     /// Adds an export; code may then refer to a function that is exported. The limit of exports is tested where that is asked.

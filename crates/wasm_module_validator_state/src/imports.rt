@@ -1,6 +1,6 @@
 //! Imports.
 
-ghost use Rattle.std.specs.Prelude.{◌≡◌, ◌+◌, ◌<◌, IfErr, IfOk, OnOk, OnErr, length};
+ghost use Rattle.std.specs.Prelude.{◌≡◌, ◌+◌, ◌<◌, IsTrue, false, IfErr, IfOk, OnOk, OnErr, length};
 ghost use Rattle.wasm_types.specs.decoding.Denials.{Tells, UnlessMemory};
 ghost use Rattle.wasm_types.specs.decoding.declared.error.ErrorKind.TheVariants.{Other, OutOfMemory};
 ghost use Rattle.wasm_module_validator_checks.specs.rules.Valid.{IsValidImport, import_size};
@@ -11,9 +11,12 @@ ghost use Rattle.wasm_module_validator_resources.specs.Reading.{context_of, mean
 ghost use Rattle.wasm_module_validator_state.specs.Adding.{importing};
 ghost use Rattle.wasm_module_validator_state.specs.Items.{HasItsType, HasRoomFor, IsImportable, IsImported, IsLeft, IsRefusedBy, next_index, next_place};
 ghost use Rattle.wasm_sections_items.specs.imports.Spells.{kind_of};
+ghost use Rattle.wasm_sections_items.specs.declared.imports.type_ref.TypeRef.TheVariants.{Func};
 
 use crate::ModuleState;
-use wasm_module_validator_exports::{Place, check_import, combine_import_size};
+use wasm_module_validator_exports::{
+    Place, check_import, combine_import_size, imported_function_size,
+};
 use wasm_module_validator_type_list::TypeList;
 use wasm_sections_items::imports::{ExternalKind, TypeRef};
 use wasm_types::Result;
@@ -140,6 +143,36 @@ impl ModuleState {
             TypeRef::Global(ty) => self.module.import_global(*ty, offset),
             TypeRef::Tag(ty) => self.module.add_tag(ty.func_type_idx, offset),
         }
+    }
+
+    /// Imports a function, by its names and the index of its type, where nothing refuses it: whether it was imported. Else the state stays.
+    /// It makes no error.
+    pub fn import_function(
+        &mut self,
+        module: &str,
+        name: &str,
+        type_index: u32,
+        types: &TypeList,
+    ) -> bool
+        requires { IsReadOver types.now.groups self.old.spaces }
+        ensures importable { IsTrue result → IsImportable types.now.groups self.old (Func type_index) }
+        ensures imported { IsTrue result → IsImported types.now.groups
+            (record { module_name = «module».now; field_name = name.now; ty = Func type_index }) self.old self.new }
+        ensures read { IsReadOver types.now.groups self.new.spaces }
+        ensures stays { result ≡ false → self.new ≡ self.old }
+    {
+        let limit = self.module.limits().type_size;
+        let sum = self.type_size;
+        let size = imported_function_size(&self.resources(types), sum, type_index, limit);
+        let Some(type_size) = size else {
+            return false;
+        };
+        let imports = &mut self.imports;
+        if !self.module.import_function_named(imports, module, name, type_index) {
+            return false;
+        }
+        self.type_size = type_size;
+        true
     }
 
     /// Adds an import, by its names and its type as the module writes it.

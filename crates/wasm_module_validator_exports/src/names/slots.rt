@@ -12,10 +12,13 @@ use std::alloc::Global;
 use std::collections::BTreeSet;
 use std::hash::{FoldHasher, Hasher};
 
-// What an attempt to add a name did.
-pub(crate) enum Tried {
+/// What an attempt to add a name did.
+pub enum Tried {
+    /// It was added.
     Added,
+    /// It is there already.
     Taken,
+    /// There is no memory.
     NoMemory,
 }
 
