@@ -3,8 +3,9 @@
 //! A reader makes a place for an error of each part of an item. Nearly all items are valid: they are read here at an offset of the bytes of
 //! their section, and whatever is not as it should be is left to the readers, which name the fault.
 
-ghost use Rattle.std.specs.Prelude.{◌≡◌, ◌<◌, ◌≤◌, length, IfSome, IfNone};
+ghost use Rattle.std.specs.Prelude.{◌≡◌, ◌<◌, ◌≤◌, length, IsTrue, IfSome, IfNone};
 ghost use Rattle.wasm_types.specs.decoding.Text.{IsName};
+ghost use Rattle.wasm_sections_items.specs.declared.imports.kind.ExternalKind.TheVariants.{Func};
 ghost use Rattle.wasm_sections_items.specs.imports.Spells.{kind_byte};
 ghost use Rattle.wasm_module_validator_state.specs.resources.Named.{IsReadOver};
 ghost use Rattle.wasm_module_validator_section_order.specs.rules_in_order.Between.{IsBetween};
@@ -33,6 +34,17 @@ fn kind_of(byte: u8) -> Option<ExternalKind>
         0x03 => Some(ExternalKind::Global),
         0x04 => Some(ExternalKind::Tag),
         _ => None,
+    }
+}
+
+// Whether what is exported is a function.
+#[inline(always)]
+fn is_function(kind: ExternalKind) -> bool
+    ensures { IsTrue result → kind ≡ Func }
+{
+    match kind {
+        ExternalKind::Func => true,
+        _ => false,
     }
 }
 
@@ -117,14 +129,13 @@ pub fn add_short_export(
     let Some((export, end)) = short_export_at(bytes, at, limits) else {
         return None;
     };
-    match export.kind {
-        ExternalKind::Func => (),
-        _ => return add_other_export(state, types, export, end),
+    if !is_function(export.kind) {
+        return add_other_export(state, types, export, end);
     }
-    if state.export_function(export.name, export.index, types) {
-        return Some(end);
-    }
-    None
+    let Some(()) = state.export_function(export.name, export.index, types) else {
+        return None;
+    };
+    Some(end)
 }
 
 /// Adds the import of a function at an offset of these bytes, if the bytes alone tell that it may be added, and answers where it ends. Else
@@ -150,16 +161,19 @@ pub fn add_short_import(
     let Some((name, middle)) = short_name_at(bytes, second, limits) else {
         return None;
     };
-    if bytes[middle] != 0x00 {
+    let Some(kind) = kind_of(bytes[middle]) else {
+        return None;
+    };
+    if !is_function(kind) {
         return None;
     }
     let Some((index, end)) = short_u32_at(bytes, middle + 1) else {
         return None;
     };
-    if state.import_function(module, name, index, types) {
-        return Some(end);
-    }
-    None
+    let Some(()) = state.import_function(module, name, index, types) else {
+        return None;
+    };
+    Some(end)
 }
 
 /// The same of a function.

@@ -1,6 +1,6 @@
 //! What is added to a module: within its limit, and behind what is there.
 
-ghost use Rattle.std.specs.Prelude.{◌≡◌, ◌⊎◌, ◌∷◌, ◌++◌, ◌+◌, ◌<◌, ◌≤◌, ◌^◌, [], IsTrue, false, Some, OnOk, OnErr, length, vec_len, vec_capacity};
+ghost use Rattle.std.specs.Prelude.{◌≡◌, ◌⊎◌, ◌∷◌, ◌++◌, ◌+◌, ◌<◌, ◌≤◌, ◌^◌, [], IsTrue, false, Some, IfSome, IfNone, OnOk, OnErr, length, vec_len, vec_capacity};
 ghost use Rattle.wasm_types.specs.decoding.Denials.{Tells, RefusedAt};
 ghost use Rattle.wasm_types.specs.decoding.declared.error.ErrorKind.TheVariants.{Other};
 ghost use Rattle.wasm_types.specs.Entries.{declared_types};
@@ -139,40 +139,40 @@ impl Module {
         Ok(())
     }
 
-    /// Adds a function that is imported by these names, not exactly, by the index of its type, and the import to these imports: whether there
-    /// was room and memory. Else both stay. It makes no error.
+    /// Adds a function that is imported, not exactly, by the index of its type, and to these imports by its names; where there is room and
+    /// memory for both. Else both stay. It makes no error.
     pub fn import_function_named(
         &mut self,
         imports: &mut Imports,
         module: &str,
         name: &str,
         type_index: u32,
-    ) -> bool
+    ) -> Option<()>
         requires { type_index < length self.old.types }
-        ensures room { IsTrue result → length self.old.functions < self.old.settings.limits.functions }
-        ensures added { IsTrue result → self.new
+        ensures room { IfSome result (λ _. length self.old.functions < self.old.settings.limits.functions) }
+        ensures added { IfSome result (λ _. self.new
             ≡ record self.old {
               functions = self.old.functions ++ imported_function false type_index ∷ [];
               imported_functions = self.old.imported_functions + 1;
-            } }
-        ensures named { IsTrue result → imports.new ≡ with_import «module».now name.now
-            (record { kind = Func; index = length self.old.functions }) imports.old }
-        ensures stays { result ≡ false → self.new ≡ self.old }
-        ensures unnamed { result ≡ false → imports.new ≡ imports.old }
+            }) }
+        ensures named { IfSome result (λ _. imports.new ≡ with_import «module».now name.now
+            (record { kind = Func; index = length self.old.functions }) imports.old) }
+        ensures stays { IfNone result (self.new ≡ self.old) }
+        ensures unnamed { IfNone result (imports.new ≡ imports.old) }
     {
-        let index = self.functions.len();
-        if index >= self.types.limits().functions as usize {
-            return false;
+        let count = self.functions.len();
+        if count >= self.types.limits().functions as usize {
+            return None;
         }
         let Ok(()) = self.functions.reserve(1) else {
-            return false;
+            return None;
         };
         let place = Place {
             kind: ExternalKind::Func,
-            index: index as u32,
+            index: count as u32,
         };
         if !imports.add(module, name, place) {
-            return false;
+            return None;
         }
         let function = Function {
             type_index,
@@ -181,7 +181,7 @@ impl Module {
         };
         push_in_room(&mut self.functions, function);
         self.imported_functions += 1;
-        true
+        Some(())
     }
 
     /// Adds a table, by the type of its elements over ids, where there are fewer than so many (`Settings::max_tables` of
