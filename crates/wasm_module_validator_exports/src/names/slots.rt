@@ -119,7 +119,7 @@ pub(crate) fn after(slots: usize) -> usize {
     if slots < 16 {
         return 16;
     }
-    slots.saturating_mul(4)
+    slots.saturating_mul(8)
 }
 
 // So many slots with the names of these exports, and the names that have none.
