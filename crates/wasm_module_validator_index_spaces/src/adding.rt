@@ -1,6 +1,6 @@
 //! What is added to a module: within its limit, and behind what is there.
 
-ghost use Rattle.std.specs.Prelude.{◌≡◌, ◌⊎◌, ◌∷◌, ◌++◌, ◌+◌, ◌<◌, ◌≤◌, ◌^◌, [], IsTrue, false, Some, IfSome, IfNone, OnOk, OnErr, length, vec_len, vec_capacity};
+ghost use Rattle.std.specs.Prelude.{◌≡◌, ◌⊎◌, ◌∷◌, ◌++◌, ◌+◌, ◌<◌, ◌≤◌, ◌^◌, [], IsTrue, false, Some, OnOk, OnErr, length};
 ghost use Rattle.wasm_types.specs.decoding.Denials.{Tells, RefusedAt};
 ghost use Rattle.wasm_types.specs.decoding.declared.error.ErrorKind.TheVariants.{Other};
 ghost use Rattle.wasm_types.specs.Entries.{declared_types};
@@ -8,16 +8,12 @@ ghost use Rattle.wasm_types.specs.trees.ValidGroup.{IsValidGroup, types_of};
 ghost use Rattle.wasm_module_validator_type_list.specs.List.{HasRoom};
 ghost use Rattle.wasm_module_validator_canonical_types.specs.Written.{AreModuleIndices};
 ghost use Rattle.wasm_module_validator_type_groups.specs.adding.Interned.{space_of, AreIdsKnown, written_group, kept_group, IsChecked, AddsGroup};
-ghost use Rattle.wasm_sections_items.specs.declared.imports.kind.ExternalKind.TheVariants.{Func};
-ghost use Rattle.wasm_module_validator_exports.specs.names.Imports.{with_import};
 ghost use Rattle.wasm_module_validator_index_spaces.specs.Spaces.{id_at, own_function, imported_function, referring_to};
 
 use crate::{Function, Module};
 use wasm_module_validator_canonical_types::InternRecGroup;
 use wasm_module_validator_checks::limits::too_many;
-use wasm_module_validator_exports::{Imports, Place};
 use wasm_module_validator_type_list::TypeList;
-use wasm_sections_items::imports::ExternalKind;
 use wasm_types::{GlobalType, MemoryType, RecGroup, RefType, Result, TableType};
 
 // One thing more, where there are fewer than this many.
@@ -38,14 +34,6 @@ fn push_within<X: Copy>(
     }
     items.push(item)?;
     Ok(())
-}
-
-// A function behind the others, in room that is there.
-fn push_in_room(functions: &mut Vec<Function>, function: Function)
-    requires { vec_len functions.old < vec_capacity functions.old }
-    ensures { functions.new.items ≡ functions.old.items ++ function ∷ [] }
-{
-    let _ = functions.push(function);
 }
 
 impl Module {
@@ -137,51 +125,6 @@ impl Module {
         push_within(&mut self.functions, function, most, "functions", offset)?;
         self.imported_functions += 1;
         Ok(())
-    }
-
-    /// Adds a function that is imported, not exactly, by the index of its type, and to these imports by its names; where there is room and
-    /// memory for both. Else both stay. It makes no error.
-    pub fn import_function_named(
-        &mut self,
-        imports: &mut Imports,
-        module: &str,
-        name: &str,
-        type_index: u32,
-    ) -> Option<()>
-        requires { type_index < length self.old.types }
-        ensures room { IfSome result (λ _. length self.old.functions < self.old.settings.limits.functions) }
-        ensures added { IfSome result (λ _. self.new
-            ≡ record self.old {
-              functions = self.old.functions ++ imported_function false type_index ∷ [];
-              imported_functions = self.old.imported_functions + 1;
-            }) }
-        ensures named { IfSome result (λ _. imports.new ≡ with_import «module».now name.now
-            (record { kind = Func; index = length self.old.functions }) imports.old) }
-        ensures stays { IfNone result (self.new ≡ self.old) }
-        ensures unnamed { IfNone result (imports.new ≡ imports.old) }
-    {
-        let count = self.functions.len();
-        if count >= self.types.limits().functions as usize {
-            return None;
-        }
-        let Ok(()) = self.functions.reserve(1) else {
-            return None;
-        };
-        let place = Place {
-            kind: ExternalKind::Func,
-            index: count as u32,
-        };
-        if !imports.add(module, name, place) {
-            return None;
-        }
-        let function = Function {
-            type_index,
-            is_exact: false,
-            is_referenced: false,
-        };
-        push_in_room(&mut self.functions, function);
-        self.imported_functions += 1;
-        Some(())
     }
 
     /// Adds a table, by the type of its elements over ids, where there are fewer than so many (`Settings::max_tables` of

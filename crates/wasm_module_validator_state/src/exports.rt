@@ -1,21 +1,17 @@
 //! Exports.
 
-ghost use Rattle.std.specs.Prelude.{◌≡◌, ◌+◌, ◌<◌, ◌≤◌, IsTrue, false, IfErr, IfOk, IfSome, IfNone, OnOk, OnErr, length};
+ghost use Rattle.std.specs.Prelude.{◌≡◌, ◌+◌, ◌<◌, ◌≤◌, IsTrue, IfErr, IfOk, OnOk, OnErr, length};
 ghost use Rattle.wasm_types.specs.decoding.Denials.{Tells, UnlessMemory};
 ghost use Rattle.wasm_types.specs.decoding.declared.error.ErrorKind.TheVariants.{Other};
 ghost use Rattle.wasm_module_validator_checks.specs.rules.Valid.{IsValidExport, export_size};
 ghost use Rattle.wasm_module_validator_checks.specs.externs.Refusals.{IsRefusal, IsNeeded, allowing};
-ghost use Rattle.wasm_module_validator_exports.specs.Sizes.{IsAllBelow};
 ghost use Rattle.wasm_module_validator_resources.specs.Named.{IsReadOver};
 ghost use Rattle.wasm_module_validator_resources.specs.Reading.{context_of};
 ghost use Rattle.wasm_module_validator_state.specs.Adding.{exporting};
 ghost use Rattle.wasm_module_validator_state.specs.Items.{IsExportable, IsExported, IsRefusedBy};
-ghost use Rattle.wasm_sections_items.specs.declared.imports.kind.ExternalKind.TheVariants.{Func};
 
 use crate::ModuleState;
-use wasm_module_validator_exports::{
-    Tried, check_export, combine_export_size, exported_function_size,
-};
+use wasm_module_validator_exports::{check_export, combine_export_size};
 use wasm_module_validator_type_list::TypeList;
 use wasm_sections_items::imports::ExternalKind;
 use wasm_types::Result;
@@ -95,40 +91,6 @@ impl ModuleState {
             ExternalKind::Global => (),
             ExternalKind::Tag => (),
         }
-    }
-
-    // The sum of sizes with that of an exported function's type, where there is such a function and the sum stays below the limit.
-    fn combine_exported(&self, index: u32, types: &TypeList) -> Option<u32>
-        requires { IsReadOver types.now.groups self.now.spaces }
-        ensures there { IfSome result (λ _. IsValidExport self.now.spaces.settings
-            (context_of types.now.groups self.now.spaces) Func index) }
-        ensures sum { IfSome result (IsAllBelow self.now.spaces.settings.limits.type_size (self.now.type_size
-            + export_size (context_of types.now.groups self.now.spaces) Func index)) }
-    {
-        let limit = self.module.limits().type_size;
-        exported_function_size(&self.resources(types), self.type_size, index, limit)
-    }
-
-    /// Exports a function by a name, where nothing refuses it and there is memory; code may then refer to it. Else the state stays. The
-    /// limit of exports is not tested. It makes no error.
-    pub fn export_function(&mut self, name: &str, index: u32, types: &TypeList) -> Option<()>
-        requires { IsReadOver types.now.groups self.old.spaces }
-        ensures exportable { IfSome result (λ _. IsExportable types.now.groups self.old name.now Func index false) }
-        ensures exported { IfSome result (λ _. IsExported types.now.groups name.now Func index self.old self.new) }
-        ensures read { IsReadOver types.now.groups self.new.spaces }
-        ensures stays { IfNone result (self.new ≡ self.old) }
-    {
-        let Some(type_size) = self.combine_exported(index, types) else {
-            return None;
-        };
-        match self.exports.add(name, ExternalKind::Func, index) {
-            Tried::Added => (),
-            Tried::Taken => return None,
-            Tried::NoMemory => return None,
-        }
-        self.module.refer_to_function(index);
-        self.type_size = type_size;
-        Some(())
     }
 
     /// Adds an export; code may then refer to a function that is exported. The limit of exports is tested where that is asked.

@@ -1,23 +1,19 @@
 //! Imports.
 
-ghost use Rattle.std.specs.Prelude.{◌≡◌, ◌+◌, ◌<◌, IfErr, IfOk, IfSome, IfNone, OnOk, OnErr, length};
+ghost use Rattle.std.specs.Prelude.{◌≡◌, ◌+◌, ◌<◌, IfErr, IfOk, OnOk, OnErr, length};
 ghost use Rattle.wasm_types.specs.decoding.Denials.{Tells, UnlessMemory};
 ghost use Rattle.wasm_types.specs.decoding.declared.error.ErrorKind.TheVariants.{Other, OutOfMemory};
-ghost use Rattle.wasm_module_validator_checks.specs.rules.Valid.{IsFunctionIndex, IsValidImport, import_size};
+ghost use Rattle.wasm_module_validator_checks.specs.rules.Valid.{IsValidImport, import_size};
 ghost use Rattle.wasm_module_validator_checks.specs.externs.Refusals.{IsRefusal, allowing};
 ghost use Rattle.wasm_module_validator_exports.specs.Imports.{IsNamedImport};
-ghost use Rattle.wasm_module_validator_exports.specs.Sizes.{IsAllBelow};
 ghost use Rattle.wasm_module_validator_resources.specs.Named.{IsReadOver};
 ghost use Rattle.wasm_module_validator_resources.specs.Reading.{context_of, meaning_of};
 ghost use Rattle.wasm_module_validator_state.specs.Adding.{importing};
 ghost use Rattle.wasm_module_validator_state.specs.Items.{HasItsType, HasRoomFor, IsImportable, IsImported, IsLeft, IsRefusedBy, next_index, next_place};
 ghost use Rattle.wasm_sections_items.specs.imports.Spells.{kind_of};
-ghost use Rattle.wasm_sections_items.specs.declared.imports.type_ref.TypeRef.TheVariants.{Func};
 
 use crate::ModuleState;
-use wasm_module_validator_exports::{
-    Place, check_import, combine_import_size, imported_function_size,
-};
+use wasm_module_validator_exports::{Place, check_import, combine_import_size};
 use wasm_module_validator_type_list::TypeList;
 use wasm_sections_items::imports::{ExternalKind, TypeRef};
 use wasm_types::Result;
@@ -144,45 +140,6 @@ impl ModuleState {
             TypeRef::Global(ty) => self.module.import_global(*ty, offset),
             TypeRef::Tag(ty) => self.module.add_tag(ty.func_type_idx, offset),
         }
-    }
-
-    // The sum of sizes with that of an imported function's type, where that is a function type and the sum stays below the limit.
-    fn combine_function(&self, type_index: u32, types: &TypeList) -> Option<u32>
-        requires { IsReadOver types.now.groups self.now.spaces }
-        ensures function { IfSome result (λ _. IsFunctionIndex (context_of types.now.groups self.now.spaces)
-            type_index) }
-        ensures sum { IfSome result (IsAllBelow self.now.spaces.settings.limits.type_size (self.now.type_size
-            + import_size (context_of types.now.groups self.now.spaces) (Func type_index))) }
-    {
-        let limit = self.module.limits().type_size;
-        imported_function_size(&self.resources(types), self.type_size, type_index, limit)
-    }
-
-    /// Imports a function, by its names and the index of its type, where nothing refuses it and there is memory. Else the state stays. It
-    /// makes no error.
-    pub fn import_function(
-        &mut self,
-        module: &str,
-        name: &str,
-        type_index: u32,
-        types: &TypeList,
-    ) -> Option<()>
-        requires { IsReadOver types.now.groups self.old.spaces }
-        ensures importable { IfSome result (λ _. IsImportable types.now.groups self.old (Func type_index)) }
-        ensures imported { IfSome result (λ _. IsImported types.now.groups
-            (record { module_name = «module».now; field_name = name.now; ty = Func type_index }) self.old self.new) }
-        ensures read { IsReadOver types.now.groups self.new.spaces }
-        ensures stays { IfNone result (self.new ≡ self.old) }
-    {
-        let Some(type_size) = self.combine_function(type_index, types) else {
-            return None;
-        };
-        let imports = &mut self.imports;
-        let Some(()) = self.module.import_function_named(imports, module, name, type_index) else {
-            return None;
-        };
-        self.type_size = type_size;
-        Some(())
     }
 
     /// Adds an import, by its names and its type as the module writes it.
