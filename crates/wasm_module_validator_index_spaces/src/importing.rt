@@ -6,6 +6,7 @@ ghost use Rattle.wasm_module_validator_exports.specs.names.Imports.{with_import}
 ghost use Rattle.wasm_module_validator_index_spaces.specs.Spaces.{imported_function};
 
 use crate::{Function, Module};
+use wasm_module_validator_canonical_types::InternRecGroup;
 use wasm_module_validator_exports::{Imports, Place};
 use wasm_sections_items::imports::ExternalKind;
 
