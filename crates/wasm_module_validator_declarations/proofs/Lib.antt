@@ -1,3 +1,3 @@
 mod Telling
 mod Leaving
-mod ShortExport
+mod ShortItems

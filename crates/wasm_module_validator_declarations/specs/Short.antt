@@ -1,4 +1,5 @@
--- Exports and functions that their bytes alone tell (WebAssembly 3.0, binary format, modules, export section and function section).
+-- Imports, exports and functions that their bytes alone tell (WebAssembly 3.0, binary format, modules, import section, export section and
+-- function section).
 use Rattle.std.specs.Prelude.{◌≡◌, ℕ, List}
 use Rattle.wasm_types.specs.decoding.Leb.{IsUnsigned}
 use Rattle.wasm_types.specs.settings.declared.Limits.{Limits}
@@ -7,12 +8,22 @@ use Rattle.wasm_module_validator_type_storage.specs.trees.Groups.{Group}
 use Rattle.wasm_module_validator_state.specs.Items.{Items}
 use Rattle.wasm_module_validator_section_order.specs.rules_in_order.Between.{IsBetween}
 use Rattle.wasm_module_validator_section_order.specs.rules_in_order.Sections as section
-use Rattle.wasm_sections_items.specs.imports.Spells.{ExportTree, SpelledExport}
+use Rattle.wasm_sections_items.specs.imports.Spells.{ImportTree, ExportTree, SpelledImport, SpelledExport}
 use Rattle.wasm_module_validator_state.specs.invariant.Standing.{IsAdded}
 
 -- the bytes of an export, by any settings with these limits
 abbrev pub SpellsExport : Limits → ExportTree → List ℕ → Type 0
 SpellsExport l e front = (z : Settings) → z.limits ≡ l → SpelledExport z e front
+
+-- the same of an import
+abbrev pub SpellsImport : Limits → ImportTree → List ℕ → Type 0
+SpellsImport l i front = (z : Settings) → z.limits ≡ l → SpelledImport z i front
+
+-- from one offset to another stand the bytes of an import, which is added
+pub record AddsImport (l : Limits) (groups : List Group) (old new : Items) (text : List ℕ) (i j : ℕ) : Type 0 where
+  pub item : ImportTree
+  pub bytes : IsBetween (SpellsImport l item) text i j
+  pub added : IsAdded section.imports groups old item new
 
 -- from one offset to another stand the bytes of an export, which is added
 pub record AddsExport (l : Limits) (groups : List Group) (old new : Items) (text : List ℕ) (i j : ℕ) : Type 0 where

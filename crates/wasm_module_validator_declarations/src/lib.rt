@@ -25,4 +25,4 @@ pub use imports::add_import_item;
 pub use laws::groups_are_read_alike;
 pub use numbers::{take_data_count, take_start};
 pub use own::{add_function_item, add_memory_item, add_tag_item};
-pub use short::{add_short_export, add_short_function};
+pub use short::{add_short_export, add_short_function, add_short_import};

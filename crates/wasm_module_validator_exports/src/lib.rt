@@ -12,7 +12,9 @@ pub mod laws;
 pub mod names;
 mod sizes;
 
-pub use crate::names::{Exports, Imports, NamedExport, NamedImports, Place};
+pub use crate::names::{Exports, Imports, NamedExport, NamedImports, Place, Tried};
 pub use exports::check_export;
 pub use imports::check_import;
-pub use sizes::{combine_export_size, combine_import_size};
+pub use sizes::{
+    combine_export_size, combine_import_size, exported_function_size, imported_function_size,
+};

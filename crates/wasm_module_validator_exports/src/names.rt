@@ -13,3 +13,4 @@ mod slots;
 pub use exports::{Exports, NamedExport};
 pub use groups::NamedImports;
 pub use imports::{Imports, Place};
+pub use slots::Tried;

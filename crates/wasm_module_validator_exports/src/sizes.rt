@@ -2,11 +2,11 @@
 //!
 //! A size is added to a sum without an error; where the sum is not below the limit, one function makes it.
 
-ghost use Rattle.std.specs.Prelude.{◌≡◌, ◌+◌, ◌<◌, IfErr, IfOk, length, slice_get};
+ghost use Rattle.std.specs.Prelude.{◌≡◌, ◌+◌, ◌<◌, IfErr, IfOk, IfSome, length, slice_get};
 ghost use Rattle.wasm_types.specs.decoding.Denials.{Tells};
 ghost use Rattle.wasm_types.specs.decoding.declared.error.ErrorKind.TheVariants.{Other};
-ghost use Rattle.wasm_module_validator_checks.specs.rules.Valid.{size_at, import_size, export_size};
-ghost use Rattle.wasm_module_validator_exports.specs.Sizes.{IsSumBelow};
+ghost use Rattle.wasm_module_validator_checks.specs.rules.Valid.{IsFunctionIndex, size_at, import_size, export_size};
+ghost use Rattle.wasm_module_validator_exports.specs.Sizes.{IsAllBelow, IsSumBelow};
 
 use wasm_module_validator_checks::externs::{Settings, WasmModuleResources, function_of};
 use wasm_sections_items::imports::{ExternalKind, TypeRef};
@@ -69,6 +69,31 @@ fn type_below<R: WasmModuleResources>(
     function_below(sum, function, limit)
 }
 
+/// The size of an imported function's type behind the sum of those before it, where it is a function type and the sum stays below the
+/// limit. It makes no error.
+#[inline]
+pub fn imported_function_size<R: WasmModuleResources>(
+    resources: &R,
+    sum: u32,
+    type_index: u32,
+    limit: u32,
+) -> Option<u32>
+    ensures function { IfSome result (λ _. IsFunctionIndex (R.meaning resources.now).«module» type_index) }
+    ensures sum { IfSome result (IsAllBelow limit (sum + size_at (slice_get
+        (R.meaning resources.now).«module».types type_index))) }
+{
+    let Some(sub_type) = resources.sub_type_at(type_index) else {
+        return None;
+    };
+    let Some(function) = function_of(sub_type) else {
+        return None;
+    };
+    let Some(all) = function_below(sum, function, limit) else {
+        return None;
+    };
+    Some(all)
+}
+
 // The size of an import's type behind the sum of those before it, where the new sum is below the limit.
 #[inline]
 fn import_below<R: WasmModuleResources>(
@@ -128,6 +153,28 @@ fn exported_function_below<R: WasmModuleResources>(
         return sum_below(sum, 0, limit);
     };
     type_below(resources, sum, type_index, limit)
+}
+
+/// The size of an exported function's type behind the sum of those before it, where there is such a function and the sum stays below the
+/// limit. It makes no error.
+#[inline]
+pub fn exported_function_size<R: WasmModuleResources>(
+    resources: &R,
+    sum: u32,
+    index: u32,
+    limit: u32,
+) -> Option<u32>
+    ensures there { IfSome result (λ _. index < length (R.meaning resources.now).«module».functions) }
+    ensures sum { IfSome result (IsAllBelow limit (sum + size_at (slice_get
+        (R.meaning resources.now).«module».functions index))) }
+{
+    let Some(type_index) = resources.type_index_of_function(index) else {
+        return None;
+    };
+    let Some(all) = type_below(resources, sum, type_index, limit) else {
+        return None;
+    };
+    Some(all)
 }
 
 // The size of an exported tag's type behind a sum.

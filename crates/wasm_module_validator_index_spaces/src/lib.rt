@@ -8,6 +8,7 @@
 #![tactic(auto)]
 
 mod adding;
+mod importing;
 mod lookups;
 mod module;
 pub mod view;

@@ -11,11 +11,11 @@ ghost use Rattle.wasm_module_validator_section_order.specs.rules_in_order.Steps.
 ghost use Rattle.wasm_module_validator_payloads.specs.Progress.{Grows, IsAt};
 
 use crate::{Collected, InProgress};
-use wasm_module_validator_declarations::add_import_item;
+use wasm_module_validator_declarations::{add_import_item, add_short_import};
 use wasm_module_validator_section_order::items::{AddLent, add_lent_items};
 use wasm_sections::ImportSectionReader;
 use wasm_sections_items::imports::Import;
-use wasm_types::Result;
+use wasm_types::{Limits, Result};
 
 impl<'a> AddLent<'a, Import<'a>> for Collected {
     ghost use Rattle.wasm_module_validator_section_order.specs.rules_in_order.Sections as section;
@@ -41,6 +41,10 @@ impl<'a> AddLent<'a, Import<'a>> for Collected {
 
     fn add_lent(&mut self, item: &Import<'a>, offset: u64) -> Result<()> {
         add_import_item(&mut self.state, &self.types, item, offset)
+    }
+
+    fn add_lent_short(&mut self, bytes: &[u8], at: usize, limits: &Limits) -> Option<usize> {
+        add_short_import(&mut self.state, &self.types, bytes, at, limits)
     }
 
     ghost alike = { λ x y is. is };

@@ -11,6 +11,7 @@
 
 mod counts;
 mod exports;
+mod functions;
 mod imports;
 pub mod invariant;
 pub mod laws;

@@ -90,8 +90,8 @@ impl Exports {
         self.exports.as_slice()
     }
 
-    // An export more where its name is new.
-    fn add(&mut self, name: &str, kind: ExternalKind, index: u32) -> Tried
+    /// An export more where its name is new, and there is memory. Else they stay.
+    pub fn add(&mut self, name: &str, kind: ExternalKind, index: u32) -> Tried
         ensures { HasTried (record { name = name.now; kind = kind; index = index }) self.old self.new result }
     {
         let Ok(kept) = String::from_str(self.alloc, name) else {

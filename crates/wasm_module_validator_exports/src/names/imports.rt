@@ -134,8 +134,8 @@ impl Imports {
         Ok(groups.into_names())
     }
 
-    // One import more, where there is memory.
-    fn add(&mut self, module: &str, name: &str, place: Place) -> bool
+    /// One import more, where there is memory: whether it was. Else they stay.
+    pub fn add(&mut self, module: &str, name: &str, place: Place) -> bool
         ensures { HasAdded «module».now name.now place self.old self.new result }
     {
         let Some(module) = keep_module(self.alloc, &mut self.modules, module) else {

@@ -12,10 +12,13 @@ use std::alloc::Global;
 use std::collections::BTreeSet;
 use std::hash::{FoldHasher, Hasher};
 
-// What an attempt to add a name did.
-pub(crate) enum Tried {
+/// What an attempt to add a name did.
+pub enum Tried {
+    /// It was added.
     Added,
+    /// It is there already.
     Taken,
+    /// There is no memory.
     NoMemory,
 }
 
@@ -116,7 +119,7 @@ pub(crate) fn after(slots: usize) -> usize {
     if slots < 16 {
         return 16;
     }
-    slots.saturating_mul(4)
+    slots.saturating_mul(8)
 }
 
 // So many slots with the names of these exports, and the names that have none.

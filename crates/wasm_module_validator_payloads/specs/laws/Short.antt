@@ -65,6 +65,11 @@ adds_data groups i l text from to s added =
     adds_short section.data_segments data_read data_read (λ z. SpelledData (ConstantText z)) (segment s.constant s.content) groups i i l text from to
     (λ z m n h. ap (λ (t : ModuleTree). t.types) h.2.added) added (between_so _ _ text from to (λ t h z same. h z) s.bytes)
 
+-- what holds whatever the answer is
+pub some_always : {X : Type 0} (r : Option X) (P : Type 0) → P → IfSome r (λ x. P)
+some_always (Some x) P h = h
+some_always None P h = tt
+
 -- what follows of what holds of an answer
 pub some_from : {X : Type 0} (r : Option X) (P Q : X → Type 0) → ((x : X) → P x → Q x) → IfSome r P → IfSome r Q
 some_from (Some x) P Q f h = f x h

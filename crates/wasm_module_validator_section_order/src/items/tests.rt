@@ -75,6 +75,10 @@ impl<'a> AddLent<'a, u32> for Total {
         self.add(*item, offset)
     }
 
+    fn add_lent_short(&mut self, _bytes: &[u8], _at: usize, _limits: &Limits) -> Option<usize> {
+        None
+    }
+
     ghost alike = { λ x y is. is };
 
     ghost grows_by_nothing = { λ s. refl };
