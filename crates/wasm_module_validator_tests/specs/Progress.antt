@@ -55,6 +55,7 @@ pub record KeptRows (z : Settings) (g h : Group) : Type 0 where
   pub renewed_by_limits : renewed (of_ten_locals 5) (one_function 5 (g ∷ [])) ≡ nothing_kept (of_ten_locals 5)
   pub next : next_over (one_function 5 (g ∷ [])) ≡ nothing_over (g ∷ []) (under 5)
   pub grows : Grows (one_function 5 (g ∷ [])) (of_types (ids_from (count (g ∷ [])) (length h.types)) (one_function 5 (h ∷ g ∷ [])))
+  pub grows_again : Grows (one_function 5 (g ∷ [])) (of_types (ids_from 0 (length g.types)) (one_function 5 (g ∷ [])))
   pub grows_by_others : 0 < length h.types → Grows (one_function 5 (g ∷ [])) (of_types (ids_from (count (h ∷ g ∷ [])) (length h.types)) (one_function 5 (h ∷ g ∷ []))) → ⊥
   pub grows_by_more : 0 < length h.types → Grows (one_function 5 (g ∷ [])) (one_function 5 (h ∷ g ∷ [])) → ⊥
   pub grows_not : Grows (one_function 5 (g ∷ [])) (one_function 5 []) → ⊥

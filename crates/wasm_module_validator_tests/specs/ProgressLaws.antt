@@ -62,6 +62,14 @@ kept_rows z g h = record {
         };
         settings = refl;
       };
+  grows_again =
+      let same = ids_counted 0 (length g.types) in
+      record {
+        groups = ([], refl);
+        types = omega (arith, same);
+        own = record { ids = ids_from 0 (length g.types); behind = refl; own = λ id low high. absurd (omega (arith, low, high)) };
+        settings = refl;
+      };
   grows_by_others = λ some x.
       let more = count_push h (g ∷ []) in
       let first : CoreTypeId = record { 0 = count (g ∷ []) } in
