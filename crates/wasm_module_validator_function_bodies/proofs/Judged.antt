@@ -179,6 +179,7 @@ valid_body z m x text t u start b knows same features allows within unshared jud
     = ap (λ (k : Known). types (results_in k.flat.items b.sig)) (sym same) ∙ ap (λ (q : Sig). types (results_in u.known.flat.items q)) (sym b.results) in
     let fits : Fits z text u g = record {
       features = sym features;
+      bits = sym features;
       within = within;
       allows = allows;
       knows = subst (λ (k : Known). Knows m k) (sym same) knows;

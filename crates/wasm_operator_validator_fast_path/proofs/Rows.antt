@@ -8,8 +8,9 @@ use Rattle.wasm_types.specs.decoding.Text.{word}
 use Rattle.wasm_types.specs.reader.declared.words.Ieee32.{Ieee32}
 use Rattle.wasm_types.specs.reader.declared.words.Ieee64.{Ieee64}
 use Rattle.wasm_types.specs.settings.Settings.{Settings}
-use Rattle.wasm_types.specs.settings.Features.{BulkMemoryOpt}
+use Rattle.wasm_types.specs.settings.Features.{BulkMemoryOpt, TailCall}
 use Rattle.wasm_types.specs.externs.declared.memory.MemoryType.{MemoryType}
+use Rattle.wasm_types.specs.trees.Gates.{Has}
 use Rattle.wasm_types.specs.trees.Trees.{TypeTree}
 use Rattle.wasm_types.specs.decoding.Numbers.{GivesAt}
 use Rattle.wasm_operators_immediates.specs.Kinds as kind
@@ -47,7 +48,7 @@ use Rattle.wasm_operator_validator_fast_path.specs.declared.tables.Held.{Held}
 use Rattle.wasm_operator_validator_fast_path.specs.declared.tables.Tables.{Tables}
 use Rattle.wasm_operator_validator_fast_path.specs.Stacks.{Values, with_all}
 use Rattle.wasm_operator_validator_fast_path.specs.Values.{number_of, type_of, types, operands}
-use Rattle.wasm_operator_validator_fast_path.specs.Tables.{params_in, results_in, signature_in, label_in, Fits}
+use Rattle.wasm_operator_validator_fast_path.specs.Tables.{params_in, results_in, signature_in, label_in, Fits, ReturnsBy}
 use Rattle.wasm_operator_validator_fast_path.specs.Loop.{label, Full, inside_all, Leads}
 use Rattle.wasm_operator_validator_fast_path.specs.Shapes.{IsNumberAt, IsAccessAt}
 use Rattle.wasm_operator_validator_fast_path.specs.Labels.{Takes, AreLabels}
@@ -494,6 +495,69 @@ module _ (t : Tables) (text : List ℕ) (i e : ℕ) (o : Open) (outer : List Ope
       (alone (op.Control control.Return) (told_alone t.features.0 text i 15 15 begins refl (op.Control control.Return) refl refl _ refl refl refl refl) behind)
       refl (λ set full. full) taken put (reverse (operands m.0) ++ all_known (types ls)) (popped_all ls m.0)
       (λ z c fits set full. (first c.bits _ fits.allows refl, (reverse (operands m.0), ap (λ xs. reverse (operands m.0) ++ all_known xs) (ap types same ∙ sym fits.results))))
+
+  -- ---- calls in the place of a return
+
+  -- what is called gives what the function that is judged gives
+  gives_the_same : (z : Settings) (c : Context) → Fits z text t c → (y : ℕ) (ps : List ℕ) (h : ReturnsBy t y ps)
+      → AllBelow (all_known (signature_in t.known.flat.items h.sig).results) (all_known c.results)
+  gives_the_same z c fits y ps h = same_below _ _ (ap (λ xs. all_known (types xs)) h.gives ∙ ap all_known (sym fits.results))
+
+  pub took_return_call : Begins text i 0x12 → Has t.features.0 TailCall → (x : ℕ) → GivesAt u32 text (i + 1) x e → (y : ℕ) → slice_get t.known.functions.items x ≡ Some y
+      → (ps : List ℕ) → ReturnsBy t y ps → (m : Values) (rs : List ℕ) → v ≡ with_all ps m → w ≡ with_all rs ([], m.1) → Leads text t i (o ∷ outer) v e (o ∷ outer) w
+  took_return_call begins has x g y function ps h m rs taken put =
+      let p = op.Control (control.ReturnCall x) in
+      took_away p (reverse ps ++ m.0) rs m.1
+      (stands p (told_with t.features.0 text i 18 18 begins refl p refl refl _ refl refl refl (Index kind.Functions x) e refl (λ limits. index_of _ _ _ _ kind.Functions x g)))
+      refl (λ set full. full) taken put (reverse (operands m.0) ++ all_known (types ps)) (popped_all ps m.0)
+      (λ z c fits set full.
+      let (f, there, at) = fits.knows.functions x y function in
+      let (k, also, is) = fits.knows.types y h.sig h.at h.usable in
+      let b = signature_in t.known.flat.items h.sig in (
+        of_feature c.bits p proposals.TailCall TailCall fits.allows refl (rw fits.bits has) refl,
+        (
+          b,
+          reverse (operands m.0),
+          (f, there, uses (Here c) _ fits.unshared, function_of f k b c.«module».types y at also is),
+          gives_the_same z c fits y ps h,
+          ap (λ xs. reverse (operands m.0) ++ all_known (types xs)) h.takes,
+        ),
+      ))
+
+  pub took_return_indirect : Begins text i 0x13 → Has t.features.0 TailCall → t.known.table ≡ true → (y n : ℕ) → GivesAt u32 text (i + 1) y n → GivesAt u32 text n 0 e
+      → (ps : List ℕ) → ReturnsBy t y ps → (m k : Values) (rs : List ℕ) → v ≡ (0 ∷ m.0, m.1) → m ≡ with_all ps k → w ≡ with_all rs ([], k.1)
+      → Leads text t i (o ∷ outer) v e (o ∷ outer) w
+  took_return_indirect begins has known_table y n g there_is ps h m k rs index taken put =
+      let p = op.Control (control.ReturnCallIndirect y 0) in
+      took_away p (0 ∷ (reverse ps ++ k.0)) rs k.1
+      (stands p (told_with_two t.features.0 text i 19 19 begins refl p refl refl _ refl refl refl (Index kind.Types y) (Index kind.Tables 0) n e refl
+      (λ limits. index_of _ _ _ _ kind.Types y g) (λ limits. index_of _ _ _ _ kind.Tables 0 there_is)))
+      refl (λ set full. full) (index ∙ ap (λ (x : Values). (0 ∷ x.0, x.1)) taken) put
+      (reverse (operands k.0) ++ (all_known (types ps) ++ known (number i32) ∷ [])) (popped_index ps k.0)
+      (λ z c fits set full.
+      let (tab, there, narrow, functions) = fits.knows.table known_table in
+      let (f, at, is) = fits.knows.types y h.sig h.at h.usable in
+      let b = signature_in t.known.flat.items h.sig in
+      let address : number i32 ≡ address_type tab.table64 = rw narrow refl in (
+        of_feature c.bits p proposals.TailCall TailCall fits.allows refl (rw fits.bits has) refl,
+        (
+          tab,
+          b,
+          reverse (operands k.0),
+          record {
+            table = there;
+            table_used = uses (Here c) tab.shared fits.unshared;
+            functions = functions;
+            callee = f;
+            type = at;
+            type_used = uses (Here c) _ fits.unshared;
+            function = is;
+          },
+          gives_the_same z c fits y ps h,
+          ap (λ xs. reverse (operands k.0) ++ xs) (ap (λ xs. all_known (types xs) ++ known (number i32) ∷ []) h.takes ∙ sym (map-append known b.params (number i32 ∷ []))
+              ∙ ap (λ (x : ValueType). all_known (b.params ++ x ∷ [])) address),
+        ),
+      ))
 
   pub took_unreachable : Begins text i 0x00 → i + 1 ≡ e → (rs : List ℕ) → w ≡ with_all rs ([], v.1) → Leads text t i (o ∷ outer) v e (o ∷ outer) w
   took_unreachable begins behind rs put =

@@ -78,9 +78,20 @@ pub record Allows (bits : ℕ) : Type 0 where
 -- tables stand for what they name of the context of a body with these bytes
 pub record Fits (z : Settings) (text : List ℕ) (t : Tables) (g : Context) : Type 0 where
   pub features : z.features ≡ t.features.0
+  pub bits : g.bits ≡ t.features.0
   pub within : length text ≤ z.limits.body_bytes
   pub allows : Allows g.bits
   pub knows : Knows g.«module» t.known
   pub locals : (x : ℕ) → x < length t.locals.items → slice_get g.locals x ≡ Some (type_of (get_or t.locals.items x 0))
   pub results : g.results ≡ types (results_in t.known.flat.items t.results)
   pub unshared : g.shared ≡ false
+
+-- ---- calls in the place of a return
+
+-- the type at an index takes these types, and gives what the function that is judged gives
+pub record ReturnsBy (t : Tables) (y : ℕ) (params : List ℕ) : Type 0 where
+  pub sig : Sig
+  pub at : slice_get t.known.types.items y ≡ Some sig
+  pub usable : sig.param_count ≤ length t.known.flat.items
+  pub takes : params ≡ params_in t.known.flat.items sig
+  pub gives : results_in t.known.flat.items sig ≡ results_in t.known.flat.items t.results

@@ -21,6 +21,7 @@ use crate::pile::Pile;
 use crate::shape::{Shape, saturating_of, shape_of};
 use crate::stack::Stack;
 use crate::tables::{Open, Opens, Sig, Tables};
+use crate::tail_calls::{return_call, return_call_indirect};
 use crate::variables::{global_get, global_set, local_get, local_set, local_tee};
 use std::alloc::Global;
 use std::mem;
@@ -57,6 +58,8 @@ fn next(
         0x0f => return_all(tables, bytes, at, stack, opens),
         0x10 => call(tables, bytes, at, stack, opens),
         0x11 => call_indirect(tables, bytes, at, stack, opens),
+        0x12 => return_call(tables, bytes, at, stack, opens),
+        0x13 => return_call_indirect(tables, bytes, at, stack, opens),
         0x1a => drop_top(tables, bytes, at, stack, opens),
         0x1b => select(tables, bytes, at, stack, opens),
         0x20 => local_get(tables, bytes, at, stack, opens),

@@ -85,7 +85,7 @@ fn is_taken(flat: &[u8], opens: &Opens, depth: u32, types: &[u8]) -> bool
 
 // Whether these are the same codes.
 #[inline(always)]
-fn same(one: &[u8], other: &[u8]) -> bool
+pub(crate) fn same(one: &[u8], other: &[u8]) -> bool
     ensures { result ≡ true → other.now ≡ one.now }
 {
     if one.len() != other.len() {

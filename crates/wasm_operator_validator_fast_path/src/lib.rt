@@ -22,6 +22,7 @@ mod pile;
 mod shape;
 mod stack;
 mod tables;
+mod tail_calls;
 mod variables;
 
 pub use judge::Room;
