@@ -33,4 +33,4 @@ returns-clause-grown c =
     let grown = grows_by_none inside.types.groups inside.state.spaces after.spaces c.add_short_import.ensures.types in
     some_always c.add_short_import.result _
     (subst (λ (k : Kept). Grows k (kept inside.types.groups after inside.groups)) c.self.view_is
-    (record { groups = grown.0; types = grown.1; settings = c.add_short_import.ensures.settings }))
+    (record { groups = grown.0; types = grown.1; own = grown.2; settings = c.add_short_import.ensures.settings }))
