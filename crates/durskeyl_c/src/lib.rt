@@ -11,6 +11,7 @@
 mod fault;
 mod handle;
 mod listing;
+mod loose;
 mod parts;
 mod pieces;
 mod settings;

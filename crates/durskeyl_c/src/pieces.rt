@@ -18,15 +18,15 @@ use wasm_types::Error;
 
 /// Takes the module out of the handle, if one was begun.
 fn taken(alloc: Global, pieces: &mut DurskeylPieces) -> Option<Box<ModuleInPieces>>
-    ensures there { MatchOption result (pieces.old.value ≡ None) (λ it. pieces.old.value ≡ Some it.value) }
-    ensures empty { pieces.new.value ≡ None }
+    ensures there { MatchOption result (pieces.old.inside.value ≡ None) (λ it. pieces.old.inside.value ≡ Some it.value) }
+    ensures empty { pieces.new.inside.value ≡ None }
 {
     std::mem::replace(pieces, DurskeylPieces::none(alloc)).into_box()
 }
 
 /// Puts a module into the handle. What was there before is given back.
 fn put(pieces: &mut DurskeylPieces, it: Box<ModuleInPieces>)
-    ensures { pieces.new.value ≡ Some it.value }
+    ensures { pieces.new.inside.value ≡ Some it.value }
 {
     let _before = std::mem::replace(pieces, DurskeylPieces::of(it)).into_box();
 }
@@ -88,9 +88,9 @@ pub extern "C" fn durskeyl_begin(
     pieces: &mut DurskeylPieces,
     fault: &mut DurskeylFault,
 ) -> u32
-    ensures begun { result ≡ 0 → Holds pieces.new.value settings.now [] }
-    ensures most { result ≡ 0 → HoldsAtMost most pieces.new.value }
-    ensures none { ¬ (result ≡ 0) → pieces.new.value ≡ None }
+    ensures begun { result ≡ 0 → Holds pieces.new.inside.value settings.now [] }
+    ensures most { result ≡ 0 → HoldsAtMost most pieces.new.inside.value }
+    ensures none { ¬ (result ≡ 0) → pieces.new.inside.value ≡ None }
     ensures answers { (result ≡ 0) ⊎ (result ≡ 3) ⊎ (result ≡ 6) }
     ensures settings { (result ≡ 6) ↔ (¬ AreSettings settings.now) }
     ensures kind { fault.new.kind ≡ result }
@@ -131,15 +131,15 @@ pub extern "C" fn durskeyl_take(
     bytes: &[u8],
     fault: &mut DurskeylFault,
 ) -> u32
-    requires { IfSome pieces.old.value IsUnderWay }
-    ensures came { (s : DurskeylSettings) (got : List ℕ) → Holds pieces.old.value s got
-        → Holds pieces.new.value s (got ++ bytes.now) }
-    ensures told { (s : DurskeylSettings) (got : List ℕ) → Holds pieces.old.value s got
+    requires { IfSome pieces.old.inside.value IsUnderWay }
+    ensures came { (s : DurskeylSettings) (got : List ℕ) → Holds pieces.old.inside.value s got
+        → Holds pieces.new.inside.value s (got ++ bytes.now) }
+    ensures told { (s : DurskeylSettings) (got : List ℕ) → Holds pieces.old.inside.value s got
         → TellsPiece result s (got ++ bytes.now) }
-    ensures answer { result ≡ answer_of pieces.new.value }
-    ensures begun { (result ≡ 6) ↔ (pieces.old.value ≡ None) }
-    ensures stays { 0 < answer_of pieces.old.value → result ≡ answer_of pieces.old.value }
-    ensures held { CanBeHeld pieces.old.value pieces.new.value }
+    ensures answer { result ≡ answer_of pieces.new.inside.value }
+    ensures begun { (result ≡ 6) ↔ (pieces.old.inside.value ≡ None) }
+    ensures stays { 0 < answer_of pieces.old.inside.value → result ≡ answer_of pieces.old.inside.value }
+    ensures held { CanBeHeld pieces.old.inside.value pieces.new.inside.value }
     ensures few { result ≤ 6 }
     ensures kind { fault.new.kind ≡ result }
     ensures text { IsEnded fault.new }
@@ -166,12 +166,12 @@ pub extern "C" fn durskeyl_end(
     pieces: &mut DurskeylPieces,
     fault: &mut DurskeylFault,
 ) -> u32
-    requires { IfSome pieces.old.value IsUnderWay }
-    ensures told { (s : DurskeylSettings) (got : List ℕ) → Holds pieces.old.value s got → length got < 2 ^ 64
+    requires { IfSome pieces.old.inside.value IsUnderWay }
+    ensures told { (s : DurskeylSettings) (got : List ℕ) → Holds pieces.old.inside.value s got → length got < 2 ^ 64
         → Told result s got }
-    ensures begun { (result ≡ 6) ↔ (pieces.old.value ≡ None) }
-    ensures stays { 0 < answer_of pieces.old.value → result ≡ answer_of pieces.old.value }
-    ensures empty { pieces.new.value ≡ None }
+    ensures begun { (result ≡ 6) ↔ (pieces.old.inside.value ≡ None) }
+    ensures stays { 0 < answer_of pieces.old.inside.value → result ≡ answer_of pieces.old.inside.value }
+    ensures empty { pieces.new.inside.value ≡ None }
     ensures few { result ≤ 6 }
     ensures kind { fault.new.kind ≡ result }
     ensures text { IsEnded fault.new }
@@ -188,7 +188,7 @@ pub extern "C" fn durskeyl_end(
 /// Gives back what was begun, with no verdict; nothing if none was.
 #[unsafe(no_mangle)]
 pub extern "C" fn durskeyl_drop(alloc: Global, pieces: &mut DurskeylPieces)
-    ensures { pieces.new.value ≡ None }
+    ensures { pieces.new.inside.value ≡ None }
 {
     let _before = taken(alloc, pieces);
 }

@@ -1,5 +1,5 @@
 -- Bytes that are handed over: one part more of them, and what that leads to.
-use Rattle.std.proofs.Common.{◌≡◌, ◌∙◌, ◌<◌, ◌≤◌, ◌+◌, ◌^◌, ℕ, Bool, false, List, [], ◌++◌, length, take, drop, sym, ap, subst, arith, append-nil, append_assoc, length-append, length-take-le, take-append-drop, take-add}
+use Rattle.std.proofs.Common.{◌≡◌, ◌∙◌, ◌<◌, ◌≤◌, ◌+◌, ◌-◌, ◌^◌, ℕ, Bool, false, List, [], ◌∷◌, ◌++◌, length, take, drop, refl, sym, ap, subst, arith, append-nil, append_assoc, length-append, length-take-le, take-append-drop, take-add}
 use Rattle.std.proofs.lemmas.Bool.{false≢true}
 use Rattle.wasm_module_validator_streaming.specs.Taking.{IsMidst, DeniesFrom}
 use Rattle.wasm_module_validator_streaming.specs.Handing.{HasRoom, Follows, DeniesBehind}
@@ -7,6 +7,16 @@ use Rattle.wasm_module_validator_streaming.specs.Handing.{HasRoom, Follows, Deni
 -- a law of what takes bytes: more may come
 abbrev pub MayGrow : {S : Type 0} → (S → List ℕ → Bool → List ℕ → S → Type 0) → Type 0
 MayGrow {S = S} stands = (first : S) (got : List ℕ) (rest : List ℕ) (now : S) (bytes : List ℕ) → stands first got false rest now → stands first (got ++ bytes) false (rest ++ bytes) now
+
+-- where a list has no item there is none
+pub nothing_held : (held all : List ℕ) → all ≡ held → length all ≡ 0 → held ≡ []
+nothing_held [] all same none = refl
+nothing_held (x ∷ xs) all same none = let e = ap length same in absurd (omega (arith, e, none))
+
+-- a turn takes a byte at least, unless all are taken
+pub turns_count : (from count turn all left : ℕ) → turn ≤ from → from ≤ all → left ≡ all - from → count ≤ left → (count < left → 0 < count) → ¬ (from + count ≡ all)
+    → turn + 1 ≤ from + count
+turns_count from count turn all left turns within is few some more = let one = some (omega (arith, within, is, few, more)) in omega (arith, turns, one)
 
 -- ---- a part
 
