@@ -1,5 +1,5 @@
 -- A module whose pieces are handed over: what one piece more leads to.
-use Rattle.std.proofs.Common.{◌≡◌, ◌<◌, ◌≤◌, ◌+◌, ◌^◌, ℕ, false, List, [], ◌++◌, length, Option, Some, None, Result, Ok, Err, vec_len, sym, subst, arith, append-nil, append_assoc, length-append}
+use Rattle.std.proofs.Common.{◌≡◌, ◌<◌, ◌≤◌, ◌+◌, ◌^◌, ℕ, false, List, [], ◌++◌, length, Option, Some, None, Result, Ok, Err, vec_len, sym, ap, subst, arith, append-nil, append_assoc, length-append}
 use Rattle.std.proofs.lemmas.Bool.{false≢true}
 use Rattle.wasm_types.specs.decoding.Denials.{Denies}
 use Rattle.wasm_types.specs.decoding.ErrorValue.{ErrorValue}
@@ -18,6 +18,7 @@ use Rattle.wasm_module_validator_streaming.specs.Taking.{IsMidst, IsPending}
 use Rattle.wasm_module_validator_streaming.specs.Verdicts.{IsRefusal, IsVerdict, StandsAt, ShownAt, DeniedAt, WaitsAt}
 use Rattle.wasm_module_validator_streaming.specs.laws.Running.{memory_denies}
 use Rattle.wasm_module_validator_streaming.proofs.Stepping.{passed_here}
+use Rattle.wasm_module_validator_streaming.proofs.Waiting.{none_pending}
 
 -- ---- what is known of one that is not refused
 
@@ -107,3 +108,17 @@ end_told z id got p none c (Err e) h =
 
 pub end_refused : (z : Settings) (got : List ℕ) (e : ErrorValue) → length got < 2 ^ 64 → RefusesFrom z got e → IsRefusal z got e
 end_refused z got e room h = subst (λ (l : List ℕ). IsRefusal z l e) (append-nil got) (h [] (subst (λ (l : List ℕ). length l < 2 ^ 64) (sym (append-nil got)) room))
+
+-- ---- the beginning
+
+pub none_came : (z : Settings) (id : ValidatorId) (p : ModuleInPieces) → p.judging.validator.settings ≡ z → p.judging.validator.id ≡ id → StandsAt p.judging [] false [] p.judging → WaitsAt p.judging []
+    → p.pending.bytes.items ≡ [] → p.pending.needed ≡ 1 → p.came ≡ 0 → p.refused ≡ None → Came z id [] p
+none_came z id p same own there waits empty one zero none = came_of z id [] p none (record {
+  first = p.judging;
+  settings = same;
+  own = own;
+  there = subst (λ (l : List ℕ). StandsAt p.judging [] false l p.judging) (sym empty) there;
+  pending = subst (λ (n : ℕ). IsPending WaitsAt n p.pending.bytes.items p.judging) (sym one) (none_pending WaitsAt p.pending.bytes.items p.judging empty waits);
+  counted = sym zero;
+  room = omega arith;
+}) (let counted = p.pending.bytes.ok.0 in let nothing = ap length empty in omega (arith, counted, nothing))

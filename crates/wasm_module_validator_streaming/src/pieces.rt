@@ -108,13 +108,16 @@ impl ModuleInPieces {
             return Err(Error::out_of_memory(0));
         };
         self.came = came;
-        take_handed(
+        match take_handed(
             self.alloc,
             &mut self.judging,
             &mut self.pending,
             bytes,
             self.most,
-        )
+        ) {
+            Ok(()) => Ok(()),
+            Err(error) => Err(error),
+        }
     }
 
     /// The verdict on the module whose bytes are all that came. An accepted module runs soundly, and what was learned of it is shown.
