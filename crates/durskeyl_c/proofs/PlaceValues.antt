@@ -1,13 +1,12 @@
 -- What a place owns: where a module is there, what its box owned, and at null nothing. Assumes `Logic`.
-use Rattle.std.proofs.Common.{◌≡◌, ℕ, List, [], ◌∷◌, ◌++◌, Option, Some, None, refl, subst}
+use Rattle.std.proofs.Common.{◌≡◌, List, [], ◌∷◌, Option, Some, None, refl}
 use seplogic.Ra.Ura.{Ura}
-use mir.Val.{Val, vptr}
-use base.Fml.{ftrue}
+use mir.Val.{Val}
 use types.Logic.{Logic}
-use types.Kit.{Item, Goal, Seq, Step, step, ‵, ◌$◌, move, drop, fsplit, fjoin, fpack, rewrite, feq_i}
+use types.Kit.{Item, Goal, Step, step, ‵, ◌$◌, move, fjoin, fpack, rewrite, feq_i}
 use denote.RattleType.{RattleType, Valss}
 use denote.Builtin.{RawPtr}
-use denote.RawPtr.{Ptr, block_ptr, null_ptr, ptr_val}
+use denote.RawPtr.{null_ptr, ptr_val}
 use denote.Steps.{nothing}
 use denote.Struct.Struct.{within}
 use denote.Struct.Owning.{shape}

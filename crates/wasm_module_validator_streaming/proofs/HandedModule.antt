@@ -1,5 +1,5 @@
 -- A module whose pieces are handed over: what one piece more leads to.
-use Rattle.std.proofs.Common.{◌≡◌, ◌<◌, ◌≤◌, ◌+◌, ◌^◌, ℕ, false, List, [], ◌++◌, length, Option, Some, None, Result, Ok, Err, vec_len, sym, ap, subst, arith, append-nil, append_assoc, length-append}
+use Rattle.std.proofs.Common.{◌≡◌, ◌<◌, ◌≤◌, ◌+◌, ◌^◌, ℕ, false, List, [], ◌++◌, length, Some, None, Result, Ok, Err, vec_len, sym, ap, subst, arith, append-nil, append_assoc, length-append}
 use Rattle.std.proofs.lemmas.Bool.{false≢true}
 use Rattle.wasm_types.specs.decoding.Denials.{Denies}
 use Rattle.wasm_types.specs.decoding.ErrorValue.{ErrorValue}

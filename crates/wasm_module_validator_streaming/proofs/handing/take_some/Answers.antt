@@ -1,5 +1,5 @@
 -- By the laws of one part more.
-use Rattle.std.proofs.Common.{rules, arith}
+use Rattle.std.proofs.Common.{rules}
 use Rattle.wasm_module_validator_streaming.proofs.Handed.{all_denies, all_midst, nothing_held, part_denies, part_midst}
 use Rattle.wasm_module_validator_streaming.proofs.handing.take_some.Goals as goal
 
