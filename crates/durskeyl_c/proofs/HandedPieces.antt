@@ -27,11 +27,11 @@ few_numbers Other = omega arith
 
 -- each but that of no memory refutes what it denies
 refuted : (k : ErrorKind) (P : Type 0) → ¬ (number_of k ≡ 3) → Denies k P → ¬ P
-refuted (EndOfData h) P other no = no
-refuted (MissingFeature f) P other no = no
-refuted OutOfMemory P other no = absurd (other refl)
-refuted Failed P other no = no
-refuted Other P other no = no
+refuted (EndOfData h) P other h = h
+refuted (MissingFeature f) P other h = h
+refuted OutOfMemory P other h = absurd (other refl)
+refuted Failed P other h = h
+refuted Other P other h = h
 
 module _ (s : DurskeylSettings) (got : List ℕ) where
   -- of the bytes that came so far
