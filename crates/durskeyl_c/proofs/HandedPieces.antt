@@ -27,11 +27,11 @@ few_numbers Other = omega arith
 
 -- each but that of no memory refutes what it denies
 refuted : (k : ErrorKind) (P : Type 0) → ¬ (number_of k ≡ 3) → Denies k P → ¬ P
-refuted (EndOfData h) P other h = h
-refuted (MissingFeature f) P other h = h
-refuted OutOfMemory P other h = absurd (other refl)
-refuted Failed P other h = h
-refuted Other P other h = h
+refuted (EndOfData h) P other d = d
+refuted (MissingFeature f) P other d = d
+refuted OutOfMemory P other d = absurd (other refl)
+refuted Failed P other d = d
+refuted Other P other d = d
 
 module _ (s : DurskeylSettings) (got : List ℕ) where
   -- of the bytes that came so far

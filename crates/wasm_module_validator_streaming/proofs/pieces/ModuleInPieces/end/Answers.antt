@@ -11,7 +11,7 @@ conclude-requires c = subst (λ (l : List ℕ). IsMidst StandsAt false l c.args.
 pub returns-in-Some-clause-told : goal.returns-in-Some-clause-told
 returns-in-Some-clause-told c z id got h room = end_refused z got c.in-Some.error room (refusal_of z id got c.args.self c.in-Some.error c.in-Some.is h)
 
-pub returns-in-None-clause-told : goal.returns-in-None-clause-told
-returns-in-None-clause-told c z id got h room =
+pub returns-clause-told : goal.returns-clause-told
+returns-clause-told c z id got h room =
     end_told z id got c.args.self c.in-None.is h c.conclude.result
     (λ first before s fits. c.conclude.ensures first before (subst (λ (l : List ℕ). StandsAt first before false l c.args.self.judging) (sym c.as_slice.ensures.value) s) fits)
