@@ -1,10 +1,11 @@
--- What a refusal of a module in pieces tells as a number.
+-- What the answer of a module in pieces tells as a number.
 use Rattle.std.proofs.Common.{◌≡◌, ◌∙◌, ◌<◌, ◌≤◌, ℕ, List, ◌++◌, refl, arith}
 use Rattle.wasm_types.specs.decoding.Denials.{Denies}
 use Rattle.wasm_types.specs.decoding.ErrorValue.{ErrorValue}
 use Rattle.wasm_types.specs.decoding.declared.error.ErrorKind.{ErrorKind}
 use Rattle.wasm_types.specs.decoding.declared.error.ErrorKind.TheVariants.{EndOfData, MissingFeature, OutOfMemory, Failed, Other}
 use Rattle.wasm_module_validator_import_export_places.specs.rules.Accepts.{AcceptsUnder}
+use Rattle.wasm_module_validator_streaming.specs.Awaiting.{IsNotRefused}
 use Rattle.wasm_module_validator_streaming.specs.HandedOver.{RefusesFrom}
 use Rattle.durskeyl_c.specs.declared.settings.DurskeylSettings.{DurskeylSettings}
 use Rattle.durskeyl_c.specs.Settings.{settings_in, AreSettings}
@@ -35,6 +36,9 @@ refuted Other P other d = d
 
 module _ (s : DurskeylSettings) (got : List ℕ) where
   -- of the bytes that came so far
+  pub tells_going : IsNotRefused (settings_in s) got → TellsPiece 0 s got
+  tells_going h = record { going = λ _. h; invalid = λ other. absurd (other refl) }
+
   pub tells_refused : (n : ℕ) (e : ErrorValue) → n ≡ number_of e.kind → RefusesFrom (settings_in s) got e → TellsPiece n s got
   tells_refused n e is h = record {
     going = λ zero. let some = some_number e.kind in absurd (omega (arith, is, zero, some));

@@ -2,5 +2,5 @@
 pub mod LooseValues
 -- The place of a module.
 pub mod PlaceValues
--- What a refusal of a module in pieces tells.
+-- What the answer of a module in pieces tells.
 pub mod HandedPieces

@@ -96,7 +96,8 @@ pub extern "C" fn durskeyl_begin(
     ensures kind { fault.new.kind ≡ result }
     ensures text { IsEnded fault.new }
 {
-    let _before = taken(alloc, pieces);
+    // at once, so that two modules are never held
+    durskeyl_drop(alloc, pieces);
     let limits = limits_of(&settings.limits);
     let Some(features) = features_of(settings.features) else {
         bad_settings(fault);

@@ -46,6 +46,10 @@ module _ (z : Settings) (id : ValidatorId) (got : List ℕ) (p : ModuleInPieces)
   pub refused_came : (e : ErrorValue) (q : ModuleInPieces) → q.refused ≡ Some e → RefusesFrom z got e → vec_len q.pending.bytes ≤ q.most → Came z id got q
   refused_came e q some h held = record { judged = subst (IsJudgedOr z id got q) (sym some) h; held = held }
 
+  -- and so it is where nothing else changes
+  pub still_came : (e : ErrorValue) → (bytes : List ℕ) → p.refused ≡ Some e → Came z id got p → Came z id (got ++ bytes) p
+  still_came e bytes some c = record { judged = subst (IsJudgedOr z id (got ++ bytes) p) (sym some) (still_refused e bytes (refusal_of e some c)); held = c.held }
+
   -- out of memory is no verdict
   pub memory_refuses : (e : ErrorValue) → e.kind ≡ kinds.OutOfMemory → RefusesFrom z got e
   memory_refuses e k = λ more room. memory_denies z (got ++ more) e k

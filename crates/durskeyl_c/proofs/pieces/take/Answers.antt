@@ -1,7 +1,7 @@
 -- What the module says of the bytes that came.
 use Rattle.std.proofs.Common.{◌++◌}
 use Rattle.durskeyl_c.specs.Settings.{settings_in}
-use Rattle.durskeyl_c.proofs.HandedPieces.{tells_refused}
+use Rattle.durskeyl_c.proofs.HandedPieces.{tells_going, tells_refused}
 use Rattle.durskeyl_c.proofs.pieces.take.Goals as goal
 
 pub returns-in-Ok-clause-came : goal.returns-in-Ok-clause-came
@@ -9,6 +9,9 @@ returns-in-Ok-clause-came c s got h = (h.0, (h.1.0, c.take.ensures.came (setting
 
 pub returns-in-Err-clause-came : goal.returns-in-Err-clause-came
 returns-in-Err-clause-came c s got h = (h.0, (h.1.0, c.take.ensures.came (settings_in s) h.1.0 got h.1.1))
+
+pub returns-in-Ok-clause-told : goal.returns-in-Ok-clause-told
+returns-in-Ok-clause-told c s got h = tells_going s (got ++ c.args.bytes.now) (c.in-Ok.ensures.ok (settings_in s) h.1.0 got h.1.1)
 
 pub returns-in-Err-clause-told : goal.returns-in-Err-clause-told
 returns-in-Err-clause-told c s got h =
