@@ -31,6 +31,13 @@ fn put(pieces: &mut DurskeylPieces, it: Box<ModuleInPieces>)
     let _before = std::mem::replace(pieces, DurskeylPieces::of(it)).into_box();
 }
 
+/// Gives back the module that was begun, if one was.
+fn give_back(alloc: Global, pieces: &mut DurskeylPieces)
+    ensures { pieces.new.inside.value ≡ None }
+{
+    let _before = taken(alloc, pieces);
+}
+
 /// Takes the next bytes, and writes what the module answers.
 fn take(it: &mut ModuleInPieces, bytes: &[u8], fault: &mut DurskeylFault) -> u32
     requires { IsUnderWay it.old }
@@ -97,7 +104,7 @@ pub extern "C" fn durskeyl_begin(
     ensures text { IsEnded fault.new }
 {
     // at once, so that two modules are never held
-    durskeyl_drop(alloc, pieces);
+    give_back(alloc, pieces);
     let limits = limits_of(&settings.limits);
     let Some(features) = features_of(settings.features) else {
         bad_settings(fault);
@@ -191,5 +198,5 @@ pub extern "C" fn durskeyl_end(
 pub extern "C" fn durskeyl_drop(alloc: Global, pieces: &mut DurskeylPieces)
     ensures { pieces.new.inside.value ≡ None }
 {
-    let _before = taken(alloc, pieces);
+    give_back(alloc, pieces);
 }
