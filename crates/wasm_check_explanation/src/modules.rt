@@ -1,13 +1,14 @@
 //! Where in a module the fault is.
 ghost use Rattle.wasm_types.specs.settings.Limits.{IsWithinCeilings};
 
+use crate::bodies::{Found, find_in_body};
+use crate::faults::Fault;
 use crate::items::item_of;
 use crate::names::name_of;
 use crate::sections::{Part, part_of};
 use std::alloc::{AllocError, Global};
 use std::ops::Range;
-use wasm_operators_reader::OperatorsReader;
-use wasm_sections::{FunctionBody, ImportSectionReader, Parser, Payload, TypeRef};
+use wasm_sections::{ImportSectionReader, Parser, Payload, TypeRef};
 use wasm_types::{Error, Limits, WasmFeatures};
 
 /// How many functions a section imports.
@@ -26,57 +27,29 @@ fn functions_in(section: ImportSectionReader<'_>) -> u32 {
     count
 }
 
-/// Adds what is known of the operator at an offset, or of the one that cannot be read before it.
-fn operator_notes(
-    alloc: Global,
-    operators: &mut OperatorsReader<'_>,
-    length: usize,
-    offset: u64,
-    notes: &mut Vec<String>,
-) -> Result<(), AllocError> {
-    for number in 0..=length {
-        if operators.eof() {
-            return Ok(());
-        }
-        let start = operators.original_position();
-        let Ok(operator) = operators.read() else {
-            notes.push(format!(in alloc;
-                "operator {number} of the body, at 0x{start:x}, is misspelt or out of place"
-            )?)?;
-            return Ok(());
-        };
-        if offset < operators.original_position() {
-            let name = operator.info().name;
-            notes.push(format!(in alloc; "operator {number} of the body, {name} at 0x{start:x}")?)?;
-            return Ok(());
-        }
-    }
-    Ok(())
-}
-
 /// The notes of a body with the fault, of the function of this index among all of the module.
 fn body_notes(
     alloc: Global,
-    body: &FunctionBody<'_>,
+    features: WasmFeatures,
+    limits: Limits,
+    bytes: &[u8],
     index: u32,
-    name: Option<&str>,
-    offset: u64,
-) -> Result<Vec<String>, AllocError> {
+    fault: Fault,
+) -> Result<Vec<String>, AllocError>
+    requires within { IsWithinCeilings limits }
+{
     let mut notes = Vec::new(alloc);
-    match name {
-        Some(name) => {
-            notes.push(format!(in alloc; "in {}, function {index} `{name}`", Part::Code.name())?)?
-        }
-        None => notes.push(format!(in alloc; "in {}, function {index}", Part::Code.name())?)?,
+    let code = Part::Code.name();
+    match name_of(alloc, features, limits, bytes, index) {
+        Some(name) => notes.push(format!(in alloc; "in {code}, function {index} `{name}`")?)?,
+        None => notes.push(format!(in alloc; "in {code}, function {index}")?)?,
     }
-    match body.get_operators_reader() {
-        Ok(mut operators) => {
-            let length = body.as_bytes().len();
-            operator_notes(alloc, &mut operators, length, offset, &mut notes)?;
-        }
-        Err(_) => notes.push(format!(in alloc; "its locals are misspelt or too many")?)?,
-    }
-    notes.push(format!(in alloc; "rules: WebAssembly 3.0, validation, instructions")?)?;
+    let chapter = match find_in_body(alloc, features, limits, bytes, fault.offset, &mut notes)? {
+        Found::Nothing => "WebAssembly 3.0, validation, instructions",
+        Found::Rule => "WebAssembly 3.0, validation, instructions",
+        Found::Spelling => "WebAssembly 3.0, binary format, instructions",
+    };
+    notes.push(format!(in alloc; "rules: {}", fault.chapter(chapter))?)?;
     Ok(notes)
 }
 
@@ -88,14 +61,14 @@ fn part_notes(
     bytes: &[u8],
     part: Part,
     range: Range<u64>,
-    offset: u64,
+    fault: Fault,
 ) -> Result<Vec<String>, AllocError>
     requires within { IsWithinCeilings limits }
 {
     let mut notes = Vec::new(alloc);
     let name = part.name();
     let (start, end) = (range.start, range.end);
-    match item_of(alloc, features, limits, bytes, part, range, offset) {
+    match item_of(alloc, features, limits, bytes, part, range, fault.offset) {
         Some(item) => {
             let (number, count) = (item.number, item.count);
             notes.push(format!(in alloc;
@@ -104,18 +77,23 @@ fn part_notes(
         }
         None => notes.push(format!(in alloc; "in {name} (0x{start:x} to 0x{end:x})")?)?,
     }
-    notes.push(format!(in alloc; "rules: {}", part.chapter())?)?;
+    notes.push(format!(in alloc; "rules: {}", fault.chapter(part.chapter()))?)?;
     Ok(notes)
 }
 
 /// The notes of bytes that no parser takes for a part of a module, after this part.
-fn frame_notes(alloc: Global, after: Option<Part>) -> Result<Vec<String>, AllocError> {
+fn frame_notes(
+    alloc: Global,
+    after: Option<Part>,
+    fault: Fault,
+) -> Result<Vec<String>, AllocError> {
     let mut notes = Vec::new(alloc);
     match after {
         Some(part) => notes.push(format!(in alloc; "after {}", part.name())?)?,
         None => notes.push(format!(in alloc; "in {}", Part::Header.name())?)?,
     }
-    notes.push(format!(in alloc; "rules: WebAssembly 3.0, binary format, modules")?)?;
+    let chapter = fault.chapter("WebAssembly 3.0, binary format, modules");
+    notes.push(format!(in alloc; "rules: {chapter}")?)?;
     Ok(notes)
 }
 
@@ -149,12 +127,12 @@ fn payload_notes(
     bytes: &[u8],
     payload: &Payload<'_>,
     counted: Counted,
-    offset: u64,
+    fault: Fault,
 ) -> Result<Option<Vec<String>>, AllocError>
     requires within { IsWithinCeilings limits }
 {
     let (part, range) = part_of(payload);
-    if offset < range.start || range.end < offset {
+    if fault.offset < range.start || range.end < fault.offset {
         return Ok(None);
     }
     match payload {
@@ -163,14 +141,13 @@ fn payload_notes(
             unchecked_range: _,
             size: _,
         } => Ok(None),
-        Payload::CodeSectionEntry(body) => {
+        Payload::CodeSectionEntry(_) => {
             let index = counted.imported.saturating_add(counted.bodies);
-            let name = name_of(alloc, features, limits, bytes, index);
-            let notes = body_notes(alloc, body, index, name, offset)?;
+            let notes = body_notes(alloc, features, limits, bytes, index, fault)?;
             Ok(Some(notes))
         }
         _ => {
-            let notes = part_notes(alloc, features, limits, bytes, part, range, offset)?;
+            let notes = part_notes(alloc, features, limits, bytes, part, range, fault)?;
             Ok(Some(notes))
         }
     }
@@ -191,7 +168,7 @@ pub fn explain(
 ) -> Result<Vec<String>, AllocError>
     requires within { IsWithinCeilings limits }
 {
-    let offset = error.offset();
+    let fault = Fault::new(error);
     let mut parser = Parser::new(alloc, 0);
     parser.set_features(features);
     parser.set_limits(limits);
@@ -202,11 +179,11 @@ pub fn explain(
     };
     for payload in parser.parse_all(bytes) {
         let Ok(payload) = payload else {
-            return frame_notes(alloc, after);
+            return frame_notes(alloc, after, fault);
         };
         let (part, _range) = part_of(&payload);
         if let Some(notes) = payload_notes(
-            alloc, features, limits, bytes, &payload, counted, offset,
+            alloc, features, limits, bytes, &payload, counted, fault,
         )? {
             return Ok(notes);
         }
