@@ -8,10 +8,11 @@ use wasm_module_validator::{
     FuncToValidate, FuncValidator, FuncValidatorAllocations, TypesRef, ValidPayload, Validator,
     ValidatorId, ValidatorResources,
 };
-use wasm_operator_validator::{OperatorArity, WasmModuleResources};
+use wasm_operator_validator::OperatorArity;
+use wasm_operator_validator_state::blocks::function_at;
 use wasm_operators_reader::{Operator, OperatorsReader};
 use wasm_sections::{FunctionBody, Parser, Payload};
-use wasm_types::{CompositeInnerType, Limits, WasmFeatures};
+use wasm_types::{Limits, ValType, WasmFeatures};
 
 /// What was found of a fault in a body.
 #[derive(Clone, Copy, Debug, PartialEq, Eq)]
@@ -41,22 +42,35 @@ fn type_note(
     type_index: u32,
     notes: &mut Vec<String>,
 ) -> Result<(), AllocError> {
-    let Some(ty) = resources.sub_type_at(type_index) else {
+    let Some(function) = function_at(resources, type_index) else {
         return Ok(());
     };
-    match &ty.composite_type.inner {
-        CompositeInnerType::Func(function) => {
-            let text = function_text(alloc, types, function)?;
-            notes.push(format!(in alloc; "of type {text}")?)?;
-            Ok(())
-        }
-        CompositeInnerType::Array(_) => Ok(()),
-        CompositeInnerType::Struct(_) => Ok(()),
-        CompositeInnerType::Cont(_) => Ok(()),
-    }
+    let text = function_text(alloc, types, function)?;
+    let text = format!(in alloc; "of type {text}")?;
+    notes.push(text)?;
+    Ok(())
 }
 
-/// Adds how many operands an operator takes and gives here, and of which types it takes them, if they are told.
+/// How many operands an operator takes and gives here, and of which types it takes them, if they are told.
+fn counts_text(
+    alloc: Global,
+    types: &TypesRef<'_>,
+    wanted: Option<Vec<ValType>>,
+    takes: u32,
+    gives: u32,
+) -> Result<String, AllocError> {
+    let noun = if takes == 1 { "operand" } else { "operands" };
+    let Some(wanted) = wanted else {
+        return format!(in alloc; "it takes {takes} {noun}; gives {gives}");
+    };
+    if takes == 0 || wanted.len() != takes as usize {
+        return format!(in alloc; "it takes {takes} {noun}; gives {gives}");
+    }
+    let text = types_text(alloc, types, wanted.as_slice())?;
+    format!(in alloc; "it takes {takes} {noun}, top first:{text}; gives {gives}")
+}
+
+/// Adds how many operands an operator takes and gives here, if that is told.
 fn counts_note(
     alloc: Global,
     types: &TypesRef<'_>,
@@ -67,17 +81,9 @@ fn counts_note(
     let Some((takes, gives)) = operator.operator_arity(validator) else {
         return Ok(());
     };
-    let noun = if takes == 1 { "operand" } else { "operands" };
-    if takes > 0 {
-        if let Some(wanted) = wanted_types(alloc, validator, operator, takes)? {
-            let text = types_text(alloc, types, wanted.as_slice())?;
-            notes.push(format!(in alloc;
-                "it takes {takes} {noun}, top first:{text}; gives {gives}"
-            )?)?;
-            return Ok(());
-        }
-    }
-    notes.push(format!(in alloc; "it takes {takes} {noun}; gives {gives}")?)?;
+    let wanted = wanted_types(alloc, validator, operator, takes)?;
+    let text = counts_text(alloc, types, wanted, takes, gives)?;
+    notes.push(text)?;
     Ok(())
 }
 
@@ -88,23 +94,52 @@ fn stack_note(
     validator: &FuncValidator<ValidatorResources>,
     notes: &mut Vec<String>,
 ) -> Result<(), AllocError> {
-    if let Some(text) = stack_text(alloc, types, validator)? {
-        notes.push(text)?;
-    }
+    let Some(text) = stack_text(alloc, types, validator)? else {
+        return Ok(());
+    };
+    notes.push(text)?;
     Ok(())
 }
 
-/// Adds that the bytes of a body end within a frame, if they do.
+/// Adds that the bytes of a body end within a frame of this name, if one is open.
 fn end_note(
     alloc: Global,
-    validator: &FuncValidator<ValidatorResources>,
+    innermost: Option<&str>,
     notes: &mut Vec<String>,
 ) -> Result<Found, AllocError> {
-    let Some(name) = innermost_name(validator) else {
+    let Some(name) = innermost else {
         return Ok(Found::Nothing);
     };
-    notes.push(format!(in alloc; "the body ends within the {name}")?)?;
+    let text = format!(in alloc; "the body ends within the {name}")?;
+    notes.push(text)?;
     Ok(Found::Spelling)
+}
+
+/// Adds that an operator of this number cannot be read, at this offset.
+fn misspelt_note(
+    alloc: Global,
+    number: usize,
+    start: u64,
+    notes: &mut Vec<String>,
+) -> Result<(), AllocError> {
+    let text = format!(in alloc;
+        "operator {number} of the body, at 0x{start:x}, is misspelt or out of place"
+    )?;
+    notes.push(text)?;
+    Ok(())
+}
+
+/// Adds the name of an operator of this number, and its offset.
+fn name_note(
+    alloc: Global,
+    number: usize,
+    name: &str,
+    start: u64,
+    notes: &mut Vec<String>,
+) -> Result<(), AllocError> {
+    let text = format!(in alloc; "operator {number} of the body, {name} at 0x{start:x}")?;
+    notes.push(text)?;
+    Ok(())
 }
 
 /// Adds what is known of the operator of this number, which begins at this offset.
@@ -117,10 +152,50 @@ fn operator_notes(
     start: u64,
     notes: &mut Vec<String>,
 ) -> Result<(), AllocError> {
-    let name = operator.info().name;
-    notes.push(format!(in alloc; "operator {number} of the body, {name} at 0x{start:x}")?)?;
+    name_note(alloc, number, operator.info().name, start, notes)?;
     counts_note(alloc, types, validator, operator, notes)?;
     stack_note(alloc, types, validator, notes)
+}
+
+/// Tells the validator of an operator, and adds what is known of it if it is refused.
+fn try_operator(
+    alloc: Global,
+    types: &TypesRef<'_>,
+    validator: &mut FuncValidator<ValidatorResources>,
+    operator: Operator<'_>,
+    number: usize,
+    start: u64,
+    notes: &mut Vec<String>,
+) -> Result<Step, AllocError> {
+    let name = operator.info().name;
+    if validator.try_op(start, operator).is_ok() {
+        return Ok(Step::Goes);
+    }
+    name_note(alloc, number, name, start, notes)?;
+    stack_note(alloc, types, validator, notes)?;
+    Ok(Step::Ends(Found::Rule))
+}
+
+/// Takes the operator of this number: if it has this offset, cannot be read or is refused, what is known of it is added.
+fn take_operator(
+    alloc: Global,
+    types: &TypesRef<'_>,
+    validator: &mut FuncValidator<ValidatorResources>,
+    operators: &mut OperatorsReader<'_>,
+    number: usize,
+    offset: u64,
+    notes: &mut Vec<String>,
+) -> Result<Step, AllocError> {
+    let start = operators.original_position();
+    let Ok(operator) = operators.read() else {
+        misspelt_note(alloc, number, start, notes)?;
+        return Ok(Step::Ends(Found::Spelling));
+    };
+    if operators.original_position() <= offset {
+        return try_operator(alloc, types, validator, operator, number, start, notes);
+    }
+    operator_notes(alloc, types, validator, &operator, number, start, notes)?;
+    Ok(Step::Ends(Found::Rule))
 }
 
 /// Adds what is known of the operator at an offset: or of the first that cannot be read, or that the validator refuses, before it.
@@ -134,31 +209,25 @@ fn find_operator(
     notes: &mut Vec<String>,
 ) -> Result<Found, AllocError> {
     for number in 0..=length {
-        let start = operators.original_position();
-        if offset < start {
+        if offset < operators.original_position() {
             return Ok(Found::Nothing);
         }
         if operators.eof() {
-            return end_note(alloc, validator, notes);
+            return end_note(alloc, innermost_name(validator), notes);
         }
-        let Ok(operator) = operators.read() else {
-            notes.push(format!(in alloc;
-                "operator {number} of the body, at 0x{start:x}, is misspelt or out of place"
-            )?)?;
-            return Ok(Found::Spelling);
-        };
-        if offset < operators.original_position() {
-            operator_notes(alloc, types, validator, &operator, number, start, notes)?;
-            return Ok(Found::Rule);
-        }
-        let name = operator.info().name;
-        if validator.try_op(start, operator).is_err() {
-            notes.push(format!(in alloc; "operator {number} of the body, {name} at 0x{start:x}")?)?;
-            stack_note(alloc, types, validator, notes)?;
-            return Ok(Found::Rule);
+        match take_operator(alloc, types, validator, operators, number, offset, notes)? {
+            Step::Goes => (),
+            Step::Ends(found) => return Ok(found),
         }
     }
     Ok(Found::Nothing)
+}
+
+/// Adds a text that every module has alike.
+fn plain_note(alloc: Global, text: &str, notes: &mut Vec<String>) -> Result<(), AllocError> {
+    let text = format!(in alloc; "{text}")?;
+    notes.push(text)?;
+    Ok(())
 }
 
 /// Adds what is known of a body that has this offset, at a validator that was just made for it.
@@ -170,15 +239,17 @@ fn body_notes(
     offset: u64,
     notes: &mut Vec<String>,
 ) -> Result<Found, AllocError> {
-    let mut reader = body.get_binary_reader();
     if body.get_binary_reader_for_operators().is_err() {
-        notes.push(format!(in alloc; "its locals are misspelt or too many")?)?;
+        plain_note(alloc, "its locals are misspelt or too many", notes)?;
         return Ok(Found::Spelling);
     }
+    let mut reader = body.get_binary_reader();
     if validator.read_locals(&mut reader).is_err() {
-        notes.push(format!(in alloc;
-            "its locals are too many, or of types that may not be there"
-        )?)?;
+        plain_note(
+            alloc,
+            "its locals are too many, or of types that may not be there",
+            notes,
+        )?;
         return Ok(Found::Rule);
     }
     let mut operators = OperatorsReader::new(alloc, reader);

@@ -1,4 +1,5 @@
 //! Types as the text format writes them, and the stack of operands.
+ghost use Rattle.std.specs.Prelude.{◌≤◌};
 
 use std::alloc::{AllocError, Global};
 use wasm_module_validator::{FuncValidator, TypesRef, ValidatorResources};
@@ -61,6 +62,12 @@ fn value_text(alloc: Global, types: &TypesRef<'_>, ty: ValType) -> Result<String
     }
 }
 
+/// Adds a word to a text, after a space.
+fn add_word(text: &mut String, word: &str) -> Result<(), AllocError> {
+    text.push_str(" ")?;
+    text.push_str(word)
+}
+
 /// Types between parentheses, after a word.
 fn list_text(
     alloc: Global,
@@ -75,7 +82,7 @@ fn list_text(
             break;
         }
         let ty = value_text(alloc, types, *ty)?;
-        text = format!(in alloc; "{text} {ty}")?;
+        add_word(&mut text, ty.as_str())?;
     }
     text.push_str(")")?;
     Ok(text)
@@ -94,7 +101,7 @@ pub(crate) fn types_text(
             break;
         }
         let ty = value_text(alloc, types, *ty)?;
-        text = format!(in alloc; "{text} {ty}")?;
+        add_word(&mut text, ty.as_str())?;
     }
     Ok(text)
 }
@@ -105,18 +112,20 @@ pub(crate) fn function_text(
     types: &TypesRef<'_>,
     function: &FuncType,
 ) -> Result<String, AllocError> {
-    if function.params().is_empty() {
-        if function.results().is_empty() {
-            return format!(in alloc; "(func)");
-        }
-        return list_text(alloc, types, "result", function.results());
+    let (params, results) = (function.params(), function.results());
+    if params.is_empty() && results.is_empty() {
+        return format!(in alloc; "(func)");
     }
-    let params = list_text(alloc, types, "param", function.params())?;
-    if function.results().is_empty() {
-        return Ok(params);
+    if params.is_empty() {
+        return list_text(alloc, types, "result", results);
     }
-    let results = list_text(alloc, types, "result", function.results())?;
-    format!(in alloc; "{params} {results}")
+    let mut text = list_text(alloc, types, "param", params)?;
+    if results.is_empty() {
+        return Ok(text);
+    }
+    let results = list_text(alloc, types, "result", results)?;
+    add_word(&mut text, results.as_str())?;
+    Ok(text)
 }
 
 /// What a frame is called, which is the function's own or one within it.
@@ -136,6 +145,26 @@ fn frame_name(kind: FrameKind, is_outermost: bool) -> &'static str {
     }
 }
 
+/// What is known of the operand that lies under so many others.
+fn known_at(validator: &FuncValidator<ValidatorResources>, depth: u32) -> Option<ValType> {
+    match validator.get_operand_type(depth as usize) {
+        Some(known) => known,
+        None => None,
+    }
+}
+
+/// The type of an operand, if it is known.
+fn operand_text(
+    alloc: Global,
+    types: &TypesRef<'_>,
+    known: Option<ValType>,
+) -> Result<String, AllocError> {
+    match known {
+        Some(ty) => value_text(alloc, types, ty),
+        None => format!(in alloc; "unknown"),
+    }
+}
+
 /// What is known of so many operands, the topmost first: as many as are told, and whether there are more.
 fn operands_text(
     alloc: Global,
@@ -152,25 +181,73 @@ fn operands_text(
             text.push_str(" ..")?;
             break;
         }
-        let known = match validator.get_operand_type(depth as usize) {
-            Some(known) => known,
-            None => None,
-        };
-        let operand = match known {
-            Some(ty) => value_text(alloc, types, ty)?,
-            None => format!(in alloc; "unknown")?,
-        };
-        text = format!(in alloc; "{text} {operand}")?;
+        let operand = operand_text(alloc, types, known_at(validator, depth))?;
+        add_word(&mut text, operand.as_str())?;
     }
     Ok(text)
+}
+
+/// An open frame.
+#[derive(Clone, Copy, Debug)]
+struct Opened {
+    /// What it is called.
+    name: &'static str,
+    /// Whether its code cannot be reached.
+    is_unreachable: bool,
+    /// How many operands are below it.
+    height: usize,
+}
+
+/// The innermost open frame, if one is open.
+fn innermost(validator: &FuncValidator<ValidatorResources>) -> Option<Opened> {
+    let is_outermost = validator.control_stack_height() == 1;
+    let frame = validator.get_control_frame(0)?;
+    Some(Opened {
+        name: frame_name(frame.kind, is_outermost),
+        is_unreachable: frame.unreachable,
+        height: frame.height,
+    })
 }
 
 /// What the innermost open frame is called, if one is open.
 pub(crate) fn innermost_name(
     validator: &FuncValidator<ValidatorResources>,
 ) -> Option<&'static str> {
-    let frame = validator.get_control_frame(0)?;
-    Some(frame_name(frame.kind, validator.control_stack_height() == 1))
+    match innermost(validator) {
+        Some(opened) => Some(opened.name),
+        None => None,
+    }
+}
+
+/// How many of so many operands are below a frame of this height.
+fn count_below(frame: usize, operands: u32) -> u32
+    ensures { result ≤ operands }
+{
+    if frame < operands as usize {
+        return frame as u32;
+    }
+    operands
+}
+
+/// The line of a frame, whose operands have this text, with so many operands below it.
+fn frame_text(
+    alloc: Global,
+    opened: Opened,
+    operands: &str,
+    below: u32,
+) -> Result<String, AllocError> {
+    let name = opened.name;
+    let reached = if opened.is_unreachable {
+        " (unreachable)"
+    } else {
+        ""
+    };
+    if below == 0 {
+        return format!(in alloc; "on the stack of the {name}{reached}, top first:{operands}");
+    }
+    format!(in alloc;
+        "on the stack of the {name}{reached}, top first:{operands}; below the {name}: {below} more"
+    )
 }
 
 /// The operands of the innermost open frame, if one is open, and how many are below them.
@@ -179,25 +256,12 @@ pub(crate) fn stack_text(
     types: &TypesRef<'_>,
     validator: &FuncValidator<ValidatorResources>,
 ) -> Result<Option<String>, AllocError> {
-    let Some(frame) = validator.get_control_frame(0) else {
+    let Some(opened) = innermost(validator) else {
         return Ok(None);
     };
-    let name = frame_name(frame.kind, validator.control_stack_height() == 1);
-    let reached = if frame.unreachable {
-        " (unreachable)"
-    } else {
-        ""
-    };
     let height = validator.operand_stack_height();
-    let below = if frame.height < height as usize {
-        frame.height as u32
-    } else {
-        height
-    };
+    let below = count_below(opened.height, height);
     let operands = operands_text(alloc, types, validator, height - below)?;
-    let mut text = format!(in alloc; "on the stack of the {name}{reached}, top first:{operands}")?;
-    if below > 0 {
-        text = format!(in alloc; "{text}; below the {name}: {below} more")?;
-    }
+    let text = frame_text(alloc, opened, operands.as_str(), below)?;
     Ok(Some(text))
 }

@@ -160,6 +160,70 @@ fn of_prefix(name: &str) -> Option<ValType> {
     None
 }
 
+/// So many times this type.
+fn repeated(alloc: Global, ty: ValType, takes: u32) -> Result<Vec<ValType>, AllocError> {
+    let mut types = Vec::new(alloc);
+    for _turn in 0..takes {
+        types.push(ty)?;
+    }
+    Ok(types)
+}
+
+/// A list, and a type on top of it if there is one.
+fn stacked(
+    alloc: Global,
+    list: &[ValType],
+    top: Option<ValType>,
+) -> Result<Vec<ValType>, AllocError> {
+    let mut types = Vec::new(alloc);
+    types.extend_from_slice(list)?;
+    match top {
+        Some(top) => types.push(top)?,
+        None => (),
+    }
+    Ok(types)
+}
+
+/// What an operator on numbers takes, which takes so many operands.
+fn taken_by_number(
+    alloc: Global,
+    name: &str,
+    takes: u32,
+) -> Result<Option<Vec<ValType>>, AllocError> {
+    let Some(ty) = of_number(name) else {
+        return Ok(None);
+    };
+    let types = repeated(alloc, ty, takes)?;
+    Ok(Some(types))
+}
+
+/// What an operator on variables takes.
+fn taken_by_variable(
+    alloc: Global,
+    validator: &FuncValidator<ValidatorResources>,
+    op: &MemoryOperator,
+) -> Result<Option<Vec<ValType>>, AllocError> {
+    let Some(ty) = of_variable(validator, op) else {
+        return Ok(None);
+    };
+    let types = repeated(alloc, ty, 1)?;
+    Ok(Some(types))
+}
+
+/// What an operator of control takes.
+fn taken_by_control(
+    alloc: Global,
+    validator: &FuncValidator<ValidatorResources>,
+    op: &ControlOperator<'_>,
+) -> Result<Option<Vec<ValType>>, AllocError> {
+    let top = topmost(validator, op);
+    let Some(list) = listed(validator, op) else {
+        return Ok(None);
+    };
+    let types = stacked(alloc, list, top)?;
+    Ok(Some(types))
+}
+
 /// The types of the operands that an operator takes, the topmost last, if they are told; it takes so many.
 pub(crate) fn wanted_types(
     alloc: Global,
@@ -167,32 +231,10 @@ pub(crate) fn wanted_types(
     operator: &Operator<'_>,
     takes: u32,
 ) -> Result<Option<Vec<ValType>>, AllocError> {
-    let mut types = Vec::new(alloc);
     match operator {
-        Operator::Numeric(op) => {
-            let Some(ty) = of_number(op.info().name) else {
-                return Ok(None);
-            };
-            for _turn in 0..takes {
-                types.push(ty)?;
-            }
-        }
-        Operator::Memory(op) => {
-            let Some(ty) = of_variable(validator, op) else {
-                return Ok(None);
-            };
-            types.push(ty)?;
-        }
-        Operator::Control(op) => {
-            let Some(list) = listed(validator, op) else {
-                return Ok(None);
-            };
-            types.extend_from_slice(list)?;
-            if let Some(top) = topmost(validator, op) {
-                types.push(top)?;
-            }
-        }
-        _ => return Ok(None),
+        Operator::Numeric(op) => taken_by_number(alloc, op.info().name, takes),
+        Operator::Memory(op) => taken_by_variable(alloc, validator, op),
+        Operator::Control(op) => taken_by_control(alloc, validator, op),
+        _ => Ok(None),
     }
-    Ok(Some(types))
 }
