@@ -152,7 +152,8 @@ fn operator_notes(
     start: u64,
     notes: &mut Vec<String>,
 ) -> Result<(), AllocError> {
-    name_note(alloc, number, operator.info().name, start, notes)?;
+    let name = operator.info().name;
+    name_note(alloc, number, name, start, notes)?;
     counts_note(alloc, types, validator, operator, notes)?;
     stack_note(alloc, types, validator, notes)
 }
@@ -213,7 +214,8 @@ fn find_operator(
             return Ok(Found::Nothing);
         }
         if operators.eof() {
-            return end_note(alloc, innermost_name(validator), notes);
+            let innermost = innermost_name(validator);
+            return end_note(alloc, innermost, notes);
         }
         match take_operator(alloc, types, validator, operators, number, offset, notes)? {
             Step::Goes => (),

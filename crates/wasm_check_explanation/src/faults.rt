@@ -14,18 +14,25 @@ pub(crate) struct Fault {
 /// The chapter of the standard on limits.
 const LIMITS: &str = "WebAssembly 3.0, appendix, implementation limitations";
 
-/// Whether a message is that of a limit.
+/// Whether a message is that of a limit. One with a name that the module chose, which stands between such marks, is not.
 fn is_of_limit(message: &str) -> bool {
-    if message.starts_with("implementation limit") || message.starts_with("too many locals") {
+    if message.find("`").is_some() {
+        return false;
+    }
+    if message.find("implementation limit").is_some() {
         return true;
     }
-    if message.starts_with("sub type hierarchy too deep") {
+    if message.find(" count exceeds limit of ").is_some() {
         return true;
     }
-    if message.starts_with("effective type size exceeds the limit") {
-        return true;
-    }
-    message.find(" count exceeds limit of ").is_some()
+    is_of_sum(message)
+}
+
+/// Whether a message is that of a limit on a sum or on a depth.
+fn is_of_sum(message: &str) -> bool {
+    message.starts_with("too many locals")
+        || message.starts_with("sub type hierarchy too deep")
+        || message.starts_with("effective type size exceeds the limit")
 }
 
 impl Fault {
