@@ -161,10 +161,10 @@ fn of_prefix(name: &str) -> Option<ValType> {
 }
 
 /// So many times this type.
-fn repeated(alloc: Global, ty: ValType, takes: u32) -> Result<Vec<ValType>, AllocError> {
+fn repeated(alloc: Global, ty: &ValType, takes: u32) -> Result<Vec<ValType>, AllocError> {
     let mut types = Vec::new(alloc);
     for _turn in 0..takes {
-        types.push(ty)?;
+        types.push(*ty)?;
     }
     Ok(types)
 }
@@ -193,7 +193,7 @@ fn taken_by_number(
     let Some(ty) = of_number(name) else {
         return Ok(None);
     };
-    let types = repeated(alloc, ty, takes)?;
+    let types = repeated(alloc, &ty, takes)?;
     Ok(Some(types))
 }
 
@@ -206,7 +206,7 @@ fn taken_by_variable(
     let Some(ty) = of_variable(validator, op) else {
         return Ok(None);
     };
-    let types = repeated(alloc, ty, 1)?;
+    let types = repeated(alloc, &ty, 1)?;
     Ok(Some(types))
 }
 
