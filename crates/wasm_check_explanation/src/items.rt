@@ -14,14 +14,29 @@ pub(crate) struct Numbered {
     pub(crate) count: u32,
 }
 
-/// The last item that begins at this offset or before it; or the one that cannot be read.
+/// What stands at an offset in a section.
+#[derive(Clone, Copy, Debug)]
+pub(crate) struct Place {
+    /// The item, if there is one.
+    pub(crate) item: Option<Numbered>,
+    /// Whether it cannot be read.
+    pub(crate) is_unread: bool,
+}
+
+/// No item.
+const NOWHERE: Place = Place {
+    item: None,
+    is_unread: false,
+};
+
+/// The last item that begins at this offset or before it; or the one that cannot be read, by an error at this offset.
 fn item_at<'a, T: FromReader<'a> + Drop + 'a>(
     alloc: Global,
     reader: BinaryReader<'a>,
     offset: u64,
-) -> Option<Numbered> {
+) -> Place {
     let Ok(section) = SectionLimited::<'a, T>::new(alloc, reader) else {
-        return None;
+        return NOWHERE;
     };
     let count = section.count();
     let mut begun = 0;
@@ -32,19 +47,35 @@ fn item_at<'a, T: FromReader<'a> + Drop + 'a>(
                     break;
                 }
             }
-            Err(_) => return item_of_count(begun, count),
+            Err(error) => {
+                if error.offset() == offset {
+                    return unread(begun, count);
+                }
+                break;
+            }
         }
         if begun < u32::MAX {
             begun += 1;
         }
     }
     if begun == 0 {
-        return None;
+        return NOWHERE;
     }
-    item_of_count(begun - 1, count)
+    Place {
+        item: item_of_count(begun - 1, count),
+        is_unread: false,
+    }
 }
 
-// An item, if there is one of this number.
+/// The item of this number, which cannot be read.
+fn unread(number: u32, count: u32) -> Place {
+    Place {
+        item: item_of_count(number, count),
+        is_unread: true,
+    }
+}
+
+/// An item, if there is one of this number.
 fn item_of_count(number: u32, count: u32) -> Option<Numbered> {
     if number < count {
         return Some(Numbered { number, count });
@@ -53,7 +84,7 @@ fn item_of_count(number: u32, count: u32) -> Option<Numbered> {
 }
 
 /// Which item of this part of these bytes stands at the offset, if the part has items.
-pub(crate) fn item_of(
+pub(crate) fn place_of(
     alloc: Global,
     features: WasmFeatures,
     limits: Limits,
@@ -61,12 +92,14 @@ pub(crate) fn item_of(
     part: Part,
     range: Range<u64>,
     offset: u64,
-) -> Option<Numbered>
+) -> Place
     requires within { IsWithinCeilings limits }
 {
-    let contents = bytes.get(range.start as usize..range.end as usize)?;
+    let Some(contents) = bytes.get(range.start as usize..range.end as usize) else {
+        return NOWHERE;
+    };
     if range.start >= 0x1_0000_0000 || contents.len() >= 0x1_0000_0000 {
-        return None;
+        return NOWHERE;
     }
     let reader = BinaryReader::new_limited(contents, range.start, features, limits);
     match part {
@@ -80,6 +113,6 @@ pub(crate) fn item_of(
         Part::Exports => item_at::<Export<'_>>(alloc, reader, offset),
         Part::Elements => item_at::<Element<'_>>(alloc, reader, offset),
         Part::Data => item_at::<Data<'_>>(alloc, reader, offset),
-        _ => None,
+        _ => NOWHERE,
     }
 }

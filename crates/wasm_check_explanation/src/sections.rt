@@ -64,10 +64,29 @@ impl Part {
             Part::Elements => "WebAssembly 3.0, validation, modules, element segments",
             Part::Data => "WebAssembly 3.0, validation, modules, data segments",
             Part::Code => "WebAssembly 3.0, validation, modules, functions",
-            Part::Header => "WebAssembly 3.0, binary format, modules",
+            _ => self.spelling(),
+        }
+    }
+
+    /// The chapter of the standard that has its bytes.
+    pub(crate) fn spelling(self) -> &'static str {
+        match self {
+            Part::Types => "WebAssembly 3.0, binary format, modules, type section",
+            Part::Imports => "WebAssembly 3.0, binary format, modules, import section",
+            Part::Functions => "WebAssembly 3.0, binary format, modules, function section",
+            Part::Tables => "WebAssembly 3.0, binary format, modules, table section",
+            Part::Memories => "WebAssembly 3.0, binary format, modules, memory section",
+            Part::Tags => "WebAssembly 3.0, binary format, modules, tag section",
+            Part::Globals => "WebAssembly 3.0, binary format, modules, global section",
+            Part::Exports => "WebAssembly 3.0, binary format, modules, export section",
+            Part::Start => "WebAssembly 3.0, binary format, modules, start section",
+            Part::Elements => "WebAssembly 3.0, binary format, modules, element section",
             Part::DataCount => "WebAssembly 3.0, binary format, modules, data count section",
+            Part::Data => "WebAssembly 3.0, binary format, modules, data section",
+            Part::Code => "WebAssembly 3.0, binary format, modules, code section",
             Part::Custom => "WebAssembly 3.0, binary format, modules, custom section",
             Part::Unknown => "WebAssembly 3.0, binary format, modules, sections",
+            Part::Header => "WebAssembly 3.0, binary format, modules",
             Part::End => "WebAssembly 3.0, binary format, modules",
         }
     }
