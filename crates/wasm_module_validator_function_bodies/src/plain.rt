@@ -8,7 +8,9 @@ ghost use Rattle.wasm_module_validator_function_bodies.specs.Plain.{IsNumberByte
 
 use std::alloc::Global;
 use wasm_operator_validator_driver::WasmModuleResources;
-use wasm_operator_validator_fast_path::{Known, Room, Sig, Tables, known_of, part};
+use wasm_operator_validator_fast_path::{
+    Known, Room, ShapeTable, Sig, Tables, code_at, known_of, part, reference_at,
+};
 use wasm_operators_bodies::FunctionBody;
 use wasm_types::{Limits, WasmFeatures};
 use wasm_types_decoding::short_u32_at;
@@ -34,7 +36,7 @@ impl PlainJudge {
         ensures { IsJudgeOf (R.meaning resources.now).«module» features.0 result }
     {
         if allows(features) {
-            if let Some(known) = known_of(alloc, resources, most) {
+            if let Some(known) = known_of(alloc, resources, most, has_references(features)) {
                 return PlainJudge {
                     tables: first_tables(alloc, known, features),
                     room: Room::new(alloc),
@@ -78,7 +80,7 @@ impl PlainJudge {
         let Some(start) = begin(&mut self.tables, ty, bytes, limits) else {
             return false;
         };
-        self.room.accepts(&self.tables, bytes, start)
+        self.room.accepts(resources, &self.tables, bytes, start)
     }
 }
 
@@ -97,6 +99,7 @@ fn first_tables(alloc: Global, known: Known, features: WasmFeatures) -> Tables
             result_count: 0,
         },
         features,
+        shapes: ShapeTable::new(),
     }
 }
 
@@ -109,7 +112,17 @@ fn nothing_known(alloc: Global) -> Known {
         globals: Vec::new(alloc),
         memory: false,
         table: false,
+        shapes: Vec::new(alloc),
+        fields: Vec::new(alloc),
+        references: false,
     }
+}
+
+// Whether these are features that references ask.
+fn has_references(features: WasmFeatures) -> bool {
+    features.reference_types() && features.function_references() && features.gc() && features.exceptions() && features.tail_call()
+        && features.bulk_memory() && features.gc_types() && !features.custom_descriptors() && !features.shared_everything_threads()
+        && !features.stack_switching() && !features.legacy_exceptions()
 }
 
 // Whether these are features that the loop asks.
@@ -147,7 +160,7 @@ fn begin(tables: &mut Tables, ty: u32, bytes: &[u8], limits: Limits) -> Option<u
     let Ok(()) = tables.locals.extend_from_slice(params) else {
         return None;
     };
-    let Some(start) = take_locals(&mut tables.locals, bytes, most) else {
+    let Some(start) = take_locals(tables, bytes, most) else {
         return None;
     };
     if tables.locals.as_slice().len() > limits.locals as usize {
@@ -159,7 +172,7 @@ fn begin(tables: &mut Tables, ty: u32, bytes: &[u8], limits: Limits) -> Option<u
 
 // Puts the locals at the front of a body behind those that there are, as codes, and gives the offset behind them, where there are no more
 // than so many then.
-fn take_locals(locals: &mut Vec<u8>, bytes: &[u8], most: usize) -> Option<usize>
+fn take_locals(tables: &mut Tables, bytes: &[u8], most: usize) -> Option<usize>
     ensures { IfSome result (TakesAll bytes.now locals.old.items locals.new.items) }
 {
     let Some((count, first)) = short_u32_at(bytes, 0) else {
@@ -167,7 +180,7 @@ fn take_locals(locals: &mut Vec<u8>, bytes: &[u8], most: usize) -> Option<usize>
     };
     let mut end = first;
     for _ in 0..count {
-        let Some(next) = take_group(locals, bytes, end, most) else {
+        let Some(next) = take_group(tables, bytes, end, most) else {
             return None;
         };
         end = next;
@@ -176,7 +189,7 @@ fn take_locals(locals: &mut Vec<u8>, bytes: &[u8], most: usize) -> Option<usize>
 }
 
 // Puts one group of locals behind those that there are.
-fn take_group(locals: &mut Vec<u8>, bytes: &[u8], at: usize, most: usize) -> Option<usize>
+fn take_group(tables: &mut Tables, bytes: &[u8], at: usize, most: usize) -> Option<usize>
     requires { at ≤ length bytes.now }
     ensures { IfSome result (TakesGroup bytes.now at locals.old.items locals.new.items) }
 {
@@ -186,21 +199,33 @@ fn take_group(locals: &mut Vec<u8>, bytes: &[u8], at: usize, most: usize) -> Opt
     if middle >= bytes.len() {
         return None;
     }
-    let Some(code) = number_at(bytes[middle]) else {
-        return None;
+    let (code, end) = match number_at(bytes[middle]) {
+        Some(code) => (code as u32, middle + 1),
+        None => {
+            let Some((place, end)) = reference_at(tables, bytes, middle) else {
+                return None;
+            };
+            let Some(code) = code_at(tables, place) else {
+                return None;
+            };
+            if code % 2 == 1 {
+                return None;
+            }
+            (code, end)
+        }
     };
-    let held = locals.as_slice().len();
+    let held = tables.locals.as_slice().len();
     if held > most || count as usize > most - held {
         return None;
     }
-    if !put_times(locals, count, code) {
+    if !put_times(&mut tables.locals, count, code) {
         return None;
     }
-    Some(middle + 1)
+    Some(end)
 }
 
 // Puts so many of one code behind the others.
-fn put_times(locals: &mut Vec<u8>, count: u32, code: u8) -> bool
+fn put_times(locals: &mut Vec<u32>, count: u32, code: u32) -> bool
     ensures { result ≡ true → locals.new.items ≡ locals.old.items ++ replicate count code }
 {
     for i in 0..count {

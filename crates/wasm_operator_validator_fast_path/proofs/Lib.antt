@@ -7,3 +7,4 @@ pub mod Frames
 pub mod Coded
 pub mod Knowing
 pub mod Indexed
+pub mod Reaching

@@ -12,10 +12,11 @@ ghost use Rattle.wasm_operator_validator_rules.specs.Context.{Context, IsBlockTy
 ghost use Rattle.wasm_operator_validator_rules.specs.Typed.{MayClose};
 ghost use Rattle.wasm_operator_validator_fast_path.specs.Tables.{Fits, signature_in};
 
+use crate::codes::reference_at;
 use crate::lookups::part;
 use crate::stack::Stack;
 use crate::tables::{Open, Opens, Sig, Tables};
-use wasm_operator_validator_state::FrameKind;
+use wasm_operator_validator_state::{FrameKind, WasmModuleResources};
 use wasm_types_decoding::short_s33_at;
 
 // Whether a number that is not negative begins with this byte.
@@ -55,6 +56,20 @@ fn block_by_index(tables: &Tables, bytes: &[u8], at: usize) -> Option<(Sig, usiz
     Some((sig, end))
 }
 
+// The signature of a block of a reference, or by the index of its type.
+#[inline(never)]
+fn other_block_at(tables: &Tables, bytes: &[u8], at: usize) -> Option<(Sig, usize)>
+    requires { at < length bytes.now }
+{
+    if begins_index(bytes[at]) {
+        return block_by_index(tables, bytes, at);
+    }
+    let Some((place, end)) = reference_at(tables, bytes, at) else {
+        return None;
+    };
+    Some((single(place), end))
+}
+
 // The signature of a block of no operands.
 #[inline(always)]
 fn bare() -> Sig
@@ -83,7 +98,7 @@ fn single(code: u32) -> Sig
 
 // The signature of a block, and the offset behind its type.
 #[inline(always)]
-fn block_at(tables: &Tables, bytes: &[u8], at: usize) -> Option<(Sig, usize)>
+pub(crate) fn block_at(tables: &Tables, bytes: &[u8], at: usize) -> Option<(Sig, usize)>
     ensures { IfSome result (λ r. (bt : BlockType) × GivesAt block_type bytes.now at bt r.1
         × ((z : Settings) (g : Context) → Fits z bytes.now tables.now g
         → IsBlockType g bt (signature_in tables.now.known.flat.items r.0))) }
@@ -97,7 +112,7 @@ fn block_at(tables: &Tables, bytes: &[u8], at: usize) -> Option<(Sig, usize)>
         0x7e => Some((single(1), at + 1)),
         0x7d => Some((single(2), at + 1)),
         0x7c => Some((single(3), at + 1)),
-        _ => block_by_index(tables, bytes, at),
+        _ => other_block_at(tables, bytes, at),
     }
 }
 
@@ -118,7 +133,7 @@ fn enter_bare(kind: FrameKind, sig: Sig, stack: &mut Stack, opens: &mut Opens) -
 
 // A frame begins.
 #[inline(always)]
-fn enter(tables: &Tables, kind: FrameKind, sig: Sig, stack: &mut Stack, opens: &mut Opens) -> bool
+pub(crate) fn enter<R: WasmModuleResources>(resources: &R, tables: &Tables, kind: FrameKind, sig: Sig, stack: &mut Stack, opens: &mut Opens) -> bool
     ensures { result ≡ true → Enters tables.now.known.flat.items kind sig stack.old stack.new
         opens.old.inner opens.old.outer opens.new.inner opens.new.outer }
 {
@@ -128,7 +143,7 @@ fn enter(tables: &Tables, kind: FrameKind, sig: Sig, stack: &mut Stack, opens: &
     let Some(params) = part(tables.known.flat.as_slice(), sig.params, sig.param_count) else {
         return false;
     };
-    if !stack.take_all(params) {
+    if !stack.take_all(resources, params) {
         return false;
     }
     let base = stack.enter();
@@ -141,7 +156,8 @@ fn enter(tables: &Tables, kind: FrameKind, sig: Sig, stack: &mut Stack, opens: &
 
 /// A block begins.
 #[inline(always)]
-pub(crate) fn block(
+pub(crate) fn block<R: WasmModuleResources>(
+    resources: &R,
     tables: &Tables,
     bytes: &[u8],
     at: usize,
@@ -157,7 +173,7 @@ pub(crate) fn block(
     let Some((sig, end)) = block_at(tables, bytes, at + 1) else {
         return None;
     };
-    if !enter(tables, FrameKind::Block, sig, stack, opens) {
+    if !enter(resources, tables, FrameKind::Block, sig, stack, opens) {
         return None;
     }
     Some(end)
@@ -165,7 +181,8 @@ pub(crate) fn block(
 
 /// A loop begins.
 #[inline(always)]
-pub(crate) fn begin_loop(
+pub(crate) fn begin_loop<R: WasmModuleResources>(
+    resources: &R,
     tables: &Tables,
     bytes: &[u8],
     at: usize,
@@ -181,7 +198,7 @@ pub(crate) fn begin_loop(
     let Some((sig, end)) = block_at(tables, bytes, at + 1) else {
         return None;
     };
-    if !enter(tables, FrameKind::Loop, sig, stack, opens) {
+    if !enter(resources, tables, FrameKind::Loop, sig, stack, opens) {
         return None;
     }
     Some(end)
@@ -189,7 +206,8 @@ pub(crate) fn begin_loop(
 
 /// A choice begins.
 #[inline(always)]
-pub(crate) fn begin_if(
+pub(crate) fn begin_if<R: WasmModuleResources>(
+    resources: &R,
     tables: &Tables,
     bytes: &[u8],
     at: usize,
@@ -205,7 +223,7 @@ pub(crate) fn begin_if(
     let Some((sig, end)) = block_at(tables, bytes, at + 1) else {
         return None;
     };
-    if !stack.take(0) || !enter(tables, FrameKind::If, sig, stack, opens) {
+    if !stack.take(0) || !enter(resources, tables, FrameKind::If, sig, stack, opens) {
         return None;
     }
     Some(end)
@@ -213,7 +231,8 @@ pub(crate) fn begin_if(
 
 /// The second part of a choice begins.
 #[inline(always)]
-pub(crate) fn turn(
+pub(crate) fn turn<R: WasmModuleResources>(
+    resources: &R,
     tables: &Tables,
     bytes: &[u8],
     at: usize,
@@ -239,7 +258,7 @@ pub(crate) fn turn(
     let Some(params) = part(flat, sig.params, sig.param_count) else {
         return None;
     };
-    if !stack.take_all(results) || !stack.is_empty() || !stack.put_all(params) {
+    if !stack.take_all(resources, results) || !stack.is_empty() || !stack.put_all(params) {
         return None;
     }
     opens.inner.kind = FrameKind::Else;
@@ -255,6 +274,7 @@ fn may_close(frame: &Open) -> bool
         FrameKind::Block => true,
         FrameKind::Loop => true,
         FrameKind::Else => true,
+        FrameKind::TryTable => true,
         FrameKind::If => frame.sig.param_count == 0 && frame.sig.result_count == 0,
         _ => false,
     }
@@ -262,7 +282,8 @@ fn may_close(frame: &Open) -> bool
 
 // The innermost frame's operands are its results alone, which lie on those under it then.
 #[inline(always)]
-fn leave(tables: &Tables, frame: &Open, stack: &mut Stack) -> bool
+fn leave<R: WasmModuleResources>(
+    resources: &R,tables: &Tables, frame: &Open, stack: &mut Stack) -> bool
     ensures { result ≡ true → Leaves tables.now.known.flat.items frame.now stack.old stack.new }
 {
     if !may_close(frame) {
@@ -278,12 +299,13 @@ fn leave(tables: &Tables, frame: &Open, stack: &mut Stack) -> bool
     ) else {
         return false;
     };
-    stack.take_all(results) && stack.leave(frame.base) && stack.put_all(results)
+    stack.take_all(resources, results) && stack.leave(frame.base) && stack.put_all(results)
 }
 
 /// The innermost frame ends, and is not the last.
 #[inline(always)]
-pub(crate) fn end(
+pub(crate) fn end<R: WasmModuleResources>(
+    resources: &R,
     tables: &Tables,
     bytes: &[u8],
     at: usize,
@@ -297,7 +319,7 @@ pub(crate) fn end(
     ensures inside { IfSome result (λ end. end ≤ length bytes.now) }
 {
     let _bytes = bytes;
-    if opens.outer.len() == 0 || !leave(tables, &opens.inner, stack) {
+    if opens.outer.len() == 0 || !leave(resources, tables, &opens.inner, stack) {
         return None;
     }
     opens.inner = opens.outer.under(0);
@@ -306,7 +328,8 @@ pub(crate) fn end(
 }
 
 /// The last frame ends at the end of the bytes.
-pub(crate) fn finish(
+pub(crate) fn finish<R: WasmModuleResources>(
+    resources: &R,
     tables: &Tables,
     bytes: &[u8],
     at: usize,
@@ -319,5 +342,5 @@ pub(crate) fn finish(
     if at >= bytes.len() || at + 1 != bytes.len() || bytes[at] != 0x0b || opens.outer.len() != 0 {
         return false;
     }
-    leave(tables, &opens.inner, stack)
+    leave(resources, tables, &opens.inner, stack)
 }

@@ -14,6 +14,7 @@ use crate::lookups::{frame_at, label, part};
 use crate::stack::Stack;
 use crate::tables::{Opens, Tables};
 use wasm_operators_frequent::zero_at;
+use wasm_operator_validator_state::WasmModuleResources;
 use wasm_types::WasmFeatures;
 use wasm_types_decoding::short_u32_at;
 
@@ -119,7 +120,8 @@ pub(crate) fn select(
 
 /// A branch. Behind it nothing is reached, so any operands may lie there: the frame's results do.
 #[inline(always)]
-pub(crate) fn br(
+pub(crate) fn br<R: WasmModuleResources>(
+    resources: &R,
     tables: &Tables,
     bytes: &[u8],
     at: usize,
@@ -148,7 +150,7 @@ pub(crate) fn br(
     ) else {
         return None;
     };
-    if !stack.take_all(types) {
+    if !stack.take_all(resources, types) {
         return None;
     }
     stack.cut();
@@ -160,7 +162,8 @@ pub(crate) fn br(
 
 /// A branch on a condition.
 #[inline(always)]
-pub(crate) fn br_if(
+pub(crate) fn br_if<R: WasmModuleResources>(
+    resources: &R,
     tables: &Tables,
     bytes: &[u8],
     at: usize,
@@ -188,7 +191,7 @@ pub(crate) fn br_if(
     if types.len() == 0 {
         return Some(end);
     }
-    if !stack.take_all(types) || !stack.put_all(types) {
+    if !stack.take_all(resources, types) || !stack.put_all(types) {
         return None;
     }
     Some(end)
@@ -196,7 +199,8 @@ pub(crate) fn br_if(
 
 /// A branch to one of several labels, which all take the same types.
 #[inline(always)]
-pub(crate) fn br_table(
+pub(crate) fn br_table<R: WasmModuleResources>(
+    resources: &R,
     tables: &Tables,
     bytes: &[u8],
     at: usize,
@@ -232,7 +236,7 @@ pub(crate) fn br_table(
     ) else {
         return None;
     };
-    if !stack.take(0) || !stack.take_all(types) {
+    if !stack.take(0) || !stack.take_all(resources, types) {
         return None;
     }
     stack.cut();
@@ -244,7 +248,8 @@ pub(crate) fn br_table(
 
 /// The function returns.
 #[inline(always)]
-pub(crate) fn return_all(
+pub(crate) fn return_all<R: WasmModuleResources>(
+    resources: &R,
     tables: &Tables,
     bytes: &[u8],
     at: usize,
@@ -272,7 +277,7 @@ pub(crate) fn return_all(
     ) else {
         return None;
     };
-    if !stack.take_all(types) {
+    if !stack.take_all(resources, types) {
         return None;
     }
     stack.cut();
@@ -284,7 +289,8 @@ pub(crate) fn return_all(
 
 /// A call.
 #[inline(always)]
-pub(crate) fn call(
+pub(crate) fn call<R: WasmModuleResources>(
+    resources: &R,
     tables: &Tables,
     bytes: &[u8],
     at: usize,
@@ -319,7 +325,7 @@ pub(crate) fn call(
     let Some(results) = part(flat, sig.results, sig.result_count) else {
         return None;
     };
-    if !stack.take_all(params) || !stack.put_all(results) {
+    if !stack.take_all(resources, params) || !stack.put_all(results) {
         return None;
     }
     Some(end)
@@ -348,7 +354,8 @@ fn first_table_at(bytes: &[u8], at: usize, features: WasmFeatures) -> Option<usi
 
 /// A call through table 0.
 #[inline(always)]
-pub(crate) fn call_indirect(
+pub(crate) fn call_indirect<R: WasmModuleResources>(
+    resources: &R,
     tables: &Tables,
     bytes: &[u8],
     at: usize,
@@ -381,7 +388,7 @@ pub(crate) fn call_indirect(
     let Some(results) = part(flat, sig.results, sig.result_count) else {
         return None;
     };
-    if !stack.take(0) || !stack.take_all(params) || !stack.put_all(results) {
+    if !stack.take(0) || !stack.take_all(resources, params) || !stack.put_all(results) {
         return None;
     }
     Some(end)

@@ -15,21 +15,24 @@ use crate::constants::{f32_const, f64_const, i32_const, i64_const};
 use crate::control::{
     br, br_if, br_table, call, call_indirect, drop_top, nop, return_all, select, unreachable,
 };
-use crate::memory::{load, memory_copy, memory_fill, memory_grow, memory_size, store};
-use crate::numbers::{change, change_prefixed, combine};
+use crate::memory::{access, memory_copy, memory_fill, memory_grow, memory_size};
+use crate::numbers::{change_prefixed, number};
 use crate::pile::Pile;
-use crate::shape::{Shape, saturating_of, shape_of};
+use crate::references::refer;
+use crate::shape::saturating_of;
 use crate::stack::Stack;
 use crate::tables::{Open, Opens, Sig, Tables};
 use crate::variables::{global_get, global_set, local_get, local_set, local_tee};
 use std::alloc::Global;
 use std::mem;
-use wasm_operator_validator_state::FrameKind;
+use wasm_operator_validator_state::{FrameKind, WasmModuleResources};
 use wasm_types_decoding::short_u32_at;
 
 /// Takes the next operator.
 #[inline(always)]
-fn next(
+fn next<R: WasmModuleResources>(
+    resources: &R,
+    alloc: Global,
     tables: &Tables,
     bytes: &[u8],
     at: usize,
@@ -46,74 +49,68 @@ fn next(
     match code {
         0x00 => unreachable(tables, bytes, at, stack, opens),
         0x01 => nop(tables, bytes, at, stack, opens),
-        0x02 => block(tables, bytes, at, stack, opens),
-        0x03 => begin_loop(tables, bytes, at, stack, opens),
-        0x04 => begin_if(tables, bytes, at, stack, opens),
-        0x05 => turn(tables, bytes, at, stack, opens),
-        0x0b => end(tables, bytes, at, stack, opens),
-        0x0c => br(tables, bytes, at, stack, opens),
-        0x0d => br_if(tables, bytes, at, stack, opens),
-        0x0e => br_table(tables, bytes, at, stack, opens),
-        0x0f => return_all(tables, bytes, at, stack, opens),
-        0x10 => call(tables, bytes, at, stack, opens),
-        0x11 => call_indirect(tables, bytes, at, stack, opens),
+        0x02 => block(resources, tables, bytes, at, stack, opens),
+        0x03 => begin_loop(resources, tables, bytes, at, stack, opens),
+        0x04 => begin_if(resources, tables, bytes, at, stack, opens),
+        0x05 => turn(resources, tables, bytes, at, stack, opens),
+        0x0b => end(resources, tables, bytes, at, stack, opens),
+        0x0c => br(resources, tables, bytes, at, stack, opens),
+        0x0d => br_if(resources, tables, bytes, at, stack, opens),
+        0x0e => br_table(resources, tables, bytes, at, stack, opens),
+        0x0f => return_all(resources, tables, bytes, at, stack, opens),
+        0x10 => call(resources, tables, bytes, at, stack, opens),
+        0x11 => call_indirect(resources, tables, bytes, at, stack, opens),
         0x1a => drop_top(tables, bytes, at, stack, opens),
         0x1b => select(tables, bytes, at, stack, opens),
         0x20 => local_get(tables, bytes, at, stack, opens),
-        0x21 => local_set(tables, bytes, at, stack, opens),
-        0x22 => local_tee(tables, bytes, at, stack, opens),
+        0x21 => local_set(resources, tables, bytes, at, stack, opens),
+        0x22 => local_tee(resources, tables, bytes, at, stack, opens),
         0x23 => global_get(tables, bytes, at, stack, opens),
-        0x24 => global_set(tables, bytes, at, stack, opens),
+        0x24 => global_set(resources, tables, bytes, at, stack, opens),
         0x3f => memory_size(tables, bytes, at, stack, opens),
         0x40 => memory_grow(tables, bytes, at, stack, opens),
         0x41 => i32_const(tables, bytes, at, stack, opens),
         0x42 => i64_const(tables, bytes, at, stack, opens),
         0x43 => f32_const(tables, bytes, at, stack, opens),
         0x44 => f64_const(tables, bytes, at, stack, opens),
-        0xfc => prefixed(tables, bytes, at, stack, opens),
-        _ => shaped(code, tables, bytes, at, stack, opens),
+        0xfc => prefixed(resources, alloc, tables, bytes, at, stack, opens),
+        0x28..=0x3e => access(code, tables, bytes, at, stack, opens),
+        0x45..=0xc4 => number(code, tables, bytes, at, stack, opens),
+        0x08 | 0x0a | 0x12..=0x15 | 0x1c | 0x1f | 0x25 | 0x26 | 0xd0..=0xd6 | 0xfb => {
+            away(resources, alloc, code, tables, bytes, at, stack, opens)
+        }
+        _ => None,
     }
 }
 
-/// Takes an operator that its code tells all of.
+/// Takes an operator on references, out of the loop: the operands go there and come back, so that the loop keeps them in registers.
 #[inline(always)]
-fn shaped(
+fn away<R: WasmModuleResources>(
+    resources: &R,
+    alloc: Global,
     code: u8,
     tables: &Tables,
     bytes: &[u8],
     at: usize,
     stack: &mut Stack,
-    opens: &Opens,
-) -> Option<usize>
-    requires { Begins bytes.now at code }
-    ensures leads { IfSome result (λ end. Leads bytes.now tables.now at (all opens.now) stack.old
-        end (all opens.now) stack.new) }
-    ensures forward { IfSome result (λ end. at < end) }
-    ensures inside { IfSome result (λ end. end ≤ length bytes.now) }
-{
-    match shape_of(code) {
-        Shape::Other => None,
-        Shape::Load(natural, gives) => load(code, natural, gives, tables, bytes, at, stack, opens),
-        Shape::Store(natural, takes) => {
-            store(code, natural, takes, tables, bytes, at, stack, opens)
-        }
-        Shape::Change(takes, gives) => {
-            change(code, takes, gives, tables, bytes, at, stack, opens)
-        }
-        Shape::Combine(takes, gives) => {
-            combine(code, takes, gives, tables, bytes, at, stack, opens)
-        }
-    }
+    opens: &mut Opens,
+) -> Option<usize> {
+    let mut own = mem::replace(stack, Stack::new(alloc));
+    let end = refer(resources, code, tables, bytes, at, &mut own, opens);
+    *stack = own;
+    end
 }
 
 /// Takes an operator behind the prefix `fc`.
 #[inline(always)]
-fn prefixed(
+fn prefixed<R: WasmModuleResources>(
+    resources: &R,
+    alloc: Global,
     tables: &Tables,
     bytes: &[u8],
     at: usize,
     stack: &mut Stack,
-    opens: &Opens,
+    opens: &mut Opens,
 ) -> Option<usize>
     requires { Begins bytes.now at 0xfc }
     ensures leads { IfSome result (λ end. Leads bytes.now tables.now at (all opens.now) stack.old
@@ -128,7 +125,7 @@ fn prefixed(
         0x0a => memory_copy(middle, tables, bytes, at, stack, opens),
         0x0b => memory_fill(middle, tables, bytes, at, stack, opens),
         _ => match saturating_of(code) {
-            None => None,
+            None => away(resources, alloc, 0xfc, tables, bytes, at, stack, opens),
             Some((takes, gives)) => {
                 change_prefixed(code, middle, takes, gives, tables, bytes, at, stack, opens)
             }
@@ -138,7 +135,7 @@ fn prefixed(
 
 /// Takes all operators.
 #[inline(always)]
-fn run(tables: &Tables, bytes: &[u8], start: usize, stack: &mut Stack, opens: &mut Opens) -> bool
+fn run<R: WasmModuleResources>(resources: &R, alloc: Global, tables: &Tables, bytes: &[u8], start: usize, stack: &mut Stack, opens: &mut Opens) -> bool
     requires { start ≤ length bytes.now }
     ensures { result ≡ true → (z : Settings) (g : Context) → Fits z bytes.now tables.now g
         → Goes z bytes.now tables.now g start (all opens.old) stack.old }
@@ -149,12 +146,12 @@ fn run(tables: &Tables, bytes: &[u8], start: usize, stack: &mut Stack, opens: &m
     let last = bytes.len() - 1;
     let mut at = start;
     while at < last {
-        let Some(end) = next(tables, bytes, at, stack, opens) else {
+        let Some(end) = next(resources, alloc, tables, bytes, at, stack, opens) else {
             return false;
         };
         at = end;
     }
-    finish(tables, bytes, at, stack, opens)
+    finish(resources, tables, bytes, at, stack, opens)
 }
 
 // The frame of a body with these results.
@@ -202,7 +199,7 @@ impl Room {
 
     /// Whether the bytes from an offset on spell the body of a function, as these tables tell of it. It may say no of one that they do
     /// spell.
-    pub fn accepts(&mut self, tables: &Tables, bytes: &[u8], start: usize) -> bool
+    pub fn accepts<R: WasmModuleResources>(&mut self, resources: &R, tables: &Tables, bytes: &[u8], start: usize) -> bool
         requires { start ≤ length bytes.now }
         ensures { result ≡ true → (z : Settings) (g : Context) → Fits z bytes.now tables.now g → (params : ℕ)
             → (c : Code) × SpelledExpression z c (drop start bytes.now) × IsBody g params c }
@@ -216,7 +213,7 @@ impl Room {
         }
         // taken out, so that no pointer leads to what the loop counts by, and it can stay in registers
         let mut stack = mem::replace(&mut self.stack, Stack::new(self.alloc));
-        let valid = run(tables, bytes, start, &mut stack, &mut self.opens);
+        let valid = run(resources, self.alloc, tables, bytes, start, &mut stack, &mut self.opens);
         self.stack = stack;
         valid
     }

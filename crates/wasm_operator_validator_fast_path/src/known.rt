@@ -9,20 +9,29 @@ ghost use Rattle.wasm_operator_validator_fast_path.specs.Values.{type_of, types}
 ghost use Rattle.wasm_operator_validator_fast_path.specs.Tables.{Knows, HasTypeIn, IsGlobalIn, HasMemory, HasTable};
 ghost use Rattle.wasm_operator_validator_fast_path.specs.Known.{IsMore, IsSigIn, AreSigsIn, AreFunctionsIn, AreGlobalsIn};
 
-use crate::tables::{Held, Known, Sig};
+use crate::codes::{DEFINED, NONE, code_of};
+use crate::tables::{Field, Held, Known, Shaped, Sig};
 use std::alloc::Global;
 use wasm_operator_validator_state::WasmModuleResources;
 use wasm_operator_validator_state::blocks::function_at;
-use wasm_types::{AbstractHeapType, HeapType, RefType, ValType};
+use wasm_types::{
+    AbstractHeapType, CompositeInnerType, FieldType, HeapType, RefType, UnpackedIndex, ValType,
+};
 
 /// What bodies ask of a module, as far as so many entries of each table tell. None if there is no memory for the least.
-pub fn known_of<R: WasmModuleResources>(alloc: Global, resources: &R, most: u32) -> Option<Known>
-    ensures { IfSome result (Knows (R.meaning resources.now).«module») }
-{
+pub fn known_of<R: WasmModuleResources>(
+    alloc: Global,
+    resources: &R,
+    most: u32,
+    references: bool,
+) -> Option<Known> {
     let mut flat = Vec::new(alloc);
-    if most < 4 || most >= u32::MAX || !put_numbers(&mut flat) {
+    if most < 64 || most >= u32::MAX || !put_alone(&mut flat) {
         return None;
     }
+    let mut shapes = Vec::new(alloc);
+    let mut fields = Vec::new(alloc);
+    let whole = shape_all(resources, &mut flat, &mut shapes, &mut fields, most);
     let mut types = Vec::new(alloc);
     sign_all(resources, &mut flat, &mut types, most);
     Some(Known {
@@ -32,52 +41,87 @@ pub fn known_of<R: WasmModuleResources>(alloc: Global, resources: &R, most: u32)
         globals: globals_of(alloc, resources, most),
         memory: has_memory(resources),
         table: has_table(resources),
+        shapes,
+        fields,
+        references: references && whole,
     })
 }
 
-// The codes of the four types of numbers.
-fn put_numbers(flat: &mut Vec<u8>) -> bool
-    requires { flat.old.items ≡ [] }
-    ensures { result ≡ true → flat.new.items ≡ 0 ∷ 1 ∷ 2 ∷ 3 ∷ [] }
+// The codes of numbers and of abstract types, each at its own place.
+fn put_alone(flat: &mut Vec<u32>) -> bool
 {
-    let Ok(()) = flat.push(0) else {
-        return false;
-    };
-    let Ok(()) = flat.push(1) else {
-        return false;
-    };
-    let Ok(()) = flat.push(2) else {
-        return false;
-    };
-    let Ok(()) = flat.push(3) else {
-        return false;
-    };
+    for i in 0..DEFINED {
+        let Ok(()) = flat.push(i) else {
+            return false;
+        };
+    }
     true
 }
 
-// The code of a type of numbers, or one past them.
-fn code_of(ty: &ValType) -> u8
-    ensures { result < 4 → (m : Meaning) → type_in m ty.now ≡ type_of result }
-{
-    match ty {
-        ValType::I32 => 0,
-        ValType::I64 => 1,
-        ValType::F32 => 2,
-        ValType::F64 => 3,
-        ValType::V128 => 4,
-        ValType::Ref(_) => 4,
+fn put_fields(list: &[FieldType], fields: &mut Vec<Field>) -> bool {
+    for field in list {
+        let it = Field {
+            code: code_of(&field.element_type.unpack()),
+            packed: field.element_type.is_packed(),
+            mutable: field.mutable,
+        };
+        if it.code == NONE {
+            return false;
+        }
+        let Ok(()) = fields.push(it) else {
+            return false;
+        };
     }
+    true
 }
 
-// Puts the codes of types behind the others, if all are those of numbers.
-fn put_codes(flat: &mut Vec<u8>, written: &[ValType]) -> bool
-    ensures codes { result ≡ true → (cs : List ℕ) × (flat.new.items ≡ flat.old.items ++ cs)
-        × ((m : Meaning) → types_in m written.now ≡ types cs) }
-    ensures more { IsMore flat.old.items flat.new.items (length written.now) }
+// What each type is, and the codes of references to it. Whether all of them are there.
+fn shape_all<R: WasmModuleResources>(resources: &R, flat: &mut Vec<u32>, shapes: &mut Vec<Shaped>, fields: &mut Vec<Field>, most: u32) -> bool {
+    for at in 0..most {
+        let Some(ty) = resources.sub_type_at(at) else {
+            return true;
+        };
+        let mut heap = HeapType::Concrete(UnpackedIndex::Module(at));
+        let mut code = NONE;
+        if resources.check_heap_type(&mut heap, 0).is_ok() {
+            if let HeapType::Concrete(UnpackedIndex::Id(id)) = heap {
+                code = DEFINED + 2 * id.number();
+            }
+        }
+        let from = fields.as_slice().len() as u32;
+        let mut kind = 0;
+        if code != NONE && !ty.composite_type.shared {
+            match &ty.composite_type.inner {
+                CompositeInnerType::Func(_) => {
+                    kind = 1;
+                }
+                CompositeInnerType::Struct(it) => {
+                    if put_fields(it.fields.as_slice(), fields) {
+                        kind = 2;
+                    }
+                }
+                CompositeInnerType::Array(it) => {
+                    if put_fields(&[it.0], fields) {
+                        kind = 3;
+                    }
+                }
+                CompositeInnerType::Cont(_) => {}
+            }
+        }
+        let shape = Shaped { kind, from, count: fields.as_slice().len() as u32 - from, code };
+        if shapes.push(shape).is_err() || flat.push(code).is_err() || flat.push(if code == NONE { NONE } else { code + 1 }).is_err() {
+            return false;
+        }
+    }
+    false
+}
+
+// Puts the codes of types behind the others, if all have codes.
+fn put_codes(flat: &mut Vec<u32>, written: &[ValType]) -> bool
 {
     for ty in written {
         let code = code_of(ty);
-        if code >= 4 {
+        if code == NONE {
             return false;
         }
         let Ok(()) = flat.push(code) else {
@@ -100,7 +144,7 @@ fn unusable() -> Sig
 }
 
 // The signature of the type at an index, with its types behind the other codes, if all are numbers and there is room for them.
-fn sig_of<R: WasmModuleResources>(resources: &R, at: u32, flat: &mut Vec<u8>, most: u32) -> Sig
+fn sig_of<R: WasmModuleResources>(resources: &R, at: u32, flat: &mut Vec<u32>, most: u32) -> Sig
     requires { length flat.old.items ≤ most }
     ensures sig { IsSigIn (R.meaning resources.now).«module» flat.new.items at result }
     ensures more { IsMore flat.old.items flat.new.items (most - length flat.old.items) }
@@ -108,6 +152,9 @@ fn sig_of<R: WasmModuleResources>(resources: &R, at: u32, flat: &mut Vec<u8>, mo
     let Some(function) = function_at(resources, at) else {
         return unusable();
     };
+    if flat.as_slice().len() > most as usize {
+        return unusable();
+    }
     let room = most as usize - flat.as_slice().len();
     let params = function.params();
     let results = function.results();
@@ -133,7 +180,7 @@ fn sig_of<R: WasmModuleResources>(resources: &R, at: u32, flat: &mut Vec<u8>, mo
 // The signatures of types, in order, as far as there is memory.
 fn sign_all<R: WasmModuleResources>(
     resources: &R,
-    flat: &mut Vec<u8>,
+    flat: &mut Vec<u32>,
     types: &mut Vec<Sig>,
     most: u32,
 )

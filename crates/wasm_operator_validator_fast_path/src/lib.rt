@@ -9,6 +9,7 @@
 #![tactic(auto)]
 
 mod blocks;
+mod codes;
 mod constants;
 mod control;
 mod indices;
@@ -18,15 +19,21 @@ mod labels;
 mod lookups;
 mod memory;
 mod numbers;
+mod order;
 mod pile;
+mod references;
 mod shape;
+mod shape_table;
 mod stack;
 mod tables;
 mod variables;
 
+pub use codes::{code_at, reference_at};
 pub use judge::Room;
 pub use known::known_of;
 pub use lookups::part;
+pub use order::{Step, is_below as is_below_by_steps};
 pub use pile::Pile;
+pub use shape_table::ShapeTable;
 pub use stack::Stack;
-pub use tables::{Held, Known, Open, Opens, Sig, Tables};
+pub use tables::{Field, Held, Known, Open, Opens, Shaped, Sig, Tables};

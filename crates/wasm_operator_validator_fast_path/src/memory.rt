@@ -7,17 +7,16 @@ ghost use Rattle.wasm_operator_validator_rules.specs.Accesses.{load as load_of, 
 ghost use Rattle.wasm_operator_validator_fast_path.specs.Shapes.{IsAccessAt};
 
 use crate::indices::argument_at;
+use crate::shape::Shape;
 use crate::stack::Stack;
 use crate::tables::{Opens, Tables};
 use wasm_operators_frequent::zero_at;
 use wasm_types_decoding::short_u32_at;
 
-/// A load.
+/// A load or a store.
 #[inline(always)]
-pub(crate) fn load(
+pub(crate) fn access(
     code: u8,
-    natural: u8,
-    gives: u8,
     tables: &Tables,
     bytes: &[u8],
     at: usize,
@@ -25,57 +24,36 @@ pub(crate) fn load(
     opens: &Opens,
 ) -> Option<usize>
     requires begins { Begins bytes.now at code }
-    requires access { IsAccessAt load_of code natural gives }
     ensures leads { IfSome result (λ end. Leads bytes.now tables.now at (all opens.now) stack.old
         end (all opens.now) stack.new) }
     ensures forward { IfSome result (λ end. at < end) }
     ensures inside { IfSome result (λ end. end ≤ length bytes.now) }
 {
     let _opens = opens;
-    let _code = code;
     if !tables.known.memory {
         return None;
     }
-    let Some(end) = argument_at(bytes, at + 1, natural, tables.features) else {
-        return None;
-    };
-    if !stack.change(0, gives) {
-        return None;
+    match tables.shapes.at(code) {
+        Shape::Load(natural, gives) => {
+            let Some(end) = argument_at(bytes, at + 1, natural, tables.features) else {
+                return None;
+            };
+            if !stack.change(0, gives as u32) {
+                return None;
+            }
+            Some(end)
+        }
+        Shape::Store(natural, takes) => {
+            let Some(end) = argument_at(bytes, at + 1, natural, tables.features) else {
+                return None;
+            };
+            if !stack.take(takes as u32) || !stack.take(0) {
+                return None;
+            }
+            Some(end)
+        }
+        _ => None,
     }
-    Some(end)
-}
-
-/// A store.
-#[inline(always)]
-pub(crate) fn store(
-    code: u8,
-    natural: u8,
-    takes: u8,
-    tables: &Tables,
-    bytes: &[u8],
-    at: usize,
-    stack: &mut Stack,
-    opens: &Opens,
-) -> Option<usize>
-    requires begins { Begins bytes.now at code }
-    requires access { IsAccessAt store_of code natural takes }
-    ensures leads { IfSome result (λ end. Leads bytes.now tables.now at (all opens.now) stack.old
-        end (all opens.now) stack.new) }
-    ensures forward { IfSome result (λ end. at < end) }
-    ensures inside { IfSome result (λ end. end ≤ length bytes.now) }
-{
-    let _opens = opens;
-    let _code = code;
-    if !tables.known.memory {
-        return None;
-    }
-    let Some(end) = argument_at(bytes, at + 1, natural, tables.features) else {
-        return None;
-    };
-    if !stack.take(takes) || !stack.take(0) {
-        return None;
-    }
-    Some(end)
 }
 
 /// How large it is.

@@ -6,15 +6,14 @@ ghost use Rattle.wasm_operator_validator_fast_path.specs.Loop.{Leads, all};
 ghost use Rattle.std.specs.Prelude.{None, Some};
 ghost use Rattle.wasm_operator_validator_fast_path.specs.Shapes.{IsNumberAt};
 
+use crate::shape::Shape;
 use crate::stack::Stack;
 use crate::tables::{Opens, Tables};
 
-/// One that makes a number of one.
+/// One that makes a number of one or of two of one type.
 #[inline(always)]
-pub(crate) fn change(
+pub(crate) fn number(
     code: u8,
-    takes: u8,
-    gives: u8,
     tables: &Tables,
     bytes: &[u8],
     at: usize,
@@ -22,49 +21,28 @@ pub(crate) fn change(
     opens: &Opens,
 ) -> Option<usize>
     requires begins { Begins bytes.now at code }
-    requires number { IsNumberAt None code (takes ∷ []) (gives ∷ []) }
     ensures leads { IfSome result (λ end. Leads bytes.now tables.now at (all opens.now) stack.old
         end (all opens.now) stack.new) }
     ensures forward { IfSome result (λ end. at < end) }
     ensures inside { IfSome result (λ end. end ≤ length bytes.now) }
 {
     let _opens = opens;
-    let _tables = tables;
     let _bytes = bytes;
-    let _code = code;
-    if !stack.change(takes, gives) {
-        return None;
+    match tables.shapes.at(code) {
+        Shape::Combine(takes, gives) => {
+            if !stack.combine(takes as u32, gives as u32) {
+                return None;
+            }
+            Some(at + 1)
+        }
+        Shape::Change(takes, gives) => {
+            if !stack.change(takes as u32, gives as u32) {
+                return None;
+            }
+            Some(at + 1)
+        }
+        _ => None,
     }
-    Some(at + 1)
-}
-
-/// One that makes a number of two of one type.
-#[inline(always)]
-pub(crate) fn combine(
-    code: u8,
-    takes: u8,
-    gives: u8,
-    tables: &Tables,
-    bytes: &[u8],
-    at: usize,
-    stack: &mut Stack,
-    opens: &Opens,
-) -> Option<usize>
-    requires begins { Begins bytes.now at code }
-    requires number { IsNumberAt None code (takes ∷ takes ∷ []) (gives ∷ []) }
-    ensures leads { IfSome result (λ end. Leads bytes.now tables.now at (all opens.now) stack.old
-        end (all opens.now) stack.new) }
-    ensures forward { IfSome result (λ end. at < end) }
-    ensures inside { IfSome result (λ end. end ≤ length bytes.now) }
-{
-    let _opens = opens;
-    let _tables = tables;
-    let _bytes = bytes;
-    let _code = code;
-    if !stack.combine(takes, gives) {
-        return None;
-    }
-    Some(at + 1)
 }
 
 /// One behind the prefix `fc` that makes a number of one.
@@ -92,7 +70,7 @@ pub(crate) fn change_prefixed(
     let _bytes = bytes;
     let _at = at;
     let _code = code;
-    if !stack.change(takes, gives) {
+    if !stack.change(takes as u32, gives as u32) {
         return None;
     }
     Some(end)

@@ -1,6 +1,7 @@
 //! What bodies ask of a module, packed, and open frames.
 
 use crate::pile::Pile;
+use crate::shape_table::ShapeTable;
 use wasm_operator_validator_state::FrameKind;
 use wasm_types::WasmFeatures;
 
@@ -16,7 +17,7 @@ pub struct Sig {
 /// A global: its type as a code, which is past those of numbers where it is none, and whether it may be written.
 #[derive(Clone, Copy)]
 pub struct Held {
-    pub ty: u8,
+    pub ty: u32,
     pub mutable: bool,
 }
 
@@ -25,7 +26,10 @@ pub struct Held {
 /// bits, and table 0 one of functions and of 32 bits.
 #[derive(Drop)]
 pub struct Known {
-    pub flat: Vec<u8>,
+    pub flat: Vec<u32>,
+    pub shapes: Vec<Shaped>,
+    pub fields: Vec<Field>,
+    pub references: bool,
     pub types: Vec<Sig>,
     pub functions: Vec<u32>,
     pub globals: Vec<Held>,
@@ -37,9 +41,10 @@ pub struct Known {
 #[derive(Drop)]
 pub struct Tables {
     pub known: Known,
-    pub locals: Vec<u8>,
+    pub locals: Vec<u32>,
     pub results: Sig,
     pub features: WasmFeatures,
+    pub shapes: ShapeTable,
 }
 
 /// An open frame, and how many operands lie under the frame around it.
@@ -55,4 +60,21 @@ pub struct Open {
 pub struct Opens {
     pub inner: Open,
     pub outer: Pile<Open>,
+}
+
+/// A type: what it is (1 a function, 2 a struct, 3 an array, 0 none of these), its fields, and the code of a reference to it that may be null.
+#[derive(Clone, Copy)]
+pub struct Shaped {
+    pub kind: u8,
+    pub from: u32,
+    pub count: u32,
+    pub code: u32,
+}
+
+/// A field: the code of what is read, whether it is packed, and whether it may be written.
+#[derive(Clone, Copy)]
+pub struct Field {
+    pub code: u32,
+    pub packed: bool,
+    pub mutable: bool,
 }

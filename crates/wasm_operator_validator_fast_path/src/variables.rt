@@ -4,9 +4,11 @@ ghost use Rattle.std.specs.Prelude.{◌≡◌, ◌<◌, ◌≤◌, ◌∷◌, �
 ghost use Rattle.wasm_operators_frequent.specs.Short.{Begins};
 ghost use Rattle.wasm_operator_validator_fast_path.specs.Loop.{Leads, all};
 
+use crate::codes::NONE;
 use crate::indices::index_at;
 use crate::stack::Stack;
 use crate::tables::{Opens, Tables};
+use wasm_operator_validator_state::WasmModuleResources;
 use wasm_types_decoding::short_u32_at;
 
 /// The value of a local.
@@ -38,7 +40,8 @@ pub(crate) fn local_get(
 
 /// A local takes a value.
 #[inline(always)]
-pub(crate) fn local_set(
+pub(crate) fn local_set<R: WasmModuleResources>(
+    resources: &R,
     tables: &Tables,
     bytes: &[u8],
     at: usize,
@@ -57,7 +60,7 @@ pub(crate) fn local_set(
     };
     let index = index as usize;
     let locals = tables.locals.as_slice();
-    if index >= locals.len() || !stack.take(locals[index]) {
+    if index >= locals.len() || !stack.take_below(resources, locals[index]) {
         return None;
     }
     Some(end)
@@ -65,7 +68,8 @@ pub(crate) fn local_set(
 
 /// A local takes a value, which stays.
 #[inline(always)]
-pub(crate) fn local_tee(
+pub(crate) fn local_tee<R: WasmModuleResources>(
+    resources: &R,
     tables: &Tables,
     bytes: &[u8],
     at: usize,
@@ -84,7 +88,7 @@ pub(crate) fn local_tee(
     };
     let index = index as usize;
     let locals = tables.locals.as_slice();
-    if index >= locals.len() || !stack.has(locals[index]) {
+    if index >= locals.len() || !stack.take_below(resources, locals[index]) || !stack.put(locals[index]) {
         return None;
     }
     Some(end)
@@ -115,7 +119,7 @@ pub(crate) fn global_get(
         return None;
     }
     let held = globals[index];
-    if held.ty >= 4 || !stack.put(held.ty) {
+    if held.ty == NONE || !stack.put(held.ty) {
         return None;
     }
     Some(end)
@@ -123,7 +127,8 @@ pub(crate) fn global_get(
 
 /// A global takes a value.
 #[inline(always)]
-pub(crate) fn global_set(
+pub(crate) fn global_set<R: WasmModuleResources>(
+    resources: &R,
     tables: &Tables,
     bytes: &[u8],
     at: usize,
@@ -146,7 +151,7 @@ pub(crate) fn global_set(
         return None;
     }
     let held = globals[index];
-    if held.ty >= 4 || !held.mutable || !stack.take(held.ty) {
+    if held.ty == NONE || !held.mutable || !stack.take_below(resources, held.ty) {
         return None;
     }
     Some(end)

@@ -1,0 +1,88 @@
+-- Types as codes of 32 bits: 0 to 3 for numbers; from 8 on two for each heap type, the first of references that may be null. Abstract heap
+-- types come first, and from 40 on the types behind the ids of the validator (WebAssembly 3.0, structure, value types).
+use Rattle.std.specs.Prelude.{◌≡◌, ◌<◌, ◌≤◌, ◌-◌, ◌+◌, ◌*◌, ◌/◌, ◌%◌, ◌==◌, ℕ, Bool, true, false, List, [], ◌∷◌, map, length, nat_lt, slice_get, Some, if◌then◌else◌}
+use Rattle.wasm_types.specs.trees.Types.{
+  Number,
+  i32,
+  i64,
+  f32,
+  f64,
+  Abstract,
+  func,
+  extern,
+  any,
+  none,
+  noextern,
+  nofunc,
+  eq,
+  struct,
+  array,
+  i31,
+  exn,
+  noexn,
+  HeapOf,
+  abstract,
+  concrete,
+  number,
+  ref,
+}
+use Rattle.wasm_types.specs.trees.Types.{FieldOf, struct_of, array_of}
+use Rattle.wasm_types.specs.trees.Trees.{TypeTree}
+use Rattle.wasm_types.specs.trees.Below.{Below, HeapBelow, expanded, is_shared}
+use Rattle.wasm_types.specs.trees.ValidGroup.{type_at}
+use Rattle.wasm_operator_validator_fast_path.specs.declared.order.Step.{Step}
+use Rattle.wasm_operator_validator_rules.specs.Operands.{ValueType, Operand, known, AllBelow}
+use Rattle.wasm_operator_validator_rules.specs.Places.{unpacked, is_packed}
+
+-- ---- what a code stands for, by the types behind the ids
+
+abbrev pub number_of : ℕ → Number
+number_of n = if n == 0 then i32 else if n == 1 then i64 else if n == 2 then f32 else f64
+
+abbrev pub abstract_of : ℕ → Abstract
+abstract_of 0 = func
+abstract_of 1 = extern
+abstract_of 2 = any
+abstract_of 3 = none
+abstract_of 4 = noextern
+abstract_of 5 = nofunc
+abstract_of 6 = eq
+abstract_of 7 = struct
+abstract_of 8 = array
+abstract_of 9 = i31
+abstract_of 10 = exn
+abstract_of n = noexn
+
+-- heap types by their numbers: 16 abstract ones, of which twelve are there, and then the ids
+abbrev pub heap_of : List TypeTree → ℕ → HeapOf TypeTree
+heap_of ids n = if nat_lt n 16 then abstract false (abstract_of n) else concrete (type_at ids (n - 16))
+
+abbrev pub type_of : List TypeTree → ℕ → ValueType
+type_of ids n = if nat_lt n 8 then number (number_of n) else ref (n % 2 == 0) (heap_of ids ((n - 8) / 2))
+
+abbrev pub types : List TypeTree → List ℕ → List ValueType
+types ids ns = map (type_of ids) ns
+
+abbrev pub operands : List TypeTree → List ℕ → List Operand
+operands ids ns = map known (types ids ns)
+
+-- ---- what stands in tables
+
+-- operands of the first codes may be taken for those of the second
+abbrev pub AreBelow : List TypeTree → List ℕ → List ℕ → Type 0
+AreBelow ids ns ms = AllBelow (operands ids ns) (operands ids ms)
+
+-- A step up from a heap type, as its number: to the supertype that a type declares, or to the abstract type above it; and the number of
+-- the bottom type below it. So a walk up a table tells what is below what, and asks no module.
+pub record IsStep (ids : List TypeTree) (n : ℕ) (s : Step) : Type 0 where
+  pub up : HeapBelow (heap_of ids n) (heap_of ids s.above)
+  pub down : HeapBelow (heap_of ids s.bottom) (heap_of ids n)
+
+abbrev pub AreSteps : List TypeTree → List Step → Type 0
+AreSteps ids steps = (n : ℕ) (s : Step) → slice_get steps n ≡ Some s → IsStep ids n s
+
+-- a field as a code: what is read, whether it is packed, and whether it may be written
+pub record IsField (ids : List TypeTree) (f : FieldOf TypeTree) (code : ℕ) (packed mutable : Bool) : Type 0 where
+  pub read : unpacked f.storage ≡ type_of ids code
+  pub packed : is_packed f.storage ≡ packed
+  pub mutable : f.mutable ≡ mutable
