@@ -40,18 +40,9 @@ abbrev pub number_of : ℕ → Number
 number_of n = if n == 0 then i32 else if n == 1 then i64 else if n == 2 then f32 else f64
 
 abbrev pub abstract_of : ℕ → Abstract
-abstract_of 0 = func
-abstract_of 1 = extern
-abstract_of 2 = any
-abstract_of 3 = none
-abstract_of 4 = noextern
-abstract_of 5 = nofunc
-abstract_of 6 = eq
-abstract_of 7 = struct
-abstract_of 8 = array
-abstract_of 9 = i31
-abstract_of 10 = exn
-abstract_of n = noexn
+abstract_of n =
+    if n == 0 then func else if n == 1 then extern else if n == 2 then any else if n == 3 then none else if n == 4 then noextern else if n == 5 then nofunc
+    else if n == 6 then eq else if n == 7 then struct else if n == 8 then array else if n == 9 then i31 else if n == 10 then exn else noexn
 
 -- heap types by their numbers: 16 abstract ones, of which twelve are there, and then the ids
 abbrev pub heap_of : List TypeTree → ℕ → HeapOf TypeTree
@@ -82,7 +73,7 @@ abbrev pub AreSteps : List TypeTree → List Step → Type 0
 AreSteps ids steps = (n : ℕ) (s : Step) → slice_get steps n ≡ Some s → IsStep ids n s
 
 -- a field as a code: what is read, whether it is packed, and whether it may be written
-pub record IsField (ids : List TypeTree) (f : FieldOf TypeTree) (code : ℕ) (packed mutable : Bool) : Type 0 where
+pub record IsField (ids : List TypeTree) (f : FieldOf TypeTree) (code : ℕ) (is_narrow may_change : Bool) : Type 0 where
   pub read : unpacked f.storage ≡ type_of ids code
-  pub packed : is_packed f.storage ≡ packed
-  pub mutable : f.mutable ≡ mutable
+  pub packed : is_packed f.storage ≡ is_narrow
+  pub mutable : f.mutable ≡ may_change
