@@ -114,6 +114,7 @@ fn nothing_known(alloc: Global) -> Known {
         table: false,
         shapes: Vec::new(alloc),
         fields: Vec::new(alloc),
+        steps: Vec::new(alloc),
         references: false,
     }
 }

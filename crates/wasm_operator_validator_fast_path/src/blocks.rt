@@ -16,7 +16,7 @@ use crate::codes::reference_at;
 use crate::lookups::part;
 use crate::stack::Stack;
 use crate::tables::{Open, Opens, Sig, Tables};
-use wasm_operator_validator_state::{FrameKind, WasmModuleResources};
+use wasm_operator_validator_state::FrameKind;
 use wasm_types_decoding::short_s33_at;
 
 // Whether a number that is not negative begins with this byte.
@@ -133,7 +133,8 @@ fn enter_bare(kind: FrameKind, sig: Sig, stack: &mut Stack, opens: &mut Opens) -
 
 // A frame begins.
 #[inline(always)]
-pub(crate) fn enter<R: WasmModuleResources>(resources: &R, tables: &Tables, kind: FrameKind, sig: Sig, stack: &mut Stack, opens: &mut Opens) -> bool
+pub(crate) fn enter(
+    tables: &Tables, kind: FrameKind, sig: Sig, stack: &mut Stack, opens: &mut Opens) -> bool
     ensures { result ≡ true → Enters tables.now.known.flat.items kind sig stack.old stack.new
         opens.old.inner opens.old.outer opens.new.inner opens.new.outer }
 {
@@ -143,7 +144,7 @@ pub(crate) fn enter<R: WasmModuleResources>(resources: &R, tables: &Tables, kind
     let Some(params) = part(tables.known.flat.as_slice(), sig.params, sig.param_count) else {
         return false;
     };
-    if !stack.take_all(resources, params) {
+    if !stack.take_all(tables.known.steps.as_slice(), params) {
         return false;
     }
     let base = stack.enter();
@@ -156,8 +157,7 @@ pub(crate) fn enter<R: WasmModuleResources>(resources: &R, tables: &Tables, kind
 
 /// A block begins.
 #[inline(always)]
-pub(crate) fn block<R: WasmModuleResources>(
-    resources: &R,
+pub(crate) fn block(
     tables: &Tables,
     bytes: &[u8],
     at: usize,
@@ -173,7 +173,7 @@ pub(crate) fn block<R: WasmModuleResources>(
     let Some((sig, end)) = block_at(tables, bytes, at + 1) else {
         return None;
     };
-    if !enter(resources, tables, FrameKind::Block, sig, stack, opens) {
+    if !enter(tables, FrameKind::Block, sig, stack, opens) {
         return None;
     }
     Some(end)
@@ -181,8 +181,7 @@ pub(crate) fn block<R: WasmModuleResources>(
 
 /// A loop begins.
 #[inline(always)]
-pub(crate) fn begin_loop<R: WasmModuleResources>(
-    resources: &R,
+pub(crate) fn begin_loop(
     tables: &Tables,
     bytes: &[u8],
     at: usize,
@@ -198,7 +197,7 @@ pub(crate) fn begin_loop<R: WasmModuleResources>(
     let Some((sig, end)) = block_at(tables, bytes, at + 1) else {
         return None;
     };
-    if !enter(resources, tables, FrameKind::Loop, sig, stack, opens) {
+    if !enter(tables, FrameKind::Loop, sig, stack, opens) {
         return None;
     }
     Some(end)
@@ -206,8 +205,7 @@ pub(crate) fn begin_loop<R: WasmModuleResources>(
 
 /// A choice begins.
 #[inline(always)]
-pub(crate) fn begin_if<R: WasmModuleResources>(
-    resources: &R,
+pub(crate) fn begin_if(
     tables: &Tables,
     bytes: &[u8],
     at: usize,
@@ -223,7 +221,7 @@ pub(crate) fn begin_if<R: WasmModuleResources>(
     let Some((sig, end)) = block_at(tables, bytes, at + 1) else {
         return None;
     };
-    if !stack.take(0) || !enter(resources, tables, FrameKind::If, sig, stack, opens) {
+    if !stack.take(0) || !enter(tables, FrameKind::If, sig, stack, opens) {
         return None;
     }
     Some(end)
@@ -231,8 +229,7 @@ pub(crate) fn begin_if<R: WasmModuleResources>(
 
 /// The second part of a choice begins.
 #[inline(always)]
-pub(crate) fn turn<R: WasmModuleResources>(
-    resources: &R,
+pub(crate) fn turn(
     tables: &Tables,
     bytes: &[u8],
     at: usize,
@@ -258,7 +255,7 @@ pub(crate) fn turn<R: WasmModuleResources>(
     let Some(params) = part(flat, sig.params, sig.param_count) else {
         return None;
     };
-    if !stack.take_all(resources, results) || !stack.is_empty() || !stack.put_all(params) {
+    if !stack.take_all(tables.known.steps.as_slice(), results) || !stack.is_empty() || !stack.put_all(params) {
         return None;
     }
     opens.inner.kind = FrameKind::Else;
@@ -282,8 +279,8 @@ fn may_close(frame: &Open) -> bool
 
 // The innermost frame's operands are its results alone, which lie on those under it then.
 #[inline(always)]
-fn leave<R: WasmModuleResources>(
-    resources: &R,tables: &Tables, frame: &Open, stack: &mut Stack) -> bool
+fn leave(
+    tables: &Tables, frame: &Open, stack: &mut Stack) -> bool
     ensures { result ≡ true → Leaves tables.now.known.flat.items frame.now stack.old stack.new }
 {
     if !may_close(frame) {
@@ -299,13 +296,12 @@ fn leave<R: WasmModuleResources>(
     ) else {
         return false;
     };
-    stack.take_all(resources, results) && stack.leave(frame.base) && stack.put_all(results)
+    stack.take_all(tables.known.steps.as_slice(), results) && stack.leave(frame.base) && stack.put_all(results)
 }
 
 /// The innermost frame ends, and is not the last.
 #[inline(always)]
-pub(crate) fn end<R: WasmModuleResources>(
-    resources: &R,
+pub(crate) fn end(
     tables: &Tables,
     bytes: &[u8],
     at: usize,
@@ -319,7 +315,7 @@ pub(crate) fn end<R: WasmModuleResources>(
     ensures inside { IfSome result (λ end. end ≤ length bytes.now) }
 {
     let _bytes = bytes;
-    if opens.outer.len() == 0 || !leave(resources, tables, &opens.inner, stack) {
+    if opens.outer.len() == 0 || !leave(tables, &opens.inner, stack) {
         return None;
     }
     opens.inner = opens.outer.under(0);
@@ -328,8 +324,7 @@ pub(crate) fn end<R: WasmModuleResources>(
 }
 
 /// The last frame ends at the end of the bytes.
-pub(crate) fn finish<R: WasmModuleResources>(
-    resources: &R,
+pub(crate) fn finish(
     tables: &Tables,
     bytes: &[u8],
     at: usize,
@@ -342,5 +337,5 @@ pub(crate) fn finish<R: WasmModuleResources>(
     if at >= bytes.len() || at + 1 != bytes.len() || bytes[at] != 0x0b || opens.outer.len() != 0 {
         return false;
     }
-    leave(resources, tables, &opens.inner, stack)
+    leave(tables, &opens.inner, stack)
 }

@@ -4,8 +4,7 @@ ghost use Rattle.std.specs.Prelude.{◌≡◌, ◌≤◌, length};
 
 use crate::indices::index_at;
 use crate::tables::Tables;
-use wasm_operator_validator_state::WasmModuleResources;
-use wasm_types::{AbstractHeapType, CoreTypeId, HeapType, RefType, UnpackedIndex, ValType};
+use wasm_types::{AbstractHeapType, HeapType, RefType, UnpackedIndex, ValType};
 
 /// No code.
 pub const NONE: u32 = 0xffff_ffff;
@@ -41,24 +40,6 @@ fn number_of(ty: AbstractHeapType) -> Option<u32> {
     }
 }
 
-// The abstract heap type of a number.
-fn abstract_of(number: u32) -> AbstractHeapType {
-    match number {
-        0 => AbstractHeapType::Func,
-        1 => AbstractHeapType::Extern,
-        2 => AbstractHeapType::Any,
-        3 => AbstractHeapType::None,
-        4 => AbstractHeapType::NoExtern,
-        5 => AbstractHeapType::NoFunc,
-        6 => AbstractHeapType::Eq,
-        7 => AbstractHeapType::Struct,
-        8 => AbstractHeapType::Array,
-        9 => AbstractHeapType::I31,
-        10 => AbstractHeapType::Exn,
-        _ => AbstractHeapType::NoExn,
-    }
-}
-
 /// The code of a reference type.
 pub fn code_of_reference(ty: RefType) -> u32 {
     let high = if ty.is_nullable() { 0 } else { 1 };
@@ -86,38 +67,6 @@ pub fn code_of(ty: &ValType) -> u32 {
         ValType::F64 => 3,
         ValType::V128 => NONE,
         ValType::Ref(ty) => code_of_reference(*ty),
-    }
-}
-
-// The reference type of a code.
-fn reference_of(code: u32) -> Option<ValType> {
-    let heap = if code < DEFINED {
-        HeapType::Abstract {
-            shared: false,
-            ty: abstract_of((code - 8) / 2),
-        }
-    } else {
-        HeapType::Concrete(UnpackedIndex::Id(CoreTypeId::new((code - DEFINED) / 2)))
-    };
-    match RefType::new(code % 2 == 0, heap) {
-        Some(ty) => Some(ValType::Ref(ty)),
-        None => None,
-    }
-}
-
-/// Whether the first type is below the second, which is another.
-#[cold]
-#[inline(never)]
-pub fn is_below<R: WasmModuleResources>(resources: &R, a: u32, b: u32) -> bool {
-    if a < 8 || b < 8 || (a % 2 == 0 && b % 2 == 1) {
-        return false;
-    }
-    if a / 2 == b / 2 {
-        return true;
-    }
-    match (reference_of(a), reference_of(b)) {
-        (Some(a), Some(b)) => resources.is_subtype(a, b),
-        _ => false,
     }
 }
 

@@ -14,7 +14,6 @@ use crate::lookups::{frame_at, label, part};
 use crate::stack::Stack;
 use crate::tables::{Opens, Tables};
 use wasm_operators_frequent::zero_at;
-use wasm_operator_validator_state::WasmModuleResources;
 use wasm_types::WasmFeatures;
 use wasm_types_decoding::short_u32_at;
 
@@ -120,8 +119,7 @@ pub(crate) fn select(
 
 /// A branch. Behind it nothing is reached, so any operands may lie there: the frame's results do.
 #[inline(always)]
-pub(crate) fn br<R: WasmModuleResources>(
-    resources: &R,
+pub(crate) fn br(
     tables: &Tables,
     bytes: &[u8],
     at: usize,
@@ -150,7 +148,7 @@ pub(crate) fn br<R: WasmModuleResources>(
     ) else {
         return None;
     };
-    if !stack.take_all(resources, types) {
+    if !stack.take_all(tables.known.steps.as_slice(), types) {
         return None;
     }
     stack.cut();
@@ -162,8 +160,7 @@ pub(crate) fn br<R: WasmModuleResources>(
 
 /// A branch on a condition.
 #[inline(always)]
-pub(crate) fn br_if<R: WasmModuleResources>(
-    resources: &R,
+pub(crate) fn br_if(
     tables: &Tables,
     bytes: &[u8],
     at: usize,
@@ -191,7 +188,7 @@ pub(crate) fn br_if<R: WasmModuleResources>(
     if types.len() == 0 {
         return Some(end);
     }
-    if !stack.take_all(resources, types) || !stack.put_all(types) {
+    if !stack.take_all(tables.known.steps.as_slice(), types) || !stack.put_all(types) {
         return None;
     }
     Some(end)
@@ -199,8 +196,7 @@ pub(crate) fn br_if<R: WasmModuleResources>(
 
 /// A branch to one of several labels, which all take the same types.
 #[inline(always)]
-pub(crate) fn br_table<R: WasmModuleResources>(
-    resources: &R,
+pub(crate) fn br_table(
     tables: &Tables,
     bytes: &[u8],
     at: usize,
@@ -236,7 +232,7 @@ pub(crate) fn br_table<R: WasmModuleResources>(
     ) else {
         return None;
     };
-    if !stack.take(0) || !stack.take_all(resources, types) {
+    if !stack.take(0) || !stack.take_all(tables.known.steps.as_slice(), types) {
         return None;
     }
     stack.cut();
@@ -248,8 +244,7 @@ pub(crate) fn br_table<R: WasmModuleResources>(
 
 /// The function returns.
 #[inline(always)]
-pub(crate) fn return_all<R: WasmModuleResources>(
-    resources: &R,
+pub(crate) fn return_all(
     tables: &Tables,
     bytes: &[u8],
     at: usize,
@@ -277,7 +272,7 @@ pub(crate) fn return_all<R: WasmModuleResources>(
     ) else {
         return None;
     };
-    if !stack.take_all(resources, types) {
+    if !stack.take_all(tables.known.steps.as_slice(), types) {
         return None;
     }
     stack.cut();
@@ -289,8 +284,7 @@ pub(crate) fn return_all<R: WasmModuleResources>(
 
 /// A call.
 #[inline(always)]
-pub(crate) fn call<R: WasmModuleResources>(
-    resources: &R,
+pub(crate) fn call(
     tables: &Tables,
     bytes: &[u8],
     at: usize,
@@ -325,7 +319,7 @@ pub(crate) fn call<R: WasmModuleResources>(
     let Some(results) = part(flat, sig.results, sig.result_count) else {
         return None;
     };
-    if !stack.take_all(resources, params) || !stack.put_all(results) {
+    if !stack.take_all(tables.known.steps.as_slice(), params) || !stack.put_all(results) {
         return None;
     }
     Some(end)
@@ -354,8 +348,7 @@ fn first_table_at(bytes: &[u8], at: usize, features: WasmFeatures) -> Option<usi
 
 /// A call through table 0.
 #[inline(always)]
-pub(crate) fn call_indirect<R: WasmModuleResources>(
-    resources: &R,
+pub(crate) fn call_indirect(
     tables: &Tables,
     bytes: &[u8],
     at: usize,
@@ -388,7 +381,7 @@ pub(crate) fn call_indirect<R: WasmModuleResources>(
     let Some(results) = part(flat, sig.results, sig.result_count) else {
         return None;
     };
-    if !stack.take(0) || !stack.take_all(resources, params) || !stack.put_all(results) {
+    if !stack.take(0) || !stack.take_all(tables.known.steps.as_slice(), params) || !stack.put_all(results) {
         return None;
     }
     Some(end)

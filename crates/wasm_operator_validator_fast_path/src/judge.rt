@@ -49,24 +49,24 @@ fn next<R: WasmModuleResources>(
     match code {
         0x00 => unreachable(tables, bytes, at, stack, opens),
         0x01 => nop(tables, bytes, at, stack, opens),
-        0x02 => block(resources, tables, bytes, at, stack, opens),
-        0x03 => begin_loop(resources, tables, bytes, at, stack, opens),
-        0x04 => begin_if(resources, tables, bytes, at, stack, opens),
-        0x05 => turn(resources, tables, bytes, at, stack, opens),
-        0x0b => end(resources, tables, bytes, at, stack, opens),
-        0x0c => br(resources, tables, bytes, at, stack, opens),
-        0x0d => br_if(resources, tables, bytes, at, stack, opens),
-        0x0e => br_table(resources, tables, bytes, at, stack, opens),
-        0x0f => return_all(resources, tables, bytes, at, stack, opens),
-        0x10 => call(resources, tables, bytes, at, stack, opens),
-        0x11 => call_indirect(resources, tables, bytes, at, stack, opens),
+        0x02 => block(tables, bytes, at, stack, opens),
+        0x03 => begin_loop(tables, bytes, at, stack, opens),
+        0x04 => begin_if(tables, bytes, at, stack, opens),
+        0x05 => turn(tables, bytes, at, stack, opens),
+        0x0b => end(tables, bytes, at, stack, opens),
+        0x0c => br(tables, bytes, at, stack, opens),
+        0x0d => br_if(tables, bytes, at, stack, opens),
+        0x0e => br_table(tables, bytes, at, stack, opens),
+        0x0f => return_all(tables, bytes, at, stack, opens),
+        0x10 => call(tables, bytes, at, stack, opens),
+        0x11 => call_indirect(tables, bytes, at, stack, opens),
         0x1a => drop_top(tables, bytes, at, stack, opens),
         0x1b => select(tables, bytes, at, stack, opens),
         0x20 => local_get(tables, bytes, at, stack, opens),
-        0x21 => local_set(resources, tables, bytes, at, stack, opens),
-        0x22 => local_tee(resources, tables, bytes, at, stack, opens),
+        0x21 => local_set(tables, bytes, at, stack, opens),
+        0x22 => local_tee(tables, bytes, at, stack, opens),
         0x23 => global_get(tables, bytes, at, stack, opens),
-        0x24 => global_set(resources, tables, bytes, at, stack, opens),
+        0x24 => global_set(tables, bytes, at, stack, opens),
         0x3f => memory_size(tables, bytes, at, stack, opens),
         0x40 => memory_grow(tables, bytes, at, stack, opens),
         0x41 => i32_const(tables, bytes, at, stack, opens),
@@ -151,7 +151,7 @@ fn run<R: WasmModuleResources>(resources: &R, alloc: Global, tables: &Tables, by
         };
         at = end;
     }
-    finish(resources, tables, bytes, at, stack, opens)
+    finish(tables, bytes, at, stack, opens)
 }
 
 // The frame of a body with these results.

@@ -10,12 +10,13 @@ ghost use Rattle.wasm_operator_validator_fast_path.specs.Tables.{Knows, HasTypeI
 ghost use Rattle.wasm_operator_validator_fast_path.specs.Known.{IsMore, IsSigIn, AreSigsIn, AreFunctionsIn, AreGlobalsIn};
 
 use crate::codes::{DEFINED, NONE, code_of};
+use crate::order::Step;
 use crate::tables::{Field, Held, Known, Shaped, Sig};
 use std::alloc::Global;
 use wasm_operator_validator_state::WasmModuleResources;
 use wasm_operator_validator_state::blocks::function_at;
 use wasm_types::{
-    AbstractHeapType, CompositeInnerType, FieldType, HeapType, RefType, UnpackedIndex, ValType,
+    AbstractHeapType, CompositeInnerType, FieldType, HeapType, RefType, SubType, UnpackedIndex, ValType,
 };
 
 /// What bodies ask of a module, as far as so many entries of each table tell. None if there is no memory for the least.
@@ -31,7 +32,8 @@ pub fn known_of<R: WasmModuleResources>(
     }
     let mut shapes = Vec::new(alloc);
     let mut fields = Vec::new(alloc);
-    let whole = shape_all(resources, &mut flat, &mut shapes, &mut fields, most);
+    let mut steps = Vec::new(alloc);
+    let whole = put_abstract(&mut steps) && shape_all(resources, &mut flat, &mut shapes, &mut fields, &mut steps, most);
     let mut types = Vec::new(alloc);
     sign_all(resources, &mut flat, &mut types, most);
     Some(Known {
@@ -43,6 +45,7 @@ pub fn known_of<R: WasmModuleResources>(
         table: has_table(resources),
         shapes,
         fields,
+        steps,
         references: references && whole,
     })
 }
@@ -75,8 +78,63 @@ fn put_fields(list: &[FieldType], fields: &mut Vec<Field>) -> bool {
     true
 }
 
+// A step of each abstract heap type, by its number.
+fn put_abstract(steps: &mut Vec<Step>) -> bool {
+    for number in 0..16u32 {
+        let step = match number {
+            0 => Step { above: 0, bottom: 5 },
+            1 => Step { above: 1, bottom: 4 },
+            2 => Step { above: 2, bottom: 3 },
+            6 => Step { above: 2, bottom: 3 },
+            7 => Step { above: 6, bottom: 3 },
+            8 => Step { above: 6, bottom: 3 },
+            9 => Step { above: 6, bottom: 3 },
+            10 => Step { above: 10, bottom: 11 },
+            _ => Step { above: number, bottom: number },
+        };
+        let Ok(()) = steps.push(step) else {
+            return false;
+        };
+    }
+    true
+}
+
+// The step of a type of this kind.
+fn step_of(ty: &SubType, kind: u8) -> Step {
+    let bottom = if kind == 1 { 5 } else { 3 };
+    if let Some(above) = ty.supertype_idxs.get(0) {
+        if let Some(id) = above.as_core_type_id() {
+            return Step { above: 16 + id.number(), bottom };
+        }
+    }
+    let above = if kind == 1 {
+        0
+    } else if kind == 2 {
+        7
+    } else {
+        8
+    };
+    Step { above, bottom }
+}
+
+// Puts a step at a number, with steps that lead nowhere below it where there are none yet.
+fn put_step(steps: &mut Vec<Step>, number: u32, step: Step) -> bool {
+    let place = number as usize;
+    let held = steps.as_slice().len() as u32;
+    for at in held..number + 1 {
+        let Ok(()) = steps.push(Step { above: at, bottom: at }) else {
+            return false;
+        };
+    }
+    if place >= steps.as_slice().len() {
+        return false;
+    }
+    steps[place] = step;
+    true
+}
+
 // What each type is, and the codes of references to it. Whether all of them are there.
-fn shape_all<R: WasmModuleResources>(resources: &R, flat: &mut Vec<u32>, shapes: &mut Vec<Shaped>, fields: &mut Vec<Field>, most: u32) -> bool {
+fn shape_all<R: WasmModuleResources>(resources: &R, flat: &mut Vec<u32>, shapes: &mut Vec<Shaped>, fields: &mut Vec<Field>, steps: &mut Vec<Step>, most: u32) -> bool {
     for at in 0..most {
         let Some(ty) = resources.sub_type_at(at) else {
             return true;
@@ -107,6 +165,9 @@ fn shape_all<R: WasmModuleResources>(resources: &R, flat: &mut Vec<u32>, shapes:
                 }
                 CompositeInnerType::Cont(_) => {}
             }
+        }
+        if kind != 0 && !put_step(steps, (code - 8) / 2, step_of(ty, kind)) {
+            return false;
         }
         let shape = Shaped { kind, from, count: fields.as_slice().len() as u32 - from, code };
         if shapes.push(shape).is_err() || flat.push(code).is_err() || flat.push(if code == NONE { NONE } else { code + 1 }).is_err() {

@@ -32,7 +32,7 @@ pub use codes::{code_at, reference_at};
 pub use judge::Room;
 pub use known::known_of;
 pub use lookups::part;
-pub use order::{Step, is_below as is_below_by_steps};
+pub use order::Step;
 pub use pile::Pile;
 pub use shape_table::ShapeTable;
 pub use stack::Stack;

@@ -55,7 +55,8 @@ fn may_be_null(code: u32) -> bool
     code % 2 == 0
 }
 
-/// Whether a type is below another, which is not the same.
+/// Whether a type is below another, which is not the same. Out of line: the loop asks whether they are the same.
+#[inline(never)]
 pub fn is_below(steps: &[Step], code: u32, other: u32) -> bool
     ensures { result ≡ true → (ids : List TypeTree) → AreSteps ids steps.now → Below (type_of ids code) (type_of ids other) }
 {

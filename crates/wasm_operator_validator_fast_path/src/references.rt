@@ -3,8 +3,9 @@
 ghost use Rattle.std.specs.Prelude.{◌≡◌, ◌≤◌, length};
 
 use crate::blocks::{block_at, enter};
-use crate::codes::{ANY, EQ, EXN, EXTERN, FUNC, I31, code_at, code_of, code_of_reference, heap_at, is_below, value_at};
+use crate::codes::{ANY, EQ, EXN, EXTERN, FUNC, I31, code_at, code_of, code_of_reference, heap_at, value_at};
 use crate::indices::{index_at};
+use crate::order::is_below;
 use crate::lookups::{frame_at, label, part};
 use crate::stack::Stack;
 use crate::tables::{Field, Opens, Shaped, Sig, Tables};
@@ -85,7 +86,7 @@ fn apply<R: WasmModuleResources>(resources: &R, tables: &Tables, sig: Sig, end: 
     let flat = tables.known.flat.as_slice();
     let params = part(flat, sig.params, sig.param_count)?;
     let results = part(flat, sig.results, sig.result_count)?;
-    if !stack.take_all(resources, params) || !stack.put_all(results) {
+    if !stack.take_all(tables.known.steps.as_slice(), params) || !stack.put_all(results) {
         return None;
     }
     Some(end)
@@ -101,11 +102,11 @@ fn leave_by<R: WasmModuleResources>(resources: &R, tables: &Tables, sig: Sig, en
         return None;
     }
     for i in 0..results.len() {
-        if results[i] != wanted[i] && !is_below(resources, results[i], wanted[i]) {
+        if results[i] != wanted[i] && !is_below(tables.known.steps.as_slice(), results[i], wanted[i]) {
             return None;
         }
     }
-    if !stack.take_all(resources, params) {
+    if !stack.take_all(tables.known.steps.as_slice(), params) {
         return None;
     }
     unreached(tables, end, stack, opens)
@@ -134,13 +135,13 @@ fn take_numbers(stack: &mut Stack, count: u32, end: usize) -> Option<usize> {
 }
 
 // Takes the parameters of a tag.
-fn take_tag<R: WasmModuleResources>(resources: &R, tag: u32, stack: &mut Stack) -> Option<usize> {
+fn take_tag<R: WasmModuleResources>(resources: &R, tables: &Tables, tag: u32, stack: &mut Stack) -> Option<usize> {
     let ty = resources.tag_at(tag)?;
     let params = ty.params();
     let mut left = params.len();
     while left > 0 {
         left -= 1;
-        if !stack.take_below(resources, code_of(&params[left])) {
+        if !stack.take_below(tables.known.steps.as_slice(), code_of(&params[left])) {
             return None;
         }
     }
@@ -180,7 +181,7 @@ fn catch_at<R: WasmModuleResources>(resources: &R, tables: &Tables, bytes: &[u8]
         }
         for i in 0..count {
             let code = code_of(&params[i]);
-            if code != types[i] && !is_below(resources, code, types[i]) {
+            if code != types[i] && !is_below(tables.known.steps.as_slice(), code, types[i]) {
                 return None;
             }
         }
@@ -200,7 +201,7 @@ fn try_table<R: WasmModuleResources>(resources: &R, tables: &Tables, bytes: &[u8
     for _ in 0..count {
         end = catch_at(resources, tables, bytes, end, opens)?;
     }
-    if !enter(resources, tables, FrameKind::TryTable, sig, stack, opens) {
+    if !enter(tables, FrameKind::TryTable, sig, stack, opens) {
         return None;
     }
     Some(end)
@@ -209,7 +210,7 @@ fn try_table<R: WasmModuleResources>(resources: &R, tables: &Tables, bytes: &[u8
 // Takes the first operand of a cast, and puts another.
 fn cast<R: WasmModuleResources>(resources: &R, tables: &Tables, bytes: &[u8], at: usize, null: bool, tests: bool, stack: &mut Stack) -> Option<usize> {
     let (place, top, end) = heap_at(tables, bytes, at)?;
-    if !stack.take_below(resources, top) {
+    if !stack.take_below(tables.known.steps.as_slice(), top) {
         return None;
     }
     if tests {
@@ -229,14 +230,14 @@ fn br_on_cast<R: WasmModuleResources>(resources: &R, tables: &Tables, bytes: &[u
     let (to_place, _, end) = heap_at(tables, bytes, third)?;
     let from = code_at(tables, from_place)? + (1 - flags % 2);
     let to = code_at(tables, to_place)? + (1 - flags / 2);
-    if to != from && !is_below(resources, to, from) {
+    if to != from && !is_below(tables.known.steps.as_slice(), to, from) {
         return None;
     }
     // what is left where the cast fails
     let rest = if flags / 2 == 1 { from | 1 } else { from };
     let (goes, stays) = if fails { (rest, to) } else { (to, rest) };
     let types = label_at(tables, opens, depth)?;
-    if types.len() == 0 || !stack.take_below(resources, from) || !stack.put(goes) || !stack.take_all(resources, types) {
+    if types.len() == 0 || !stack.take_below(tables.known.steps.as_slice(), from) || !stack.put(goes) || !stack.take_all(tables.known.steps.as_slice(), types) {
         return None;
     }
     if !stack.put_all(&types[..types.len() - 1]) {
@@ -250,7 +251,7 @@ fn struct_new<R: WasmModuleResources>(resources: &R, tables: &Tables, shape: Sha
     while left > 0 {
         left -= 1;
         let field = field_in(tables, shape, left)?;
-        if !stack.take_below(resources, field.code) {
+        if !stack.take_below(tables.known.steps.as_slice(), field.code) {
             return None;
         }
     }
@@ -287,7 +288,7 @@ fn object<R: WasmModuleResources>(resources: &R, tables: &Tables, bytes: &[u8], 
             let (field, end) = index_at(bytes, second)?;
             let shape = shape_at(tables, index, 2)?;
             let field = field_in(tables, shape, field)?;
-            if field.packed != (code != 0x02) || !stack.take_below(resources, shape.code) {
+            if field.packed != (code != 0x02) || !stack.take_below(tables.known.steps.as_slice(), shape.code) {
                 return None;
             }
             put(stack, field.code, end)
@@ -297,13 +298,13 @@ fn object<R: WasmModuleResources>(resources: &R, tables: &Tables, bytes: &[u8], 
             let (field, end) = index_at(bytes, second)?;
             let shape = shape_at(tables, index, 2)?;
             let field = field_in(tables, shape, field)?;
-            done(field.mutable && stack.take_below(resources, field.code) && stack.take_below(resources, shape.code), end)
+            done(field.mutable && stack.take_below(tables.known.steps.as_slice(), field.code) && stack.take_below(tables.known.steps.as_slice(), shape.code), end)
         }
         0x06 => {
             let (index, end) = index_at(bytes, first)?;
             let shape = shape_at(tables, index, 3)?;
             let field = field_in(tables, shape, 0)?;
-            if !stack.take(0) || !stack.take_below(resources, field.code) {
+            if !stack.take(0) || !stack.take_below(tables.known.steps.as_slice(), field.code) {
                 return None;
             }
             put(stack, shape.code + 1, end)
@@ -326,7 +327,7 @@ fn object<R: WasmModuleResources>(resources: &R, tables: &Tables, bytes: &[u8], 
                 return None;
             }
             for _ in 0..count {
-                if !stack.take_below(resources, field.code) {
+                if !stack.take_below(tables.known.steps.as_slice(), field.code) {
                     return None;
                 }
             }
@@ -349,7 +350,7 @@ fn object<R: WasmModuleResources>(resources: &R, tables: &Tables, bytes: &[u8], 
             let shape = shape_at(tables, index, 3)?;
             let field = field_in(tables, shape, 0)?;
             let ty = code_of_reference(resources.element_type_at(segment)?);
-            if (ty != field.code && !is_below(resources, ty, field.code)) || !stack.take(0) || !stack.take(0) {
+            if (ty != field.code && !is_below(tables.known.steps.as_slice(), ty, field.code)) || !stack.take(0) || !stack.take(0) {
                 return None;
             }
             put(stack, shape.code + 1, end)
@@ -358,7 +359,7 @@ fn object<R: WasmModuleResources>(resources: &R, tables: &Tables, bytes: &[u8], 
             let (index, end) = index_at(bytes, first)?;
             let shape = shape_at(tables, index, 3)?;
             let field = field_in(tables, shape, 0)?;
-            if field.packed != (code != 0x0b) || !stack.take(0) || !stack.take_below(resources, shape.code) {
+            if field.packed != (code != 0x0b) || !stack.take(0) || !stack.take_below(tables.known.steps.as_slice(), shape.code) {
                 return None;
             }
             put(stack, field.code, end)
@@ -367,10 +368,10 @@ fn object<R: WasmModuleResources>(resources: &R, tables: &Tables, bytes: &[u8], 
             let (index, end) = index_at(bytes, first)?;
             let shape = shape_at(tables, index, 3)?;
             let field = field_in(tables, shape, 0)?;
-            done(field.mutable && stack.take_below(resources, field.code) && stack.take(0) && stack.take_below(resources, shape.code), end)
+            done(field.mutable && stack.take_below(tables.known.steps.as_slice(), field.code) && stack.take(0) && stack.take_below(tables.known.steps.as_slice(), shape.code), end)
         }
         0x0f => {
-            if !tables.known.references || !stack.take_below(resources, 24) {
+            if !tables.known.references || !stack.take_below(tables.known.steps.as_slice(), 24) {
                 return None;
             }
             put(stack, 0, first)
@@ -379,7 +380,7 @@ fn object<R: WasmModuleResources>(resources: &R, tables: &Tables, bytes: &[u8], 
             let (index, end) = index_at(bytes, first)?;
             let shape = shape_at(tables, index, 3)?;
             let field = field_in(tables, shape, 0)?;
-            done(field.mutable && stack.take(0) && stack.take_below(resources, field.code) && stack.take(0) && stack.take_below(resources, shape.code), end)
+            done(field.mutable && stack.take(0) && stack.take_below(tables.known.steps.as_slice(), field.code) && stack.take(0) && stack.take_below(tables.known.steps.as_slice(), shape.code), end)
         }
         0x11 => {
             let (to, second) = index_at(bytes, first)?;
@@ -389,8 +390,8 @@ fn object<R: WasmModuleResources>(resources: &R, tables: &Tables, bytes: &[u8], 
             }
             let shape = shape_at(tables, to, 3)?;
             let field = field_in(tables, shape, 0)?;
-            done(field.mutable && stack.take(0) && stack.take(0) && stack.take_below(resources, shape.code) && stack.take(0)
-                && stack.take_below(resources, shape.code), end)
+            done(field.mutable && stack.take(0) && stack.take(0) && stack.take_below(tables.known.steps.as_slice(), shape.code) && stack.take(0)
+                && stack.take_below(tables.known.steps.as_slice(), shape.code), end)
         }
         0x14 => cast(resources, tables, bytes, first, false, true, stack),
         0x15 => cast(resources, tables, bytes, first, true, true, stack),
@@ -400,14 +401,14 @@ fn object<R: WasmModuleResources>(resources: &R, tables: &Tables, bytes: &[u8], 
         0x19 => br_on_cast(resources, tables, bytes, first, true, stack, opens),
         0x1a => {
             let top = take_reference(stack)?;
-            if top / 2 != EXTERN / 2 && !is_below(resources, top, EXTERN) {
+            if top / 2 != EXTERN / 2 && !is_below(tables.known.steps.as_slice(), top, EXTERN) {
                 return None;
             }
             put(stack, ANY + top % 2, first)
         }
         0x1b => {
             let top = take_reference(stack)?;
-            if top / 2 != ANY / 2 && !is_below(resources, top, ANY) {
+            if top / 2 != ANY / 2 && !is_below(tables.known.steps.as_slice(), top, ANY) {
                 return None;
             }
             put(stack, EXTERN + top % 2, first)
@@ -419,7 +420,7 @@ fn object<R: WasmModuleResources>(resources: &R, tables: &Tables, bytes: &[u8], 
             put(stack, I31 + 1, first)
         }
         0x1d | 0x1e => {
-            if !stack.take_below(resources, I31) {
+            if !stack.take_below(tables.known.steps.as_slice(), I31) {
                 return None;
             }
             put(stack, 0, first)
@@ -451,7 +452,7 @@ fn tables_and_segments<R: WasmModuleResources>(resources: &R, tables: &Tables, b
             let (table, end) = index_at(bytes, second)?;
             let to = table_at(resources, table)?;
             let from = code_of_reference(resources.element_type_at(segment)?);
-            if from != to && !is_below(resources, from, to) {
+            if from != to && !is_below(tables.known.steps.as_slice(), from, to) {
                 return None;
             }
             take_numbers(stack, 3, end)
@@ -465,7 +466,7 @@ fn tables_and_segments<R: WasmModuleResources>(resources: &R, tables: &Tables, b
             let (from, end) = index_at(bytes, second)?;
             let to = table_at(resources, to)?;
             let from = table_at(resources, from)?;
-            if from != to && !is_below(resources, from, to) {
+            if from != to && !is_below(tables.known.steps.as_slice(), from, to) {
                 return None;
             }
             take_numbers(stack, 3, end)
@@ -473,7 +474,7 @@ fn tables_and_segments<R: WasmModuleResources>(resources: &R, tables: &Tables, b
         0x0f => {
             let (table, end) = index_at(bytes, first)?;
             let code = table_at(resources, table)?;
-            if !stack.take(0) || !stack.take_below(resources, code) {
+            if !stack.take(0) || !stack.take_below(tables.known.steps.as_slice(), code) {
                 return None;
             }
             put(stack, 0, end)
@@ -486,7 +487,7 @@ fn tables_and_segments<R: WasmModuleResources>(resources: &R, tables: &Tables, b
         0x11 => {
             let (table, end) = index_at(bytes, first)?;
             let code = table_at(resources, table)?;
-            done(stack.take(0) && stack.take_below(resources, code) && stack.take(0), end)
+            done(stack.take(0) && stack.take_below(tables.known.steps.as_slice(), code) && stack.take(0), end)
         }
         _ => None,
     }
@@ -511,11 +512,11 @@ pub(crate) fn refer<R: WasmModuleResources>(
     match code {
         0x08 => {
             let (tag, end) = index_at(bytes, at + 1)?;
-            let _taken = take_tag(resources, tag, stack)?;
+            let _taken = take_tag(resources, tables, tag, stack)?;
             unreached(tables, end, stack, opens)
         }
         0x0a => {
-            if !stack.take_below(resources, EXN) {
+            if !stack.take_below(tables.known.steps.as_slice(), EXN) {
                 return None;
             }
             unreached(tables, at + 1, stack, opens)
@@ -524,7 +525,7 @@ pub(crate) fn refer<R: WasmModuleResources>(
             let (index, second) = index_at(bytes, at + 1)?;
             let (table, end) = index_at(bytes, second)?;
             let element = table_at(resources, table)?;
-            if (element != FUNC && !is_below(resources, element, FUNC)) || !stack.take(0) {
+            if (element != FUNC && !is_below(tables.known.steps.as_slice(), element, FUNC)) || !stack.take(0) {
                 return None;
             }
             apply(resources, tables, sig_of_type(tables, index)?, end, stack)
@@ -537,7 +538,7 @@ pub(crate) fn refer<R: WasmModuleResources>(
             let (index, second) = index_at(bytes, at + 1)?;
             let (table, end) = index_at(bytes, second)?;
             let element = table_at(resources, table)?;
-            if (element != FUNC && !is_below(resources, element, FUNC)) || !stack.take(0) {
+            if (element != FUNC && !is_below(tables.known.steps.as_slice(), element, FUNC)) || !stack.take(0) {
                 return None;
             }
             leave_by(resources, tables, sig_of_type(tables, index)?, end, stack, opens)
@@ -545,7 +546,7 @@ pub(crate) fn refer<R: WasmModuleResources>(
         0x14 => {
             let (index, end) = index_at(bytes, at + 1)?;
             let shape = shape_at(tables, index, 1)?;
-            if !stack.take_below(resources, shape.code) {
+            if !stack.take_below(tables.known.steps.as_slice(), shape.code) {
                 return None;
             }
             apply(resources, tables, sig_of_type(tables, index)?, end, stack)
@@ -553,7 +554,7 @@ pub(crate) fn refer<R: WasmModuleResources>(
         0x15 => {
             let (index, end) = index_at(bytes, at + 1)?;
             let shape = shape_at(tables, index, 1)?;
-            if !stack.take_below(resources, shape.code) {
+            if !stack.take_below(tables.known.steps.as_slice(), shape.code) {
                 return None;
             }
             leave_by(resources, tables, sig_of_type(tables, index)?, end, stack, opens)
@@ -564,7 +565,7 @@ pub(crate) fn refer<R: WasmModuleResources>(
                 return None;
             }
             let (ty, end) = value_at(tables, bytes, second)?;
-            if !stack.take(0) || !stack.take_below(resources, ty) || !stack.take_below(resources, ty) {
+            if !stack.take(0) || !stack.take_below(tables.known.steps.as_slice(), ty) || !stack.take_below(tables.known.steps.as_slice(), ty) {
                 return None;
             }
             put(stack, ty, end)
@@ -581,7 +582,7 @@ pub(crate) fn refer<R: WasmModuleResources>(
         0x26 => {
             let (table, end) = index_at(bytes, at + 1)?;
             let code = table_at(resources, table)?;
-            done(stack.take_below(resources, code) && stack.take(0), end)
+            done(stack.take_below(tables.known.steps.as_slice(), code) && stack.take(0), end)
         }
         0xd0 => {
             let (place, _top, end) = heap_at(tables, bytes, at + 1)?;
@@ -601,7 +602,7 @@ pub(crate) fn refer<R: WasmModuleResources>(
             put(stack, shape.code + 1, end)
         }
         0xd3 => {
-            if !stack.take_below(resources, EQ) || !stack.take_below(resources, EQ) {
+            if !stack.take_below(tables.known.steps.as_slice(), EQ) || !stack.take_below(tables.known.steps.as_slice(), EQ) {
                 return None;
             }
             put(stack, 0, at + 1)
@@ -614,7 +615,7 @@ pub(crate) fn refer<R: WasmModuleResources>(
             let (depth, end) = index_at(bytes, at + 1)?;
             let types = label_at(tables, opens, depth)?;
             let top = take_reference(stack)?;
-            if !stack.take_all(resources, types) || !stack.put_all(types) {
+            if !stack.take_all(tables.known.steps.as_slice(), types) || !stack.put_all(types) {
                 return None;
             }
             put(stack, top | 1, end)
@@ -623,7 +624,7 @@ pub(crate) fn refer<R: WasmModuleResources>(
             let (depth, end) = index_at(bytes, at + 1)?;
             let types = label_at(tables, opens, depth)?;
             let top = take_reference(stack)?;
-            if types.len() == 0 || !stack.put(top | 1) || !stack.take_all(resources, types) {
+            if types.len() == 0 || !stack.put(top | 1) || !stack.take_all(tables.known.steps.as_slice(), types) {
                 return None;
             }
             done(stack.put_all(&types[..types.len() - 1]), end)

@@ -3,9 +3,8 @@
 ghost use Rattle.std.specs.Prelude.{◌≡◌, ◌≤◌, ◌∷◌, [], ◌++◌, true, ℕ, List, length, reverse};
 ghost use Rattle.wasm_operator_validator_fast_path.specs.Stacks.{Values, lying, with_all};
 
-use crate::codes::is_below;
+use crate::order::{Step, is_below};
 use crate::pile::Pile;
-use wasm_operator_validator_state::WasmModuleResources;
 use std::alloc::Global;
 use std::marker::Model;
 
@@ -126,12 +125,12 @@ impl Stack {
 
     /// Takes an operand of this type or one below it off.
     #[inline(always)]
-    pub fn take_below<R: WasmModuleResources>(&mut self, resources: &R, ty: u32) -> bool {
+    pub fn take_below(&mut self, steps: &[Step], ty: u32) -> bool {
         if self.items.len() <= self.base {
             return false;
         }
         let top = self.items.under(0);
-        if top != ty && !is_below(resources, top, ty) {
+        if top != ty && !is_below(steps, top, ty) {
             return false;
         }
         self.items.shorten();
@@ -149,12 +148,12 @@ impl Stack {
 
     /// Takes operands of these types off, the last on top.
     #[inline(always)]
-    pub fn take_all<R: WasmModuleResources>(&mut self, resources: &R, types: &[u32]) -> bool
+    pub fn take_all(&mut self, steps: &[Step], types: &[u32]) -> bool
     {
         let mut left = types.len();
         while left > 0 {
             left -= 1;
-            if !self.take_below(resources, types[left]) {
+            if !self.take_below(steps, types[left]) {
                 return false;
             }
         }

@@ -1,5 +1,6 @@
 //! What bodies ask of a module, packed, and open frames.
 
+use crate::order::Step;
 use crate::pile::Pile;
 use crate::shape_table::ShapeTable;
 use wasm_operator_validator_state::FrameKind;
@@ -29,6 +30,7 @@ pub struct Known {
     pub flat: Vec<u32>,
     pub shapes: Vec<Shaped>,
     pub fields: Vec<Field>,
+    pub steps: Vec<Step>,
     pub references: bool,
     pub types: Vec<Sig>,
     pub functions: Vec<u32>,

@@ -8,7 +8,6 @@ use crate::codes::NONE;
 use crate::indices::index_at;
 use crate::stack::Stack;
 use crate::tables::{Opens, Tables};
-use wasm_operator_validator_state::WasmModuleResources;
 use wasm_types_decoding::short_u32_at;
 
 /// The value of a local.
@@ -40,8 +39,7 @@ pub(crate) fn local_get(
 
 /// A local takes a value.
 #[inline(always)]
-pub(crate) fn local_set<R: WasmModuleResources>(
-    resources: &R,
+pub(crate) fn local_set(
     tables: &Tables,
     bytes: &[u8],
     at: usize,
@@ -60,7 +58,7 @@ pub(crate) fn local_set<R: WasmModuleResources>(
     };
     let index = index as usize;
     let locals = tables.locals.as_slice();
-    if index >= locals.len() || !stack.take_below(resources, locals[index]) {
+    if index >= locals.len() || !stack.take_below(tables.known.steps.as_slice(), locals[index]) {
         return None;
     }
     Some(end)
@@ -68,8 +66,7 @@ pub(crate) fn local_set<R: WasmModuleResources>(
 
 /// A local takes a value, which stays.
 #[inline(always)]
-pub(crate) fn local_tee<R: WasmModuleResources>(
-    resources: &R,
+pub(crate) fn local_tee(
     tables: &Tables,
     bytes: &[u8],
     at: usize,
@@ -88,7 +85,7 @@ pub(crate) fn local_tee<R: WasmModuleResources>(
     };
     let index = index as usize;
     let locals = tables.locals.as_slice();
-    if index >= locals.len() || !stack.take_below(resources, locals[index]) || !stack.put(locals[index]) {
+    if index >= locals.len() || !stack.take_below(tables.known.steps.as_slice(), locals[index]) || !stack.put(locals[index]) {
         return None;
     }
     Some(end)
@@ -127,8 +124,7 @@ pub(crate) fn global_get(
 
 /// A global takes a value.
 #[inline(always)]
-pub(crate) fn global_set<R: WasmModuleResources>(
-    resources: &R,
+pub(crate) fn global_set(
     tables: &Tables,
     bytes: &[u8],
     at: usize,
@@ -151,7 +147,7 @@ pub(crate) fn global_set<R: WasmModuleResources>(
         return None;
     }
     let held = globals[index];
-    if held.ty == NONE || !held.mutable || !stack.take_below(resources, held.ty) {
+    if held.ty == NONE || !held.mutable || !stack.take_below(tables.known.steps.as_slice(), held.ty) {
         return None;
     }
     Some(end)
