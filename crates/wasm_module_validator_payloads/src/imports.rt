@@ -1,6 +1,6 @@
 //! The import section. An import is lent to what adds it: its value holds types that a call by value cannot pass on.
 
-ghost use Rattle.std.specs.Prelude.{◌≡◌, List, OnOk};
+ghost use Rattle.std.specs.Prelude.{◌≡◌, ◌≤◌, List, length, OnOk, IfSome, IfNone};
 ghost use Rattle.wasm_types.specs.decoding.Decoder.{State};
 ghost use Rattle.wasm_types.specs.decoding.Denials.{Tells};
 ghost use Rattle.wasm_types.specs.settings.Settings.{Settings};
@@ -22,6 +22,8 @@ impl<'a> AddLent<'a, Import<'a>> for Collected {
     ghost use Rattle.wasm_module_validator_section_order.specs.rules_in_order.Texts.{ItemRead};
     ghost use Rattle.wasm_module_validator_section_order.specs.sections.Sections.{Reading, AddsIn, RefusesIn};
     ghost use Rattle.wasm_module_validator_section_order.specs.sections.Kinds.{import_read};
+    ghost use Rattle.wasm_module_validator_section_order.specs.items.Adding.{AddsShort};
+    ghost use Rattle.wasm_sections_items.specs.imports.Spells.{SpelledImport};
     ghost use Rattle.wasm_module_validator_payloads.specs.Progress.{Grows, IsRead};
     ghost use Rattle.wasm_module_validator_payloads.specs.laws.Growing.{grows_by_nothing, grows_further};
 
@@ -43,7 +45,13 @@ impl<'a> AddLent<'a, Import<'a>> for Collected {
         add_import_item(&mut self.state, &self.types, item, offset)
     }
 
-    fn add_lent_short(&mut self, bytes: &[u8], at: usize, limits: &Limits) -> Option<usize> {
+    fn add_lent_short(&mut self, bytes: &[u8], at: usize, limits: &Limits) -> Option<usize>
+        requires inside { at ≤ length bytes.now }
+        ensures added { IfSome result (AddsShort import_read import_read SpelledImport (AddsIn section.imports)
+            (IsRead section.imports) self.old self.new limits.now bytes.now at) }
+        ensures stays { IfNone result (self.new ≡ self.old) }
+        ensures grown { IfSome result (λ _. Grows self.old self.new) }
+    {
         add_short_import(&mut self.state, &self.types, bytes, at, limits)
     }
 
