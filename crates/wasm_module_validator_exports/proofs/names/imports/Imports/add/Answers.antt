@@ -1,4 +1,4 @@
-use Rattle.std.proofs.Common.{◌≡◌, ◌∙◌, ◌++◌, ap, length, subst, sym, List, ℕ}
+use Rattle.std.proofs.Common.{◌∙◌, ◌++◌, ap, length, subst, List, ℕ}
 use Rattle.std.specs.Prelude.{IsUtf8}
 use Rattle.wasm_module_validator_exports.specs.declared.names.imports.KeptImport.{KeptImport}
 use Rattle.wasm_module_validator_exports.proofs.Keeping.{no_name, one_more, none_more}
