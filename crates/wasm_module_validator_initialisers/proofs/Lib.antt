@@ -3,6 +3,8 @@ mod ShortData
 pub mod Worked
 mod Inside
 mod Walks
+mod ShortConstants
+mod ShortWalks
 mod Trees
 mod Names
 mod Places

@@ -5,5 +5,7 @@ pub mod Judged
 pub mod Items
 pub mod Naming
 pub mod Refusals
+-- Elements that their bytes alone tell.
+pub mod Short
 -- Worked segments, a pair for each rule.
 pub mod Worked

@@ -12,6 +12,7 @@ mod items;
 pub mod laws;
 mod modes;
 mod naming;
+mod short;
 
 pub use crate::segments::{
     ConstExpr, DataOf, GlobalOf, OperatorValidatorAllocations, Settings, TableInitOf, TableOf,

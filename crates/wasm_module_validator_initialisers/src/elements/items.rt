@@ -14,6 +14,7 @@ ghost use Rattle.wasm_module_validator_initialisers.specs.elements.Naming.{Names
 ghost use Rattle.wasm_module_validator_initialisers.specs.elements.Refusals.{RefusesConstant, RefusesFunction, RefusesItems};
 
 use crate::elements::naming::{take_constant, take_function};
+use crate::elements::short::take_short_elements;
 use crate::segments::{ConstExpr, OperatorValidatorAllocations, Settings, WasmModuleResources};
 use std::alloc::Global;
 use wasm_sections_items::elements::ElementItemsOf;
@@ -100,10 +101,13 @@ fn check_constants<'a, R: WasmModuleResources>(
         (type_in (R.meaning resources.now) ty.now)) (fresh constants.entry.count constants.entry.reader) e)) }
 {
     let end = constants.range().end;
-    for found in constants.into_iter_with_offsets() {
-        let item = match found {
-            Ok(item) => item,
-            Err(error) => return Err(error),
+    let mut elements = constants.into_iter_with_offsets();
+    'elements: loop {
+        take_short_elements(&mut elements, ty, resources, settings, names);
+        let item = match elements.next() {
+            None => return Ok(()),
+            Some(Ok(item)) => item,
+            Some(Err(error)) => return Err(error),
         };
         let expr = standing_at(alloc, &item.1, item.0, end);
         match take_constant(
@@ -120,7 +124,6 @@ fn check_constants<'a, R: WasmModuleResources>(
             Err(error) => return Err(error),
         }
     }
-    Ok(())
 }
 
 /// Checks the elements of a segment, which are of this type, over ids: as many as are counted, and no more than the limit; each is a
