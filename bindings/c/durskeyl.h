@@ -8,12 +8,13 @@
  * and else 0. durskeyl_imports and durskeyl_exports, of bytes that durskeyl_validate accepted by whatever settings: how
  * many there are, and in each row the names, the kind and the index that the module has, in its order; of any other bytes, that the names of
  * all rows that were written lie in the bytes, unless the answer is DURSKEYL_NO_MODULE. Of a module whose pieces are handed over:
- * durskeyl_take answers DURSKEYL_VALID exactly while nothing is refused, and then each whole item that came was judged; a kind that is a
- * verdict only if no module that begins with these bytes is valid; and a refusal stays. durskeyl_end answers of all pieces together what
- * durskeyl_validate is proved to answer of whole bytes. No more bytes are held than the cap says. All calls end on all bytes, read only
+ * durskeyl_take answers DURSKEYL_VALID only if each whole item that came was judged and none is refused; a kind that is a
+ * verdict only if no module that begins with these bytes is valid; and a refusal of bytes stays. durskeyl_end answers of all pieces that were
+ * taken what durskeyl_validate is proved to answer of whole bytes. Between calls no more bytes are held than the cap says. All calls end on all bytes, read only
  * what they are given, and write only the fault, the rows or the handle. Except for the four calls on a handle no call depends on an
  * earlier one, keeps anything, or leaves anything to free.
- * NOT PROVED: which of several faults is told, its kind, offset and text; time, memory and stack; this header; the kit's
+ * NOT PROVED: which of several faults is told, its kind, offset and text; time, memory and stack; that it is the cap, if the answer is
+ *   DURSKEYL_OUT_OF_MEMORY, and not the system, which refuses; this header; the kit's
  *   functions of memory; the C library. The file PROVED, which is installed beside LICENSE, says whether the archive was built by the
  *   toolchain from what it proved; if it was not, durskeyl_version has the bit DURSKEYL_NOT_PROVED.
  *
@@ -224,12 +225,13 @@ uint32_t durskeyl_is_valid(const uint8_t *bytes, size_t length);
  * them together. A piece need not stay there after its call. Each section, and each body, is judged as soon as it is whole and is then
  * forgotten; what is held is a part of one, and what a call finds whole in its piece is not copied.
  *
- * most is the cap: of the bytes no more are held at once. If more would have to be, the answer is DURSKEYL_OUT_OF_MEMORY. A section other than
+ * most is the cap: of the bytes no more are held between two calls. If more would have to be, the answer is DURSKEYL_OUT_OF_MEMORY. A section other than
  * that of the code is one item, and so is each body, which has at most 7.6 MB by the limits: with 16 MB (16 << 20) a module is judged whose
- * sections besides its code are no longer than that, however it is cut; with UINT64_MAX each is that memory is there for. What the module
+ * sections besides its code are no longer than that, custom ones and the bytes of id and size counted, however it is cut; with UINT64_MAX each is that memory is there for. What the module
  * declares is kept besides (types, imports, exports, names), as it is by durskeyl_validate.
  *
- * A refusal stays: each later durskeyl_take, and durskeyl_end, answers the same kind, so it does no harm to hand over the rest. */
+ * A refusal of bytes, and one for memory, stays: each later durskeyl_take, and durskeyl_end, answers the same kind, so it does no harm to hand
+ * over the rest. DURSKEYL_BAD_SETTINGS of durskeyl_take does not stay, and its piece is not the module's: do not go on as if it were. */
 
 /* Answers DURSKEYL_VALID if a module is begun; DURSKEYL_BAD_SETTINGS or DURSKEYL_OUT_OF_MEMORY if none is. A module that was begun in the
  * handle before is dropped in any case. What is begun belongs to the caller, who gives it back by durskeyl_end or durskeyl_drop. */

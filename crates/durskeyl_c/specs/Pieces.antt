@@ -37,7 +37,7 @@ answer_of None = 6
 answer_of (Some p) = answer_to p.refused
 
 -- What a number tells of the bytes that came, where more may follow: 0 only if each whole item of them was judged and none is refused; 3 if there
--- was no memory, or more bytes were in no whole item than may be held, which is no verdict; and else, memory aside, that no module that
+-- was no memory, or an item that came in several pieces is longer than may be held, which is no verdict; and else, memory aside, that no module that
 -- begins with them is valid.
 pub record TellsPiece (code : ℕ) (s : DurskeylSettings) (got : List ℕ) : Type 0 where
   pub going : code ≡ 0 → IsNotRefused (settings_in s) got

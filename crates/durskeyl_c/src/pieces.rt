@@ -129,8 +129,8 @@ pub extern "C" fn durskeyl_begin(
     }
 }
 
-/// Takes the next bytes of the module that was begun: 0 if of all that came nothing is refused; 3 if there was no memory, or more bytes than
-/// may be held were in no whole item; 6 if none was begun; else the number of the kind of fault for which no module that begins with
+/// Takes the next bytes of the module that was begun: 0 if of all that came nothing is refused; 3 if there was no memory, or an item that comes
+/// in several pieces is longer than may be held; 6 if none was begun; else the number of the kind of fault for which no module that begins with
 /// these bytes is valid. A refusal stays: each later call, and the end, answers the same number.
 #[unsafe(no_mangle)]
 pub extern "C" fn durskeyl_take(

@@ -223,7 +223,7 @@ impl Passed {
     }
 }
 
-/// The notes of a fault in no payload, after these.
+/// The notes of a fault in no payload.
 fn rest_notes(alloc: Global, passed: Passed, fault: Fault) -> Result<Vec<String>, AllocError> {
     if passed.is_in_code(fault.offset) {
         let (start, end) = passed.code;
@@ -242,7 +242,7 @@ fn after_text(alloc: Global, last: Option<Part>) -> Result<String, AllocError> {
     }
 }
 
-/// The notes of a payload, after these, if the fault is in it.
+/// The notes of a payload, if the fault is in it.
 fn payload_notes(
     alloc: Global,
     features: WasmFeatures,

@@ -1,5 +1,6 @@
--- When modules that are validated one after the other have the verdicts that they have alone: while one list has room for the types of all of
--- them. If types are kept in canonical form, types that are the same count once (WebAssembly 3.0, appendix, implementation limitations).
+-- When modules that are validated one after the other are accepted or refused as each is alone: while one list has room for the types of all of
+-- them and then for each group that comes, whole, even if the list has it. If types are kept in canonical form, types that are the same count
+-- once (WebAssembly 3.0, appendix, implementation limitations).
 use Rattle.std.specs.Prelude.{◌≡◌, ◌+◌, ◌≤◌, ◌++◌, ℕ, true, false, List, [], ◌∷◌, length, Contains}
 use Rattle.wasm_types.specs.settings.Settings.{Settings}
 use Rattle.wasm_types.specs.settings.Features.{needs_canonical_types}

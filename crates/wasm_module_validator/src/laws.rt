@@ -32,8 +32,9 @@ pub const fn lists_are_worked()
         → ListRows z id held x y t e }
 {}
 
-/// Modules that are validated one after the other have the verdicts that they have alone, while one list has room for the types of all of them;
-/// and if types are kept in canonical form, those that are the same count once: so many that are different are no more than those they are among.
+/// Modules that are validated one after the other are accepted or refused as each is alone, while one list has room for the types of all of them
+/// and then for each group that comes, whole. If types are kept in canonical form only different types need room: of the types of these modules
+/// there are at most as many different ones as there are types (`once`).
 pub const fn verdicts_are_isolated()
     ensures alone { (z : Settings) (id : ValidatorId) (held : List Group) (xs : List (List ℕ)) (vs : List Verdict)
         → AreVerdicts z id held xs vs → IsWithinTotal z held xs → AreAlone z xs vs }

@@ -1,5 +1,6 @@
 -- The total of types: the most that a list has (WebAssembly 3.0, appendix, implementation limitations). It is of all modules of a validator
 -- together, so the rules of one module know nothing of it. If types are kept in canonical form it counts different types: a list has each once.
+-- A group that comes next counts whole, even if the list has it.
 use Rattle.std.specs.Prelude.{◌≡◌, ◌+◌, ◌<◌, ◌≤◌, ℕ, List, length, Result, codes, Contains}
 use Rattle.wasm_types.specs.decoding.Denials.{Tells}
 use Rattle.wasm_types.specs.decoding.ErrorValue.{ErrorValue}

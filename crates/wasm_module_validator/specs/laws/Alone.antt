@@ -151,7 +151,7 @@ no_more_than (t ∷ ts) all d a =
 -- ---- worked rows
 
 -- Types that come a second time take no room where they are kept in canonical form, and do where they are not; and behind as many as a list has,
--- there is no room for one more. A module whose types the list has all passes no total by them, and a second module that is the same has the
+-- there is no room for one more. A module whose types the list has all passes no total if there is room for its group besides, and a second module that is the same has the
 -- verdict of the first.
 pub record AloneRows (z : Settings) (types : List TypeTree) (own : ℕ) (x : List ℕ) (t : Learned) (e : ErrorValue) : Type 0 where
   pub again : IsTrue (needs_canonical_types z.features) → length types + own ≤ max_types → HasRoomAfter z (types ++ types) own
