@@ -225,9 +225,10 @@ uint32_t durskeyl_is_valid(const uint8_t *bytes, size_t length);
  * them together. A piece need not stay there after its call. Each section, and each body, is judged as soon as it is whole and is then
  * forgotten; what is held is a part of one, and what a call finds whole in its piece is not copied.
  *
- * most is the cap: of the bytes no more are held between two calls; the list that holds them may take twice the memory while it grows. If more would have to be, the answer is DURSKEYL_OUT_OF_MEMORY. A section other than
- * that of the code is one item, and so is each body, which has at most 7.6 MB by the limits: with 16 MB (16 << 20) a module is judged whose
- * sections besides its code are no longer than that, custom ones and the bytes of id and size counted, however it is cut; with UINT64_MAX each is that memory is there for. What the module
+ * most is the cap: of the bytes no more are held between two calls; the list that holds them may take twice the memory while it grows. If
+ * more would have to be held, the answer is DURSKEYL_OUT_OF_MEMORY. A section other than that of the code is one item, and so is each body,
+ * which has at most 7.6 MB by the limits: with 16 MB (16 << 20) a module is judged, however it is cut, whose sections besides its code are
+ * no longer than that, custom ones and the bytes of id and size counted; with UINT64_MAX each is that memory is there for. What the module
  * declares is kept besides (types, imports, exports, names), as it is by durskeyl_validate.
  *
  * A refusal of bytes, and one for memory, stays: each later durskeyl_take, and durskeyl_end, answers the same kind, so it does no harm to hand
