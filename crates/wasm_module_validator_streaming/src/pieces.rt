@@ -67,7 +67,6 @@ impl ModuleInPieces {
     /// The bytes that came refuse each module that begins with them; or, of kind `OutOfMemory`, which is no verdict, there is no memory, or
     /// more than `most` bytes would have to be held, or the module has 2^64 bytes. A refusal stays: each later call has an error of the
     /// same kind, at the same offset.
-    #[tactic(auto, using(crate::proofs::HandedModule::still_came))]
     pub fn take(&mut self, bytes: &[u8]) -> Result<()>
         requires { IsUnderWay self.old }
         ensures came { (z : Settings) (id : ValidatorId) (got : List ℕ) → Came z id got self.old
