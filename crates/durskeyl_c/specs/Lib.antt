@@ -2,5 +2,3 @@
 pub mod Settings
 pub mod Told
 pub mod Listed
-pub mod Handles
-pub mod Pieces
