@@ -51,6 +51,13 @@ HasRoomForAll z types (x ∷ xs) =
 abbrev pub IsWithinTotal : Settings → List Group → List (List ℕ) → Type 0
 IsWithinTotal z held xs = HasRoomForAll z (all_types held) xs
 
+-- After so many types there are no more than the most, however often each of these inputs has the same: each group comes after the types of the
+-- inputs before, and those that its module has before the group.
+abbrev pub AreAtMost : ℕ → Settings → ℕ → List (List ℕ) → Type 0
+AreAtMost most z n [] = Unit {0}
+AreAtMost most z n (x ∷ xs) = ((before : List TypeTree) (own : ℕ) → HasGroupIn z x before own → n + length before + own ≤ most)
+    × ((q : SoFar) → IsReadAs z x q → AreAtMost most z (n + length (types_behind [] q.tree.types)) xs)
+
 -- ---- verdicts
 
 -- these bytes alone have this verdict: they are accepted exactly if they are a valid module, and if a function alone is refused, the rest is valid

@@ -9,6 +9,7 @@ use Rattle.wasm_types.specs.settings.Settings.{Settings}
 use Rattle.wasm_types.specs.settings.Features.{needs_canonical_types}
 use Rattle.wasm_types.specs.trees.declared.index.CoreTypeId.{CoreTypeId}
 use Rattle.wasm_types.specs.trees.Trees.{TypeTree}
+use Rattle.wasm_types.specs.trees.Unfold.{type_count}
 use Rattle.wasm_module_validator_index_spaces.specs.declared.view.validator_id.ValidatorId.{ValidatorId}
 use Rattle.wasm_module_validator_type_list.specs.List.{max_types}
 use Rattle.wasm_module_validator_type_storage.specs.trees.Groups.{Group, count, tree_of}
@@ -23,7 +24,7 @@ use Rattle.wasm_module_validator_rules.specs.Accepts.{AcceptsUnder, IsValidOutsi
 use Rattle.wasm_module_validator_rules.specs.Spaces.{types_behind}
 use Rattle.wasm_module_validator.specs.declared.lists.Verdict.{Verdict}
 use Rattle.wasm_module_validator.specs.declared.lists.Verdict.TheVariants.{Accepted, Refused}
-use Rattle.wasm_module_validator.specs.Alone.{all_types, AreDifferent, AreAmong, HasRoomAfter, HasRoomForAll, IsWithinTotal, AreAlone}
+use Rattle.wasm_module_validator.specs.Alone.{all_types, AreDifferent, AreAmong, HasRoomAfter, HasRoomForAll, IsWithinTotal, AreAtMost, AreAlone}
 use Rattle.wasm_module_validator.specs.Lists.{AreVerdicts}
 use Rattle.wasm_module_validator.specs.Shown.{Learned}
 use Rattle.wasm_module_validator.specs.laws.Ids.{ids_stay}
@@ -148,16 +149,39 @@ no_more_than (t ∷ ts) all d a =
     let less = length-append p.0 p.1 in
     omega (arith, rest, whole, less)
 
+-- ---- inputs for which a list has room
+
+-- it has if there is room for all of them, each as often as it is there
+roomy : (z : Settings) (types : List TypeTree) (own : ℕ) → length types + own ≤ max_types → HasRoomAfter z types own
+roomy z types own fits = record { canonical = λ on some d a. let few = no_more_than some types d a in omega (arith, few, fits); as_written = λ off. fits }
+
+roomy_for_all : (z : Settings) (types : List TypeTree) (xs : List (List ℕ)) → AreAtMost max_types z (length types) xs → HasRoomForAll z types xs
+roomy_for_all z types [] a = tt
+roomy_for_all z types (x ∷ xs) a = (
+  λ before own has within. roomy z (types ++ before) own (let fits = a.0 before own has in let whole = length-append types before in omega (arith, fits, whole)),
+  λ q read. let more = types_behind [] q.tree.types in
+      roomy_for_all z (types ++ more) xs (subst (λ (n : ℕ). AreAtMost max_types z n xs) (sym (length-append types more)) (a.1 q read)),
+)
+
+pub few_have_room : (z : Settings) (held : List Group) (xs : List (List ℕ)) → AreAtMost max_types z (count held) xs → IsWithinTotal z held xs
+few_have_room z held xs a = roomy_for_all z (all_types held) xs (subst (λ (n : ℕ). AreAtMost max_types z n xs) (sym (counted held)) a)
+
+pub first_has_room : (z : Settings) (x : List ℕ) → z.limits.types ≤ max_types → IsWithinTotal z [] (x ∷ [])
+unfolding type_count
+first_has_room z x few = (λ before own has within. roomy z before own (omega (arith, within, few)), λ q read. tt)
+
 -- ---- worked rows
 
 -- Types that come a second time take no room where they are kept in canonical form, and do where they are not; and behind as many as a list has,
--- there is no room for one more. A module whose types the list has all passes no total if there is room for its group besides, and a second module that is the same has the
--- verdict of the first.
+-- there is no room for one more. A module whose types the list has all passes no total if there is room for its group besides, and a second
+-- module that is the same has the verdict of the first.
 pub record AloneRows (z : Settings) (types : List TypeTree) (own : ℕ) (x : List ℕ) (t : Learned) (e : ErrorValue) : Type 0 where
   pub again : IsTrue (needs_canonical_types z.features) → length types + own ≤ max_types → HasRoomAfter z (types ++ types) own
   pub full : IsTrue (needs_canonical_types z.features) → AreDifferent types → length types ≡ max_types → HasRoomAfter z types 1 → ⊥
   pub as_written : needs_canonical_types z.features ≡ false → length types + length types + own ≤ max_types → HasRoomAfter z (types ++ types) own
   pub full_as_written : needs_canonical_types z.features ≡ false → length types + length types ≡ max_types → HasRoomAfter z (types ++ types) 1 → ⊥
+  pub crowded : IsTrue (needs_canonical_types z.features) → AreDifferent types → length types ≡ max_types → 1 ≤ z.limits.types → HasGroupIn z x [] 1
+      → HasRoomForAll z types (x ∷ []) → ⊥
   pub held_already : IsTrue (needs_canonical_types z.features) → (groups : List Group) → AreAmong types (all_types groups) → count groups + own ≤ max_types
       → IsPastTotal groups (no_items z) (OneGroup types own) e → ⊥
   pub accepted_again : AcceptsUnder z x → AreAlone z (x ∷ x ∷ []) (Accepted t ∷ Accepted t ∷ [])
@@ -198,6 +222,8 @@ alone_rows z types own x t e = record {
     as_written = λ off. let whole = length-append types types in omega (arith, whole, fits);
   };
   full_as_written = λ off many room. let fits = room.as_written off in let whole = length-append types types in omega (arith, fits, whole, many);
+  crowded = λ on d many within has room.
+      let fits = (room.0 [] 1 has (omega (arith, within))).canonical on types d (λ u c. Contains-append_left types [] u c) in omega (arith, fits, many);
   held_already = λ on groups among fits p.
       not_past z (all_types groups) groups (OneGroup types own) (known_first groups) (room_again z groups types own on among fits) e p;
   accepted_again = λ a. (a, (a, tt));
