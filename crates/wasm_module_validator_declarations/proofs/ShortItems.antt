@@ -5,7 +5,6 @@ use Rattle.std.proofs.lemmas.List.{length-take-le, length-drop, drop_more}
 use Rattle.wasm_types.specs.decoding.Leb.{u32, IsUnsigned}
 use Rattle.wasm_types.specs.decoding.Text.{IsName}
 use Rattle.wasm_types.specs.settings.declared.Limits.{Limits}
-use Rattle.wasm_types.specs.settings.Settings.{Settings}
 use Rattle.wasm_types.specs.decoding.Numbers.{GivesAt}
 use Rattle.wasm_sections_items.specs.declared.imports.kind.ExternalKind.{ExternalKind}
 use Rattle.wasm_sections_items.specs.declared.imports.type_ref.TypeRef.TheVariants.{Func}

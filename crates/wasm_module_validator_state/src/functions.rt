@@ -42,7 +42,8 @@ impl ModuleState {
         requires { IsReadOver types.now.groups self.old.spaces }
         ensures importable { IfSome result (λ _. IsImportable types.now.groups self.old (import.Func type_index)) }
         ensures imported { IfSome result (λ _. IsImported types.now.groups
-            (record { module_name = «module».now; field_name = name.now; ty = import.Func type_index }) self.old self.new) }
+            (record { module_name = «module».now; field_name = name.now; ty = import.Func type_index })
+            self.old self.new) }
         ensures read { IsReadOver types.now.groups self.new.spaces }
         ensures stays { IfNone result (self.new ≡ self.old) }
     {
@@ -76,7 +77,8 @@ impl ModuleState {
     /// limit of exports is not tested. It makes no error.
     pub fn export_function(&mut self, name: &str, index: u32, types: &TypeList) -> Option<()>
         requires { IsReadOver types.now.groups self.old.spaces }
-        ensures exportable { IfSome result (λ _. IsExportable types.now.groups self.old name.now kind.Func index false) }
+        ensures exportable { IfSome result (λ _. IsExportable types.now.groups self.old name.now kind.Func index
+            false) }
         ensures exported { IfSome result (λ _. IsExported types.now.groups name.now kind.Func index self.old self.new) }
         ensures read { IsReadOver types.now.groups self.new.spaces }
         ensures stays { IfNone result (self.new ≡ self.old) }

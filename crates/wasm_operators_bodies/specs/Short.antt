@@ -1,6 +1,7 @@
 -- Constant expressions of one operator (WebAssembly 3.0, validation, instructions, constant expressions).
-use Rattle.std.specs.Prelude.{◌≡◌, ℕ, ℤ, List}
+use Rattle.std.specs.Prelude.{◌≡◌, ℕ, ℤ, List, false}
 use Rattle.wasm_types.specs.settings.Settings.{Settings}
+use Rattle.wasm_types.specs.values.declared.heap.HeapType.TheVariants.{Abstract}
 use Rattle.wasm_operators_enums.specs.declared.control.ControlOperator.TheVariants as control
 use Rattle.wasm_operators_enums.specs.declared.constant.ConstOperator.TheVariants as constant
 use Rattle.wasm_operators_enums.specs.declared.memory.MemoryOperator.TheVariants as memory
@@ -18,6 +19,7 @@ IsOf short.I32 o = (n : ℤ) × (o ≡ op.Const (constant.I32Const n))
 IsOf short.I64 o = (n : ℤ) × (o ≡ op.Const (constant.I64Const n))
 IsOf (short.Global x) o = o ≡ op.Memory (memory.GlobalGet x)
 IsOf (short.Function x) o = o ≡ op.Bulk (bulk.RefFunc x)
+IsOf (short.Null t) o = o ≡ op.Bulk (bulk.RefNull (Abstract false t))
 
 -- the expression of this operator alone
 abbrev pub alone : Op → Code

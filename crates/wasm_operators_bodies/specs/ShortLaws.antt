@@ -1,10 +1,15 @@
 -- An operator and the `end` behind it are a constant expression.
-use Rattle.std.proofs.Common.{◌≡◌, ◌∙◌, ℕ, ◌+◌, ◌-◌, ◌<◌, ◌≤◌, List, [], ◌∷◌, ◌++◌, length, take, drop, false, true, IsTrue, Some, refl, sym, ap, subst, arith, append-nil}
-use Rattle.std.proofs.lemmas.List.{append_assoc, length-append, take-append-le, take_all}
+use Rattle.std.proofs.Common.{◌≡◌, ◌∙◌, ℕ, ◌+◌, ◌-◌, ◌<◌, ◌≤◌, List, [], ◌∷◌, ◌++◌, length, take, drop, get_or, false, true, IsTrue, Some, refl, sym, ap, subst, arith, append-nil}
+use Rattle.std.proofs.lemmas.List.{drop_more, append_assoc, length-append, take-append-le, take_all}
 use Rattle.wasm_types.specs.settings.Settings.{Settings}
+use Rattle.wasm_types.specs.values.declared.heap.AbstractHeapType.{AbstractHeapType}
+use Rattle.wasm_types.specs.values.declared.heap.HeapType.TheVariants.{Abstract}
+use Rattle.wasm_types.specs.values.Spells.{abstract_byte}
+use Rattle.wasm_types.specs.values.Trees.{abstract_of}
 use Rattle.wasm_types.specs.decoding.Decoder.{State, Takes}
 use Rattle.wasm_types.specs.decoding.Numbers.{behind, GivesAt}
 use Rattle.wasm_operators_immediates.specs.declared.frames.FrameKind.TheVariants.{Block}
+use Rattle.wasm_operators_enums.specs.declared.bulk.BulkOperator.TheVariants as bulk
 use Rattle.wasm_operators_enums.specs.declared.control.ControlOperator.TheVariants as control
 use Rattle.wasm_operators_enums.specs.Op as op
 use Rattle.wasm_operators_enums.specs.Op.{Op}
@@ -28,6 +33,7 @@ plain_of short.I32 o (n, e) = rw e refl
 plain_of short.I64 o (n, e) = rw e refl
 plain_of (short.Global x) o e = rw e refl
 plain_of (short.Function x) o e = rw e refl
+plain_of (short.Null t) o e = rw e refl
 
 -- the bytes from one offset to another
 module _ (z : Settings) (text : List ℕ) where
@@ -71,3 +77,36 @@ short_is_constant c text h z =
       spelled = spelled;
       once = record { front = o ∷ []; last = op.Control control.End; whole = refl; none = (rw (plain_of c o is) refl, tt); ended = refl };
     }
+
+-- a null of three bytes
+module _ (t : AbstractHeapType) where
+  null_text : (z : Settings) → SpelledExpression z (alone (op.Bulk (bulk.RefNull (Abstract false t)))) (0xd0 ∷ abstract_byte (abstract_of t) ∷ 0x0b ∷ [])
+  null_text z = record {
+    expression = (refl, refl);
+    spelled = (
+      0xd0 ∷ abstract_byte (abstract_of t) ∷ [],
+      0x0b ∷ [],
+      record {
+        canonical = refl;
+        front = 0xd0 ∷ [];
+        back = abstract_byte (abstract_of t) ∷ [];
+        opcode = (refl, refl);
+        carried = (abstract_byte (abstract_of t) ∷ [], [], refl, refl, refl);
+        whole = refl;
+      },
+      (0x0b ∷ [], [], record { canonical = refl; front = 0x0b ∷ []; back = []; opcode = (refl, refl); carried = refl; whole = refl }, refl, refl),
+      refl,
+    );
+  }
+
+  pub null_spelled : (text : List ℕ) → 3 ≤ length text → get_or text 0 0 ≡ 0xd0 → get_or text 1 0 ≡ abstract_byte (abstract_of t) → get_or text 2 0 ≡ 0x0b
+      → SpellsShort (short.Null t) (take 3 text)
+  null_spelled text inside first type last z =
+      let p : text ≡ get_or text 0 0 ∷ drop 1 text = drop_more text 0 0 (omega (arith, inside)) in
+      let q : drop 1 text ≡ get_or text 1 0 ∷ drop 2 text = drop_more text 1 0 (omega (arith, inside)) in
+      let r : drop 2 text ≡ get_or text 2 0 ∷ drop 3 text = drop_more text 2 0 (omega (arith, inside)) in
+      let whole : text ≡ get_or text 0 0 ∷ get_or text 1 0 ∷ get_or text 2 0 ∷ drop 3 text
+      = p ∙ ap (λ (xs : List ℕ). get_or text 0 0 ∷ xs) (q ∙ ap (λ (xs : List ℕ). get_or text 1 0 ∷ xs) r) in
+      let part : take 3 text ≡ get_or text 0 0 ∷ get_or text 1 0 ∷ get_or text 2 0 ∷ [] = ap (take 3) whole in
+      let bytes : take 3 text ≡ 0xd0 ∷ abstract_byte (abstract_of t) ∷ 0x0b ∷ [] = part ∙ rw (first, type, last) refl in
+      (op.Bulk (bulk.RefNull (Abstract false t)), refl, subst (λ (xs : List ℕ). SpelledExpression z (alone (op.Bulk (bulk.RefNull (Abstract false t)))) xs) (sym bytes) (null_text z))

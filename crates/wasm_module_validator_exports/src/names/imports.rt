@@ -2,11 +2,12 @@
 
 ghost use Rattle.std.specs.Prelude.{◌≡◌, ◌<◌, [], map, length, IfErr, IfOk, IfSome, OnOk, OnErr};
 ghost use Rattle.wasm_types.specs.decoding.declared.error.ErrorKind.TheVariants.{OutOfMemory};
-ghost use Rattle.wasm_module_validator_exports.specs.names.Imports.{HasAdded, HasKept, grouped, module_at, named_of, with_import};
+ghost use Rattle.wasm_module_validator_exports.specs.names.Imports.{AreKept, HasAdded, HasKept, IsNamed, grouped, module_at, name_at, named_of, with_import};
 
 use crate::names::groups::{Groups, NamedImports};
 use std::alloc::Global;
 use std::marker::Model;
+use std::str;
 use wasm_sections_items::imports::ExternalKind;
 use wasm_types::{Error, Result};
 
@@ -20,11 +21,13 @@ pub struct Place {
 }
 
 // An import as the module writes it.
-#[derive(Drop)]
+#[derive(Clone, Copy)]
 pub(crate) struct KeptImport {
     // Where the name of its module stands, among those that are kept.
     pub(crate) module: usize,
-    pub(crate) name: String,
+    // Where its own name begins and ends, among the bytes of all names.
+    pub(crate) start: usize,
+    pub(crate) end: usize,
     pub(crate) place: Place,
 }
 
@@ -32,11 +35,12 @@ pub(crate) struct KeptImport {
 ///
 /// They are kept one by one as they come, and are grouped by their names when that is asked for ([`Imports::grouped`]): a module may
 /// import by one pair of names as often as it likes, so nothing is looked up while it is read. The name of a module is looked for among
-/// the last few alone, so it is mostly kept once.
+/// the last few alone, so it is mostly kept once. Their own names stand one after the other, so that none takes memory by itself.
 #[derive(Drop)]
 pub struct Imports {
     alloc: Global,
     modules: Vec<String>,
+    names: Vec<u8>,
     imports: Vec<KeptImport>,
 }
 
@@ -46,9 +50,9 @@ impl Model for Imports {
 
     ghost Value = { List ImportedName };
 
-    ghost view = { λ i. grouped i.modules.items i.imports.items };
+    ghost view = { λ i. grouped i.modules.items i.names.items i.imports.items };
 
-    ghost invariant = { λ i. AreKept i.modules.items i.imports.items };
+    ghost invariant = { λ i. AreKept i.modules.items i.names.items i.imports.items };
 }
 
 // The name of an import's module.
@@ -61,9 +65,26 @@ fn module_of<'a>(modules: &'a [String], import: &KeptImport) -> &'a str
     }
 }
 
+// The name of an import.
+fn name_of<'a>(names: &'a [u8], import: &KeptImport) -> &'a str
+    requires { IsNamed names.now import.now }
+    ensures { result.now ≡ name_at names.now import.now }
+{
+    match str::from_utf8(&names[import.start..import.end]) {
+        Ok(name) => name,
+        Err(_error) => unreachable!(),
+    }
+}
+
 // These imports by their names.
-fn group<'a>(alloc: Global, modules: &'a [String], imports: &'a [KeptImport]) -> Result<Groups<'a>>
-    ensures told { IfOk result (λ all. all ≡ grouped modules.now imports.now) }
+fn group<'a>(
+    alloc: Global,
+    modules: &'a [String],
+    names: &'a [u8],
+    imports: &'a [KeptImport],
+) -> Result<Groups<'a>>
+    requires { AreKept modules.now names.now imports.now }
+    ensures told { IfOk result (λ all. all ≡ grouped modules.now names.now imports.now) }
     ensures refused { IfErr result (λ e. e.kind ≡ OutOfMemory) }
 {
     let mut groups = Groups::new(alloc);
@@ -71,7 +92,7 @@ fn group<'a>(alloc: Global, modules: &'a [String], imports: &'a [KeptImport]) ->
     while let Some((import, rest)) = left.split_first() {
         groups.insert(
             module_of(modules, import),
-            import.name.as_str(),
+            name_of(names, import),
             import.place,
         )?;
         left = rest;
@@ -117,6 +138,7 @@ impl Imports {
         Imports {
             alloc,
             modules: Vec::new(alloc),
+            names: Vec::new(alloc),
             imports: Vec::new(alloc),
         }
     }
@@ -130,7 +152,12 @@ impl Imports {
         ensures told { IfOk result (λ all. map named_of all.items ≡ self.now) }
         ensures refused { IfErr result (λ e. e.kind ≡ OutOfMemory) }
     {
-        let groups = group(self.alloc, self.modules.as_slice(), self.imports.as_slice())?;
+        let groups = group(
+            self.alloc,
+            self.modules.as_slice(),
+            self.names.as_slice(),
+            self.imports.as_slice(),
+        )?;
         Ok(groups.into_names())
     }
 
@@ -141,12 +168,15 @@ impl Imports {
         let Some(module) = keep_module(self.alloc, &mut self.modules, module) else {
             return false;
         };
-        let Ok(name) = String::from_str(self.alloc, name) else {
+        let start = self.names.as_slice().len();
+        let Ok(()) = self.names.extend_from_slice(name.as_bytes()) else {
             return false;
         };
+        let end = self.names.as_slice().len();
         let import = KeptImport {
             module,
-            name,
+            start,
+            end,
             place,
         };
         let Ok(()) = self.imports.push(import) else {

@@ -1,11 +1,10 @@
-use Rattle.std.proofs.Common.{◌≡◌, Ok, Result, subst, sym, ap}
+use Rattle.std.proofs.Common.{◌≡◌, Ok, Result, subst}
 use Rattle.wasm_types.specs.decoding.ErrorValue.{ErrorValue}
 use Rattle.wasm_sections_items.specs.declared.imports.kind.ExternalKind.{ExternalKind}
 use Rattle.wasm_sections_items.specs.declared.imports.kind.ExternalKind.TheVariants.{Func}
 use Rattle.wasm_sections_items.specs.imports.Spells.{ExportTree}
 use Rattle.wasm_module_validator_section_order.specs.rules_in_order.Between.{IsBetween}
-use Rattle.wasm_module_validator_state.specs.Items.{Items}
-use Rattle.wasm_module_validator_declarations.specs.Short.{AddsExport, SpellsExport}
+use Rattle.wasm_module_validator_declarations.specs.Short.{SpellsExport}
 use Rattle.wasm_module_validator_declarations.proofs.ShortItems.{other_export}
 use Rattle.wasm_module_validator_declarations.proofs.Telling.{export_told}
 use Rattle.wasm_module_validator_declarations.proofs.Leaving.{export_left, export_settings, export_types}

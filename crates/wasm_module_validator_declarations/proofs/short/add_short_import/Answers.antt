@@ -1,4 +1,4 @@
-use Rattle.std.proofs.Common.{◌≡◌, ◌∙◌, Ok, Result, ap}
+use Rattle.std.proofs.Common.{◌∙◌, Ok, Result, ap}
 use Rattle.wasm_types.specs.decoding.ErrorValue.{ErrorValue}
 use Rattle.wasm_sections_items.specs.declared.imports.type_ref.TypeRef.TheVariants.{Func}
 use Rattle.wasm_sections_items.specs.imports.Spells.{ImportTree, kind_byte}

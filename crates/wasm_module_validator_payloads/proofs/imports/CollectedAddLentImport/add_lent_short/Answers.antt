@@ -1,4 +1,4 @@
-use Rattle.std.proofs.Common.{◌≡◌, ℕ, ap, subst}
+use Rattle.std.proofs.Common.{ap, subst}
 use Rattle.wasm_sections_items.specs.imports.Spells.{ImportTree, SpelledImport}
 use Rattle.wasm_sections_items.specs.declared.imports.import.Import.{Import}
 use Rattle.wasm_module_validator_section_order.specs.rules.Syntax.{ModuleTree}

@@ -1,4 +1,4 @@
-use Rattle.std.proofs.Common.{◌∙◌, ◌∷◌, ◌++◌, [], false, IsTrue, ap, sym, subst}
+use Rattle.std.proofs.Common.{◌∙◌, ◌∷◌, ◌++◌, [], ap, sym, subst}
 use Rattle.wasm_sections_items.specs.declared.imports.kind.ExternalKind.TheVariants.{Func}
 use Rattle.wasm_module_validator_exports.specs.names.Exports.{IsNew, names_of}
 use Rattle.wasm_module_validator_resources.specs.Named.{IsReadOver}

@@ -3,7 +3,7 @@ use Rattle.wasm_operators_enums.specs.Op as op
 use Rattle.wasm_operators_enums.specs.declared.control.ControlOperator.TheVariants as control
 use Rattle.wasm_operators_frequent.proofs.ShortReading.{told_alone}
 use Rattle.wasm_operators_bodies.specs.ShortLaws.{short_spelled}
-use Rattle.wasm_operators_bodies.proofs.short.short_constant.Goals as goal
+use Rattle.wasm_operators_bodies.proofs.short.other_constant.Goals as goal
 
 pub returns-clause-spelled : goal.returns-clause-spelled
 returns-clause-spelled c =
