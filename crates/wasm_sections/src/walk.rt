@@ -3,14 +3,14 @@
 ghost use Rattle.std.specs.Prelude.{◌≡◌, ◌+◌, ◌<◌, ◌≤◌, ◌^◌, length, false, Some, Ok, IfSome, IfNone, MatchResult};
 ghost use Rattle.std.specs.Iterator.{at_most};
 ghost use Rattle.wasm_types.specs.reader.Reading.{NeedsNoMemory};
-ghost use Rattle.wasm_sections_parser.specs.declared.frame.Frame.TheVariants.{CodeEntry};
+ghost use Rattle.wasm_sections_parser.specs.declared.frame.Frame.TheVariants.{CodeEntry, Custom};
 ghost use Rattle.wasm_sections.specs.Walking.{IsFrameOf, IsFaultOf, is_end, NextPayload, payloads_left};
 
 use crate::Payload;
 use std::alloc::Global;
 use std::marker::Model;
 use wasm_operators_bodies::FunctionBody;
-use wasm_sections_parser::{Chunk, Frame, Parser};
+use wasm_sections_parser::{Chunk, CustomSectionReader, Frame, Parser};
 use wasm_types::{BinaryReader, Result};
 
 /// The payloads of a module that is all there, one by one. Nothing comes behind the end and behind an error.
@@ -98,6 +98,23 @@ fn next_body<'a>(parser: &mut Parser, bytes: &'a [u8]) -> Option<(BinaryReader<'
     Some((part, &bytes[consumed..]))
 }
 
+// The next custom section, where it is all there, which is taken from the bytes.
+#[inline(always)]
+fn next_custom<'a>(
+    parser: &mut Parser,
+    bytes: &'a [u8],
+) -> Option<(CustomSectionReader<'a>, &'a [u8])>
+    requires { parser.old.offset + length bytes.now < 2 ^ 64 }
+    ensures answer { IfSome result (λ x. IsFrameOf parser.old bytes.now (Custom x.0) parser.new x.1.now) }
+    ensures fits { IfSome result (λ x. parser.new.offset + length x.1.now ≡ parser.old.offset + length bytes.now) }
+    ensures stays { IfNone result (parser.new ≡ parser.old) }
+{
+    let Some((section, consumed)) = parser.next_custom(bytes) else {
+        return None;
+    };
+    Some((section, &bytes[consumed..]))
+}
+
 impl<'a> ParseAll<'a> {
     // The next body, where it is all there: what comes most often.
     #[inline(always)]
@@ -113,6 +130,22 @@ impl<'a> ParseAll<'a> {
         };
         self.bytes = rest;
         Some(Payload::CodeSectionEntry(FunctionBody::new(self.alloc, part)))
+    }
+
+    // The next custom section, where it is all there: a module may be made of a great many.
+    #[inline(always)]
+    fn short_custom(&mut self) -> Option<Payload<'a>>
+        requires { self.old.over ≡ false }
+        ensures answer { IfSome result (λ p. NextPayload self.old (Some (Ok p)) self.new) }
+        ensures fewer { IfSome result (λ p. payloads_left self.new.over self.new.rest + 1
+            ≤ payloads_left self.old.over self.old.rest) }
+        ensures stays { IfNone result (self.new ≡ self.old) }
+    {
+        let Some((section, rest)) = next_custom(&mut self.parser, self.bytes) else {
+            return None;
+        };
+        self.bytes = rest;
+        Some(Payload::CustomSection(section))
     }
 
     // The payload that the next frame is: `step`, with a place of its own for the answer, so that none is made ready before.
@@ -169,6 +202,9 @@ impl<'a> Iterator for ParseAll<'a> {
         }
         if let Some(body) = self.short_body() {
             return Some(Ok(body));
+        }
+        if let Some(section) = self.short_custom() {
+            return Some(Ok(section));
         }
         Some(self.step_other())
     }

@@ -1,1 +1,2 @@
 mod NextBody
+mod NextCustom

@@ -9,6 +9,7 @@ pub mod Settled
 pub mod SettledLaws
 pub mod StepLaws
 pub mod PlaceLaws
+pub mod Names
 -- Worked rows.
 pub mod Worked
 -- Rules and laws: what a parser gives of a module is what its bytes spell.

@@ -8,6 +8,7 @@
 #![tactic(auto)]
 
 mod bodies;
+mod customs;
 mod frame;
 pub mod laws;
 mod needs;

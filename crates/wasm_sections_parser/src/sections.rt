@@ -26,7 +26,7 @@ pub(crate) struct Read<'a> {
 }
 
 // A reader over these bytes, which stand from `place` to `end`, as the reader behind them reads.
-fn part_between<'a>(
+pub(crate) fn part_between<'a>(
     text: &'a [u8],
     place: u64,
     end: u64,
