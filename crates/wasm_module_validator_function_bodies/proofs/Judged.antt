@@ -1,37 +1,46 @@
 -- Bodies that are judged in one loop: their locals as codes, and what is valid then.
-use Rattle.std.proofs.Common.{◌≡◌, ◌≤◌, ◌<◌, ◌∙◌, ◌+◌, ◌-◌, ℕ, zero, suc, List, [], ◌∷◌, ◌++◌, Bool, false, Option, Some, None, refl, sym, ap, subst, arith, append-nil, length, take, drop, map, replicate, get_or, slice_get}
-use Rattle.std.specs.Prelude.{option_map}
-use Rattle.std.proofs.lemmas.List.{append_assoc, length-append, length-map, length-replicate, map-append, drop_more, length_push, take_all}
-use Rattle.std.proofs.lemmas.Grind.{common_steps}
+use Rattle.std.proofs.Common.{◌≡◌, ◌≤◌, ◌<◌, ◌∙◌, ◌+◌, ◌-◌, ◌⊎◌, inl, inr, ℕ, zero, suc, List, [], ◌∷◌, ◌++◌, Bool, false, Option, Some, None, refl, sym, ap, subst, arith, append-nil, length, take, drop, map, replicate, get_or, slice_get}
+use Rattle.std.specs.Prelude.{All, option_map}
+use Rattle.std.proofs.lemmas.Bool.{cases_lt}
+use Rattle.std.proofs.lemmas.List.{append_assoc, length-append, length-map, length-replicate, map-append, get_or-append_right, length_push}
 use Rattle.wasm_types.specs.decoding.Decoder.{Many}
 use Rattle.wasm_types.specs.decoding.Leb.{u32, IsUnsigned, IsListed}
 use Rattle.wasm_types.specs.settings.Settings.{Settings}
 use Rattle.wasm_types.specs.trees.Trees.{TypeTree, opened}
-use Rattle.wasm_types.specs.trees.Types.{EntryOf}
+use Rattle.wasm_types.specs.trees.declared.index.UnpackedIndex.{UnpackedIndex}
+use Rattle.wasm_types.specs.trees.declared.index.UnpackedIndex.TheVariants as index
+use Rattle.wasm_types.specs.trees.Types.{EntryOf, HeapOf, abstract, concrete, exact, ValueOf, number, ref, heap_map, value_map}
+use Rattle.wasm_types.specs.settings.declared.WasmFeatures.{WasmFeatures}
+use Rattle.wasm_types.specs.values.DecodeValues.{value_type}
+use Rattle.wasm_types.specs.values.Spelled.{SpelledValue}
+use Rattle.wasm_types.specs.values.ValueLaws.{decides-value_type}
+use Rattle.wasm_types.specs.values.Values.{value_of}
 use Rattle.wasm_types.specs.trees.Below.{is_shared}
 use Rattle.wasm_types.specs.decoding.Numbers.{GivesAt}
 use Rattle.wasm_operators_bodies.specs.Locals.{LocalGroup, group_of, total, SpelledGroup}
 use Rattle.wasm_operators_encoding.specs.expressions.Code.{Code}
 use Rattle.wasm_operators_encoding.specs.expressions.Spelling.{SpelledExpression}
 use Rattle.wasm_operator_validator_rules.specs.Operands.{ValueType}
-use Rattle.wasm_operator_validator_rules.specs.Context.{Context, Module}
+use Rattle.wasm_operator_validator_rules.specs.Context.{Context, Module, IsType, written_type}
 use Rattle.wasm_operator_validator_rules.specs.Typed.{IsBody}
-use Rattle.wasm_module_validator_section_order.specs.rules.Spaces.{value_in}
+use Rattle.wasm_module_validator_section_order.specs.rules.Spaces.{value_in, with_types}
 use Rattle.wasm_module_validator_section_order.specs.rules.Valid.{Each, IsValidValueType, locals_in, body_context}
 use Rattle.wasm_operator_validator_fast_path.specs.declared.tables.Known.{Known}
 use Rattle.wasm_operator_validator_fast_path.specs.declared.tables.Sig.{Sig}
 use Rattle.wasm_operator_validator_fast_path.specs.declared.tables.Tables.{Tables}
 use Rattle.wasm_operator_validator_fast_path.specs.Values.{type_of, types}
-use Rattle.wasm_operator_validator_fast_path.specs.Tables.{Knows, Allows, Fits, params_in, results_in, signature_in}
-use Rattle.wasm_operator_validator_fast_path.proofs.Spelled.{many_more, unsigned_at}
+use Rattle.wasm_operator_validator_fast_path.specs.Tables.{Knows, AllowsLists, HasDefault, BeginSet, Fits, params_in, results_in, signature_in}
+use Rattle.wasm_operator_validator_fast_path.specs.Written.{IsValueAt}
+use Rattle.wasm_operator_validator_fast_path.proofs.Spelled.{many_more, unsigned_at, all_cons, all_tail}
+use Rattle.wasm_operator_validator_fast_path.proofs.Writing.{spelled_at}
 use Rattle.wasm_module_validator_function_bodies.specs.Functions.{SpellsValidFunction}
-use Rattle.wasm_module_validator_function_bodies.specs.Plain.{IsNumberByte, TakesGroup, TakesAll, Begins}
+use Rattle.wasm_module_validator_function_bodies.specs.Plain.{MayTell, AreOfSame, AreLocals, TakesGroup, TakesAll, Begins}
 
 -- ---- lists
 
-types_replicate : (n c : ℕ) → types (replicate n c) ≡ replicate n (type_of c)
-types_replicate zero c = refl
-types_replicate (suc n) c = ap (λ l. type_of c ∷ l) (types_replicate n c)
+types_replicate : (ids : List TypeTree) (n c : ℕ) → types ids (replicate n c) ≡ replicate n (type_of ids c)
+types_replicate ids zero c = refl
+types_replicate ids (suc n) c = ap (λ l. type_of ids c ∷ l) (types_replicate ids n c)
 
 locals_push : (ts : List TypeTree) (gs : List LocalGroup) (g : LocalGroup) → locals_in ts (gs ++ g ∷ []) ≡ locals_in ts gs ++ replicate g.count (value_in ts g.type)
 locals_push ts [] g = append-nil (replicate g.count (value_in ts g.type))
@@ -47,30 +56,54 @@ each_push : {A : Type 0} (P : A → Type 0) (xs : List A) (x : A) → Each P xs 
 each_push P [] x h p = (p, tt)
 each_push P (y ∷ xs) x h p = (h.0, each_push P xs x h.1 p)
 
+all_append : {A : Type 0} (P : A → Type 0) (xs ys : List A) → All P xs → All P ys → All P (xs ++ ys)
+all_append P [] ys h k = k
+all_append P (x ∷ xs) ys h k = all_cons P x (xs ++ ys) (h 0 x (omega arith)) (all_append P xs ys (all_tail P x xs h) k)
+
+all_replicate : {A : Type 0} (P : A → Type 0) (n : ℕ) (x : A) → P x → All P (replicate n x)
+all_replicate P zero x p = λ k d lt. absurd (omega (arith, lt))
+all_replicate P (suc n) x p = all_cons P x (replicate n x) p (all_replicate P n x p)
+
+-- ---- types
+
+-- what a module means by a value type, by its types alone
+meant_index : (m : Module) (i : UnpackedIndex) → written_type (with_types m.types) i ≡ written_type m i
+meant_index m (index.Module n) = refl
+meant_index m (index.RecGroup n) = refl
+meant_index m (index.Id i) = refl
+
+meant_heap : (m : Module) (h : HeapOf UnpackedIndex) → heap_map (written_type (with_types m.types)) h ≡ heap_map (written_type m) h
+meant_heap m (abstract s a) = refl
+meant_heap m (concrete i) = ap (λ (t : TypeTree). concrete t) (meant_index m i)
+meant_heap m (exact i) = ap (λ (t : TypeTree). exact t) (meant_index m i)
+
+meant_value : (m : Module) (v : ValueOf UnpackedIndex) → value_map (written_type (with_types m.types)) v ≡ value_map (written_type m) v
+meant_value m (number n) = refl
+meant_value m (ref b h) = ap (λ (k : HeapOf TypeTree). ref b k) (meant_heap m h)
+
 -- ---- one group
 
-pub took_group : (text : List ℕ) (i count k byte code : ℕ) → GivesAt u32 text i count k → k < length text → byte ≡ get_or text k 0 → IsNumberByte byte code
-    → (before after : List ℕ) → after ≡ before ++ replicate count code → TakesGroup text i before after (k + 1)
-took_group text i count k byte code g lt is n before after put =
-    let (counted, number, whole) = unsigned_at text i count k g in
-    let next : drop k text ≡ byte ∷ drop (k + 1) text = rw (← is) at (drop_more text k 0 lt) in
-    let parts : counted ++ byte ∷ drop (k + 1) text ≡ (counted ++ byte ∷ []) ++ drop (k + 1) text = grind (arith, common_steps) in
+pub took_group : (t : Tables) (text : List ℕ) (i count k code place j : ℕ) → GivesAt u32 text i count k → IsValueAt text t k code place j → HasDefault code
+    → (before after : List ℕ) → after ≡ before ++ replicate count code → TakesGroup t text i before after j
+took_group t text i count k code place j g v defaulted before after put =
+    let (counted, counts, whole) = unsigned_at text i count k g in
+    let (typed, spelled, next) = spelled_at value_type SpelledValue decides-value_type text k j v.written v.read in
     record {
-      group = group_of count n.type;
-      front = counted ++ byte ∷ [];
-      spelled = record { count = counted; type = byte ∷ []; counted = number; typed = n.spelled; whole = refl };
-      whole = whole ∙ ap (λ (r : List ℕ). counted ++ r) next ∙ parts;
+      group = group_of count v.written;
+      front = counted ++ typed;
+      spelled = record { count = counted; type = typed; counted = counts; typed = spelled; whole = refl };
+      whole = whole ∙ ap (λ (r : List ℕ). counted ++ r) next ∙ sym (append_assoc counted typed (drop j text));
       code = code;
       put = put;
-      means = n.means;
-      valid = n.valid;
-      inside = omega (arith, lt);
+      defaulted = defaulted;
+      means = λ ids bits m may. v.means ids bits m may.knows may.allows may.references;
+      inside = v.read.inside;
     }
 
 -- ---- all groups
 
 -- so many groups were taken
-pub record TakesSome (text : List ℕ) (i k : ℕ) (before after : List ℕ) (j : ℕ) : Type 0 where
+pub record TakesSome (t : Tables) (text : List ℕ) (i k : ℕ) (before after : List ℕ) (j : ℕ) : Type 0 where
   pub groups : List LocalGroup
   pub front : List ℕ
   pub each : Many SpelledGroup k groups front
@@ -78,13 +111,13 @@ pub record TakesSome (text : List ℕ) (i k : ℕ) (before after : List ℕ) (j 
   pub long : length groups ≡ k
   pub codes : List ℕ
   pub put : after ≡ before ++ codes
-  pub means : (ts : List TypeTree) → locals_in ts groups ≡ types codes
   pub many : length codes ≡ total groups
-  pub valid : (z : Settings) (g : Module) → Allows z.features → Each (λ (l : LocalGroup). IsValidValueType z g l.type) groups
+  pub defaulted : All HasDefault codes
+  pub means : (ids : List TypeTree) (z : Settings) (m : Module) → MayTell ids z.features m t → AreLocals ids z m groups codes
   pub inside : j ≤ length text
 
-pub took_none : (text : List ℕ) (i : ℕ) (before : List ℕ) → i ≤ length text → TakesSome text i 0 before before i
-took_none text i before le = record {
+pub took_none : (t : Tables) (text : List ℕ) (i : ℕ) (before : List ℕ) → i ≤ length text → TakesSome t text i 0 before before i
+took_none t text i before le = record {
   groups = [];
   front = [];
   each = refl;
@@ -92,14 +125,27 @@ took_none text i before le = record {
   long = refl;
   codes = [];
   put = sym (append-nil before);
-  means = λ ts. refl;
   many = refl;
-  valid = λ z g a. tt;
+  defaulted = λ k d lt. absurd (omega (arith, lt));
+  means = λ ids z m may. record { typed = refl; valid = tt };
   inside = le;
 }
 
-took_more : (text : List ℕ) (i k : ℕ) (before middle after : List ℕ) (j n : ℕ) → TakesSome text i k before middle j → TakesGroup text j middle after n → TakesSome text i (suc k) before after n
-took_more text i k before middle after j n h one =
+-- one more group of locals
+more_locals : (ids : List TypeTree) (z : Settings) (m : Module) (groups : List LocalGroup) (codes : List ℕ) (one : LocalGroup) (code : ℕ) → AreLocals ids z m groups codes
+    → IsType z.features m one.type (type_of ids code) → AreLocals ids z m (groups ++ one ∷ []) (codes ++ replicate one.count code)
+more_locals ids z m groups codes one code h type =
+    let same : value_in m.types one.type ≡ type_of ids code = meant_value m (value_of one.type) ∙ sym type.is in
+    record {
+      typed = locals_push m.types groups one ∙ ap (λ (l : List ValueType). l ++ replicate one.count (value_in m.types one.type)) h.typed
+          ∙ ap (λ (t : ValueType). types ids codes ++ replicate one.count t) same ∙ ap (λ (l : List ValueType). types ids codes ++ l) (sym (types_replicate ids one.count code))
+          ∙ sym (map-append (type_of ids) codes (replicate one.count code));
+      valid = each_push (λ (l : LocalGroup). IsValidValueType z m l.type) groups one h.valid (type_of ids code, type);
+    }
+
+took_more : (t : Tables) (text : List ℕ) (i k : ℕ) (before middle after : List ℕ) (j n : ℕ) → TakesSome t text i k before middle j → TakesGroup t text j middle after n
+    → TakesSome t text i (suc k) before after n
+took_more t text i k before middle after j n h one =
     let cs = replicate one.group.count one.code in
     let long = length_push h.groups one.group in
     let many = length-append h.codes cs in
@@ -113,47 +159,99 @@ took_more text i k before middle after j n h one =
       long = omega (arith, long, h.long);
       codes = h.codes ++ cs;
       put = one.put ∙ ap (λ (l : List ℕ). l ++ cs) h.put ∙ append_assoc before h.codes cs;
-      means = λ ts. locals_push ts h.groups one.group ∙ ap (λ (l : List ValueType). l ++ replicate one.group.count (value_in ts one.group.type)) (h.means ts)
-          ∙ ap (λ (t : ValueType). types h.codes ++ replicate one.group.count t) (one.means ts) ∙ ap (λ (l : List ValueType). types h.codes ++ l) (sym (types_replicate one.group.count one.code))
-          ∙ sym (map-append type_of h.codes cs);
       many = omega (arith, many, sum, few, h.many);
-      valid = λ z g a. each_push (λ (l : LocalGroup). IsValidValueType z g l.type) h.groups one.group (h.valid z g a) (one.valid z g a);
+      defaulted = all_append HasDefault h.codes cs h.defaulted (all_replicate HasDefault one.group.count one.code one.defaulted);
+      means = λ ids z m may. more_locals ids z m h.groups h.codes one.group one.code (h.means ids z m may) (one.means ids z.features m may);
       inside = one.inside;
     }
 
-pub took_next : (text : List ℕ) (i k : ℕ) (before middle after : List ℕ) (j n : ℕ) → TakesSome text i k before middle j → TakesGroup text j middle after n → TakesSome text i (k + 1) before after n
-took_next text i k before middle after j n h one =
+pub took_next : (t : Tables) (text : List ℕ) (i k : ℕ) (before middle after : List ℕ) (j n : ℕ) → TakesSome t text i k before middle j → TakesGroup t text j middle after n
+    → TakesSome t text i (k + 1) before after n
+took_next t text i k before middle after j n h one =
     let e : suc k ≡ k + 1 = omega arith in
-    subst (λ (c : ℕ). TakesSome text i c before after n) e (took_more text i k before middle after j n h one)
+    subst (λ (c : ℕ). TakesSome t text i c before after n) e (took_more t text i k before middle after j n h one)
 
-pub took_all : (text : List ℕ) (count i : ℕ) (before after : List ℕ) (j : ℕ) → GivesAt u32 text 0 count i → TakesSome text i count before after j → TakesAll text before after j
-took_all text count i before after j g h =
-    let (counted, number, whole) = unsigned_at text 0 count i g in
+pub took_all : (t : Tables) (text : List ℕ) (count i : ℕ) (before after : List ℕ) (j : ℕ) → GivesAt u32 text 0 count i → TakesSome t text i count before after j → TakesAll t text before after j
+took_all t text count i before after j g h =
+    let (counted, counts, whole) = unsigned_at text 0 count i g in
     record {
       groups = h.groups;
       front = counted ++ h.front;
       listed = record {
         count = counted;
         values = h.front;
-        counted = subst (λ (k : ℕ). IsUnsigned 32 k counted) (sym h.long) number;
+        counted = subst (λ (k : ℕ). IsUnsigned 32 k counted) (sym h.long) counts;
         each = subst (λ (k : ℕ). Many SpelledGroup k h.groups h.front) (sym h.long) h.each;
         whole = refl;
       };
       whole = whole ∙ ap (λ (r : List ℕ). counted ++ r) h.whole ∙ sym (append_assoc counted h.front (drop j text));
       codes = h.codes;
       put = h.put;
-      means = h.means;
       many = h.many;
-      valid = h.valid;
+      defaulted = h.defaulted;
+      means = h.means;
       inside = h.inside;
     }
 
+-- what tables tell, those of the same module tell
+pub same_tells : (t u : Tables) (ids : List TypeTree) (bits : ℕ) (m : Module) → AreOfSame t u → MayTell ids bits m t → MayTell ids bits m u
+same_tells t u ids bits m same may = record {
+  knows = subst (λ (k : Known). Knows ids m k) (sym same.known) may.knows;
+  allows = may.allows;
+  references = λ on. may.references (sym same.references ∙ on);
+}
+
+-- what stands by tables of the same module
+pub same_group : (t u : Tables) (text : List ℕ) (i : ℕ) (before after : List ℕ) (j : ℕ) → AreOfSame t u → TakesGroup u text i before after j → TakesGroup t text i before after j
+same_group t u text i before after j same h = record {
+  group = h.group;
+  front = h.front;
+  spelled = h.spelled;
+  whole = h.whole;
+  code = h.code;
+  put = h.put;
+  defaulted = h.defaulted;
+  means = λ ids bits m may. h.means ids bits m (same_tells t u ids bits m same may);
+  inside = h.inside;
+}
+
+pub same_all : (t u : Tables) (text before after : List ℕ) (j : ℕ) → AreOfSame t u → TakesAll u text before after j → TakesAll t text before after j
+same_all t u text before after j same h = record {
+  groups = h.groups;
+  front = h.front;
+  listed = h.listed;
+  whole = h.whole;
+  codes = h.codes;
+  put = h.put;
+  many = h.many;
+  defaulted = h.defaulted;
+  means = λ ids z m may. h.means ids z m (same_tells t u ids z.features m same may);
+  inside = h.inside;
+}
+
+pub same_then : (t u v : Tables) → AreOfSame t u → AreOfSame u v → AreOfSame t v
+same_then t u v h k = record { known = k.known ∙ h.known; features = k.features ∙ h.features; references = k.references ∙ h.references }
+
 -- ---- the whole function
 
-local_at : (xs : List ℕ) (k : ℕ) → k < length xs → slice_get (types xs) k ≡ Some (type_of (get_or xs k 0))
-local_at [] k lt = absurd (omega (arith, lt))
-local_at (x ∷ xs) zero lt = refl
-local_at (x ∷ xs) (suc k) lt = local_at xs k (omega (arith, lt))
+local_at : (ids : List TypeTree) (xs : List ℕ) (k : ℕ) → k < length xs → slice_get (types ids xs) k ≡ Some (type_of ids (get_or xs k 0))
+local_at ids [] k lt = absurd (omega (arith, lt))
+local_at ids (x ∷ xs) zero lt = refl
+local_at ids (x ∷ xs) (suc k) lt = local_at ids xs k (omega (arith, lt))
+
+-- the locals behind the parameters begin with values
+begins_set : (u : Tables) (ps codes : List ℕ) (params : ℕ) → u.locals.items ≡ ps ++ codes → params ≡ length ps → All HasDefault codes → BeginSet u params
+begins_set u ps codes params e n h x lt = either (cases_lt x params)
+  where
+    long : length u.locals.items ≡ length ps + length codes
+    long = ap (λ (l : List ℕ). length l) e ∙ length-append ps codes
+
+    there : params ≤ x → get_or u.locals.items x 0 ≡ get_or codes (x - params) 0
+    there le = ap (λ (l : List ℕ). get_or l x 0) e ∙ get_or-append_right ps codes params x 0 (sym n) le
+
+    either : (x < params) ⊎ (params ≤ x) → (x < params) ⊎ HasDefault (get_or u.locals.items x 0)
+    either (inl few) = inl few
+    either (inr le) = inr (subst HasDefault (sym (there le)) (h (x - params) 0 (omega (arith, long, n, le, lt))))
 
 -- a type that is not shared, by its entry
 pub not_shared : (e : EntryOf TypeTree) (o : Option TypeTree) → Some e ≡ option_map opened o → e.shared ≡ false → (f : TypeTree) → o ≡ Some f → is_shared f ≡ false
@@ -163,34 +261,40 @@ not_shared e (Some t) h s f at =
     let one : t ≡ f = cc in
     ap is_shared (sym one) ∙ sym (ap (λ (x : EntryOf TypeTree). x.shared) same) ∙ s
 
-pub valid_body : (z : Settings) (m : Module) (x : ℕ) (text : List ℕ) (t u : Tables) (start : ℕ) → Begins t u x text z.limits.locals start → Knows m t.known → u.known ≡ t.known
-    → u.features.0 ≡ z.features → Allows z.features → length text ≤ z.limits.body_bytes → ((f : TypeTree) → slice_get m.types x ≡ Some f → is_shared f ≡ false)
-    → ((g : Context) → Fits z text u g → (params : ℕ) → (c : Code) × SpelledExpression z c (drop start text) × IsBody g params c)
+pub valid_body : (ids : List TypeTree) (z : Settings) (m : Module) (x : ℕ) (text : List ℕ) (t u : Tables) (start : ℕ) → Begins t u x text z.limits.locals start
+    → MayTell ids z.features m t → t.features.0 ≡ z.features → AreOfSame t u → length text ≤ z.limits.body_bytes
+    → AllowsLists z.limits → ((f : TypeTree) → slice_get m.types x ≡ Some f → is_shared f ≡ false)
+    → ((g : Context) → Fits ids z text u g → (params : ℕ) → BeginSet u params → (c : Code) × SpelledExpression z c (drop start text) × IsBody g params c)
     → SpellsValidFunction z m x text
-valid_body z m x text t u start b knows same features allows within unshared judged =
+valid_body ids z m x text t u start b may features same within lists unshared judged =
     let flat = t.known.flat.items in
     let h = b.locals in
     let ps = params_in flat b.sig in
-    let s = signature_in flat b.sig in
-    let (f, at, is) = knows.types x b.sig b.at b.usable in
+    let s = signature_in ids flat b.sig in
+    let (f, at, is) = may.knows.types x b.sig b.at b.usable in
     let g = body_context z m f s h.groups in
-    let all : g.locals ≡ types u.locals.items = ap (λ (l : List ValueType). types ps ++ l) (h.means m.types) ∙ sym (map-append type_of ps h.codes) ∙ ap types (sym h.put) in
-    let results : types (results_in flat b.sig) ≡ types (results_in u.known.flat.items u.results)
-    = ap (λ (k : Known). types (results_in k.flat.items b.sig)) (sym same) ∙ ap (λ (q : Sig). types (results_in u.known.flat.items q)) (sym b.results) in
-    let fits : Fits z text u g = record {
-      features = sym features;
-      bits = sym features;
+    let own = h.means ids z m may in
+    let told = same_tells t u ids z.features m same may in
+    let bits : z.features ≡ u.features.0 = sym (ap (λ (w : WasmFeatures). w.0) same.features ∙ features) in
+    let all : g.locals ≡ types ids u.locals.items = ap (λ (l : List ValueType). types ids ps ++ l) own.typed ∙ sym (map-append (type_of ids) ps h.codes) ∙ ap (types ids) (sym h.put) in
+    let results : types ids (results_in flat b.sig) ≡ types ids (results_in u.known.flat.items u.results)
+    = ap (λ (k : Known). types ids (results_in k.flat.items b.sig)) (sym same.known) ∙ ap (λ (q : Sig). types ids (results_in u.known.flat.items q)) (sym b.results) in
+    let fits : Fits ids z text u g = record {
+      features = bits;
+      bits = bits;
       within = within;
-      allows = allows;
-      knows = subst (λ (k : Known). Knows m k) (sym same) knows;
-      locals = λ k lt. ap (λ (l : List ValueType). slice_get l k) all ∙ local_at u.locals.items k lt;
+      allows = may.allows;
+      references = told.references;
+      limits = λ on. lists;
+      knows = told.knows;
+      locals = λ k lt. ap (λ (l : List ValueType). slice_get l k) all ∙ local_at ids u.locals.items k lt;
       results = results;
       unshared = unshared f at;
     } in
-    let (c, spelled, body) = judged g fits (length s.params) in
+    let many = length-map ps (type_of ids) in
+    let (c, spelled, body) = judged g fits (length s.params) (begins_set u ps h.codes (length s.params) h.put many h.defaulted) in
     let count = ap (λ (l : List ℕ). length l) h.put in
     let parts = length-append ps h.codes in
-    let many = length-map ps type_of in
     let most = b.within in
     record {
       function = record { locals = h.groups; body = c };
@@ -203,5 +307,5 @@ valid_body z m x text t u start b knows same features allows within unshared jud
       };
       type = f;
       at = at;
-      valid = record { signature = s; function = is; locals = h.valid z m allows; within = omega (arith, count, parts, many, most, h.many); body = body };
+      valid = record { signature = s; function = is; locals = own.valid; within = omega (arith, count, parts, many, most, h.many); body = body };
     }

@@ -1,19 +1,20 @@
-//! Bodies judged in one loop over operands of one byte, where all operands are numbers.
+//! Bodies judged in one loop over codes of operands.
 
-ghost use Rattle.std.specs.Prelude.{◌≡◌, ◌<◌, ◌≤◌, ◌++◌, true, IfSome, length, replicate};
-ghost use Rattle.wasm_operator_validator_fast_path.specs.Tables.{Allows};
+ghost use Rattle.std.specs.Prelude.{◌≡◌, ◌≤◌, ◌++◌, true, IfSome, length, replicate};
+ghost use Rattle.wasm_operator_validator_fast_path.specs.Tables.{Allows, AllowsLists, AllowsReferences, HasDefault};
 ghost use Rattle.wasm_module_validator_function_bodies.specs.Locals.{judged_by};
 ghost use Rattle.wasm_module_validator_function_bodies.specs.Functions.{SpellsValidFunction};
-ghost use Rattle.wasm_module_validator_function_bodies.specs.Plain.{IsNumberByte, TakesGroup, TakesAll, Begins, IsJudgeOf};
+ghost use Rattle.wasm_module_validator_function_bodies.specs.Plain.{AreOfSame, TakesGroup, TakesAll, Begins, IsJudgeOf};
 
 use std::alloc::Global;
 use wasm_operator_validator_driver::WasmModuleResources;
-use wasm_operator_validator_fast_path::{Known, Room, Sig, Tables, known_of, part};
+use wasm_operator_validator_fast_loop::Room;
+use wasm_operator_validator_fast_path::{Known, Order, Sig, Tables, known_of, part, value_at};
 use wasm_operators_bodies::FunctionBody;
 use wasm_types::{Limits, WasmFeatures};
 use wasm_types_decoding::short_u32_at;
 
-/// Judges bodies of one module in one loop over operands of one byte, and says of each no more than that it is valid, or nothing. It keeps
+/// Judges bodies of one module in one loop over codes of operands, and says of each no more than that it is valid, or nothing. It keeps
 /// tables of the module, made once, and says nothing of a body that uses what they do not tell: then a [`BodyJudge`](crate::BodyJudge) may.
 #[derive(Drop)]
 pub struct PlainJudge {
@@ -72,6 +73,7 @@ impl PlainJudge {
         if !self.usable
             || sub_type.composite_type.shared
             || bytes.len() > limits.body_bytes as usize
+            || !allows_lists(limits)
         {
             return false;
         }
@@ -86,6 +88,7 @@ impl PlainJudge {
 fn first_tables(alloc: Global, known: Known, features: WasmFeatures) -> Tables
     ensures known { result.known ≡ known }
     ensures features { result.features ≡ features }
+    ensures references { result.references ≡ true → AllowsReferences features.0 }
 {
     Tables {
         known,
@@ -97,6 +100,7 @@ fn first_tables(alloc: Global, known: Known, features: WasmFeatures) -> Tables
             result_count: 0,
         },
         features,
+        references: allows_references(features),
     }
 }
 
@@ -105,8 +109,14 @@ fn nothing_known(alloc: Global) -> Known {
     Known {
         flat: Vec::new(alloc),
         types: Vec::new(alloc),
+        named: Vec::new(alloc),
+        fields: Vec::new(alloc),
+        order: Order::new(Vec::new(alloc)),
         functions: Vec::new(alloc),
+        referenced: Vec::new(alloc),
         globals: Vec::new(alloc),
+        tags: Vec::new(alloc),
+        data: 0,
         memory: false,
         table: false,
     }
@@ -123,12 +133,30 @@ fn allows(features: WasmFeatures) -> bool
         && features.bulk_memory_opt()
 }
 
+// Whether these are the features that references ask besides.
+fn allows_references(features: WasmFeatures) -> bool
+    ensures { result ≡ true → AllowsReferences features.0 }
+{
+    features.reference_types()
+        && features.function_references()
+        && features.gc()
+        && features.gc_types()
+        && features.exceptions()
+        && !features.custom_descriptors()
+}
+
+// Whether operators may carry the lists that the loop takes.
+fn allows_lists(limits: Limits) -> bool
+    ensures { result ≡ true → AllowsLists limits }
+{
+    limits.catches >= 100 && limits.select_types >= 1
+}
+
 // Makes the tables those of a body of the type at an index, and gives the offset behind its locals. It does not where there are many more
-// locals than bytes: so what a body takes is as long as its bytes.
+// locals behind the parameters than bytes: so what a body takes is as long as its bytes and its parameters.
 fn begin(tables: &mut Tables, ty: u32, bytes: &[u8], limits: Limits) -> Option<usize>
     ensures begun { IfSome result (Begins tables.old tables.new ty bytes.now limits.locals) }
-    ensures known { tables.new.known ≡ tables.old.known }
-    ensures features { tables.new.features ≡ tables.old.features }
+    ensures same { AreOfSame tables.old tables.new }
 {
     let index = ty as usize;
     let types = tables.known.types.as_slice();
@@ -136,18 +164,15 @@ fn begin(tables: &mut Tables, ty: u32, bytes: &[u8], limits: Limits) -> Option<u
         return None;
     }
     let sig = types[index];
-    let most = bytes.len().saturating_add(64);
-    if sig.param_count as usize > most {
-        return None;
-    }
     let Some(params) = part(tables.known.flat.as_slice(), sig.params, sig.param_count) else {
         return None;
     };
+    let most = bytes.len().saturating_add(64).saturating_add(params.len());
     tables.locals.clear();
     let Ok(()) = tables.locals.extend_from_slice(params) else {
         return None;
     };
-    let Some(start) = take_locals(&mut tables.locals, bytes, most) else {
+    let Some(start) = take_locals(tables, bytes, most) else {
         return None;
     };
     if tables.locals.as_slice().len() > limits.locals as usize {
@@ -159,15 +184,16 @@ fn begin(tables: &mut Tables, ty: u32, bytes: &[u8], limits: Limits) -> Option<u
 
 // Puts the locals at the front of a body behind those that there are, as codes, and gives the offset behind them, where there are no more
 // than so many then.
-fn take_locals(locals: &mut Vec<u8>, bytes: &[u8], most: usize) -> Option<usize>
-    ensures { IfSome result (TakesAll bytes.now locals.old.items locals.new.items) }
+fn take_locals(tables: &mut Tables, bytes: &[u8], most: usize) -> Option<usize>
+    ensures taken { IfSome result (TakesAll tables.old bytes.now tables.old.locals.items tables.new.locals.items) }
+    ensures same { AreOfSame tables.old tables.new }
 {
     let Some((count, first)) = short_u32_at(bytes, 0) else {
         return None;
     };
     let mut end = first;
     for _ in 0..count {
-        let Some(next) = take_group(locals, bytes, end, most) else {
+        let Some(next) = take_group(tables, bytes, end, most) else {
             return None;
         };
         end = next;
@@ -175,32 +201,38 @@ fn take_locals(locals: &mut Vec<u8>, bytes: &[u8], most: usize) -> Option<usize>
     Some(end)
 }
 
-// Puts one group of locals behind those that there are.
-fn take_group(locals: &mut Vec<u8>, bytes: &[u8], at: usize, most: usize) -> Option<usize>
+// Puts one group of locals behind those that there are. It does not if they have no values where a body begins: references that are never
+// null are left to the complete validator.
+fn take_group(tables: &mut Tables, bytes: &[u8], at: usize, most: usize) -> Option<usize>
     requires { at ≤ length bytes.now }
-    ensures { IfSome result (TakesGroup bytes.now at locals.old.items locals.new.items) }
+    ensures taken { IfSome result (TakesGroup tables.old bytes.now at tables.old.locals.items tables.new.locals.items) }
+    ensures same { AreOfSame tables.old tables.new }
 {
     let Some((count, middle)) = short_u32_at(bytes, at) else {
         return None;
     };
-    if middle >= bytes.len() {
-        return None;
-    }
-    let Some(code) = number_at(bytes[middle]) else {
+    let Some((code, _place, end)) = value_at(tables, bytes, middle) else {
         return None;
     };
-    let held = locals.as_slice().len();
+    let held = tables.locals.as_slice().len();
     if held > most || count as usize > most - held {
         return None;
     }
-    if !put_times(locals, count, code) {
+    if !has_default(code) || !put_times(&mut tables.locals, count, code) {
         return None;
     }
-    Some(middle + 1)
+    Some(end)
+}
+
+// Whether a local of the type with this code has a value from the start.
+fn has_default(code: u32) -> bool
+    ensures { result ≡ true → HasDefault code }
+{
+    code < 8 || code % 2 == 0
 }
 
 // Puts so many of one code behind the others.
-fn put_times(locals: &mut Vec<u8>, count: u32, code: u8) -> bool
+fn put_times(locals: &mut Vec<u32>, count: u32, code: u32) -> bool
     ensures { result ≡ true → locals.new.items ≡ locals.old.items ++ replicate count code }
 {
     for i in 0..count {
@@ -209,17 +241,4 @@ fn put_times(locals: &mut Vec<u8>, count: u32, code: u8) -> bool
         };
     }
     true
-}
-
-// The code of the type of numbers that a byte spells.
-fn number_at(byte: u8) -> Option<u8>
-    ensures { IfSome result (IsNumberByte byte) }
-{
-    match byte {
-        0x7f => Some(0),
-        0x7e => Some(1),
-        0x7d => Some(2),
-        0x7c => Some(3),
-        _ => None,
-    }
 }

@@ -9,7 +9,8 @@ use Rattle.wasm_operators_immediates.specs.declared.proposal.Proposal.TheVariant
 use Rattle.wasm_operators_enums.specs.declared.numeric.NumericOperator.{NumericOperator}
 use Rattle.wasm_operators_enums.specs.numbers.Table.{numeric_info}
 use Rattle.wasm_operator_validator_rules.specs.Numbers.{class_of, taken_by, given_by, numbers}
-use Rattle.wasm_types.specs.trees.Types.{Number}
+use Rattle.wasm_types.specs.trees.Types.{Number, number}
+use Rattle.wasm_types.specs.trees.Trees.{TypeTree}
 use Rattle.wasm_operators_immediates.specs.declared.memory.MemArg.{MemArg}
 use Rattle.wasm_operators_enums.specs.declared.memory.MemoryOperator.{MemoryOperator}
 use Rattle.wasm_operators_enums.specs.Op as op
@@ -25,7 +26,7 @@ use Rattle.wasm_operator_validator_rules.specs.InstructionTypes.{instruction_typ
 use Rattle.wasm_operator_validator_rules.specs.Row.{TableRow, GroupRow, IsEnabled, after}
 use Rattle.wasm_operator_validator_state.specs.laws.Entering.{nothing_asked}
 use Rattle.wasm_operator_validator_fast_path.specs.Tables.{Allows}
-use Rattle.wasm_operator_validator_fast_path.specs.Values.{number_of, types}
+use Rattle.wasm_operator_validator_fast_path.specs.Values.{number_of, type_of, types}
 use Rattle.wasm_operator_validator_fast_path.specs.Shapes.{IsNumberAt, IsAccessAt}
 
 -- ---- features
@@ -51,7 +52,7 @@ low_code : (n code : ℕ) → code ≡ n → nat_lt n 0xfb ≡ true → code < 0
 low_code n code is low = subst (λ (k : ℕ). k < 0xfb) (sym is) (ltb-true n 0xfb low)
 
 pub coded : {takes gives : List ℕ} {code n : ℕ} (o : NumericOperator) → code ≡ n → nat_lt n 0xfb ≡ true → (numeric_info o).code ≡ n → (numeric_info o).prefix ≡ None
-    → (numeric_info o).proposal ≡ Mvp → types takes ≡ numbers (taken_by (class_of o)) → types gives ≡ numbers (given_by (class_of o)) → IsNumberAt None code takes gives
+    → (numeric_info o).proposal ≡ Mvp → ((ids : List TypeTree) → types ids takes ≡ numbers (taken_by (class_of o))) → ((ids : List TypeTree) → types ids gives ≡ numbers (given_by (class_of o))) → IsNumberAt None code takes gives
 coded o is low there bare of taken given = record {
   operator = o;
   code_is = there ∙ sym is;
@@ -63,7 +64,7 @@ coded o is low there bare of taken given = record {
 }
 
 pub coded_sign : {takes gives : List ℕ} {code n : ℕ} (o : NumericOperator) → code ≡ n → nat_lt n 0xfb ≡ true → (numeric_info o).code ≡ n → (numeric_info o).prefix ≡ None
-    → (numeric_info o).proposal ≡ SignExtension → types takes ≡ numbers (taken_by (class_of o)) → types gives ≡ numbers (given_by (class_of o)) → IsNumberAt None code takes gives
+    → (numeric_info o).proposal ≡ SignExtension → ((ids : List TypeTree) → types ids takes ≡ numbers (taken_by (class_of o))) → ((ids : List TypeTree) → types ids gives ≡ numbers (given_by (class_of o))) → IsNumberAt None code takes gives
 coded_sign o is low there bare of taken given = record {
   operator = o;
   code_is = there ∙ sym is;
@@ -75,7 +76,7 @@ coded_sign o is low there bare of taken given = record {
 }
 
 pub coded_saturating : {takes gives : List ℕ} {code n : ℕ} (o : NumericOperator) → code ≡ n → nat_lt n 0xfb ≡ true → (numeric_info o).code ≡ n → (numeric_info o).prefix ≡ Some 0xfc
-    → (numeric_info o).proposal ≡ SaturatingFloatToInt → types takes ≡ numbers (taken_by (class_of o)) → types gives ≡ numbers (given_by (class_of o))
+    → (numeric_info o).proposal ≡ SaturatingFloatToInt → ((ids : List TypeTree) → types ids takes ≡ numbers (taken_by (class_of o))) → ((ids : List TypeTree) → types ids gives ≡ numbers (given_by (class_of o)))
     → IsNumberAt (Some 0xfc) code takes gives
 coded_saturating o is low there prefixed of taken given = record {
   operator = o;
@@ -95,8 +96,9 @@ pub coded_access : {kind : Number → Access} {code natural ty n : ℕ} (o : Mem
     → ((a : MemArg) (set : Initialised) → after (op.Memory (o a)) set ≡ set)
     → ((a : MemArg) (g : Context) → instruction_type g (op.Memory (o a)) ≡ accesses g false (Some (record { access = kind (number_of ty); argument = a })))
     → ((a : MemArg) (g : Context) (set : Initialised) (popped pushed : List Operand) → TableRow g (op.Memory (o a)) popped pushed → GroupRow g set (op.Memory (o a)) popped pushed)
-    → IsAccessAt kind code natural ty
-coded_access o is low there bare of carries canonical keeps table row = record {
+    → ((ids : List TypeTree) → type_of ids ty ≡ number (number_of ty)) → IsAccessAt kind code natural ty
+coded_access o is low there bare of carries canonical keeps table row of_number = record {
+  of_number = of_number;
   operator = o;
   low = low_code _ _ is low;
   code_is = λ a. there a ∙ sym is;

@@ -7,3 +7,10 @@ pub mod Frames
 pub mod Coded
 pub mod Knowing
 pub mod Indexed
+pub mod Reaching
+pub mod Standing
+pub mod Climbing
+pub mod Defining
+pub mod Lowering
+pub mod Writing
+pub mod Tagging

@@ -1,8 +1,11 @@
 -- Operands in memory: those of the innermost frame, and those under them.
-use Rattle.std.proofs.Common.{◌≡◌, ◌≤◌, ◌<◌, ◌-◌, ◌∙◌, ℕ, suc, List, [], ◌∷◌, Some, refl, sym, ap, arith, ◌++◌, length, take, drop, reverse, slice_get}
+use Rattle.std.proofs.Common.{◌≡◌, ◌≤◌, ◌<◌, ◌-◌, ◌∙◌, ℕ, suc, List, [], ◌∷◌, Some, refl, sym, ap, subst, arith, ◌++◌, length, take, drop, reverse, get_or, slice_get, drop-cons}
 use Rattle.std.proofs.lemmas.Grind.{common_steps}
-use Rattle.std.proofs.lemmas.List.{length-drop}
+use Rattle.std.proofs.lemmas.List.{length-drop, drop_all}
+use Rattle.wasm_operator_validator_fast_path.specs.declared.order.Step.{Step}
 use Rattle.wasm_operator_validator_fast_path.specs.Stacks.{Values, lying, with_all}
+use Rattle.wasm_operator_validator_fast_path.specs.Values.{AreBelow, IsLowered}
+use Rattle.wasm_operator_validator_fast_path.proofs.Lowering.{lower_same, lower_trans, lower_under, lower_top}
 
 pub one_more : (b : ℕ) (x : ℕ) (xs : List ℕ) → b ≤ length xs → lying b (x ∷ xs) ≡ (x ∷ (lying b xs).0, (lying b xs).1)
 one_more b x xs l = let e : suc (length xs) - b ≡ suc (length xs - b) = omega arith in rw e refl
@@ -54,6 +57,43 @@ none_left b xs ys now l h e =
 pub first_of_all : (t : ℕ) (ts : List ℕ) (v : Values) → with_all (t ∷ ts) v ≡ with_all ts (t ∷ v.0, v.1)
 first_of_all t ts v = let e : reverse (t ∷ ts) ++ v.0 ≡ reverse ts ++ t ∷ v.0 = grind (arith, common_steps) in ap (λ xs. (xs, v.1)) e
 
--- the last lies on top
-pub last_of_all : (t : ℕ) (ts : List ℕ) (v : Values) → with_all (ts ++ t ∷ []) v ≡ (t ∷ (with_all ts v).0, v.1)
-last_of_all t ts v = let e : reverse (ts ++ t ∷ []) ++ v.0 ≡ t ∷ (reverse ts ++ v.0) = grind (arith, common_steps) in ap (λ xs. (xs, v.1)) e
+-- ---- operands that may be taken for others
+
+module _ (steps : List Step) where
+  -- one that may be taken for another is taken off
+  pub taken_for : (v w : Values) (k n : ℕ) → v ≡ (k ∷ w.0, w.1) → AreBelow steps (k ∷ []) (n ∷ []) → IsLowered steps v (n ∷ w.0, w.1)
+  taken_for v w k n e below = lower_trans steps v (k ∷ w.0, w.1) (n ∷ w.0, w.1) (lower_same steps v (k ∷ w.0, w.1) e) (lower_top steps k n w.0 w.1 below)
+
+  -- the other is put in its place
+  pub put_for : (v w : Values) (k n : ℕ) → (rest : List ℕ) × (v ≡ (k ∷ rest, v.1)) × (w ≡ (n ∷ rest, v.1)) → AreBelow steps (k ∷ []) (n ∷ [])
+      → (rest : List ℕ) × (w ≡ (n ∷ rest, w.1)) × IsLowered steps v w
+  put_for v w k n (rest, e, f) below =
+      let under : w.1 ≡ v.1 = ap (λ (x : Values). x.1) f in (
+        rest,
+        f ∙ ap (λ (u : List ℕ). (n ∷ rest, u)) (sym under),
+        lower_trans steps v (n ∷ rest, v.1) w (taken_for v (rest, v.1) k n e below) (lower_same steps (n ∷ rest, v.1) w (sym f)),
+      )
+
+  lower_on : (xs : List ℕ) (v m : Values) → IsLowered steps v m → IsLowered steps (xs ++ v.0, v.1) (xs ++ m.0, m.1)
+  lower_on [] v m h = h
+  lower_on (x ∷ xs) v m h = lower_under steps x (xs ++ v.0, v.1) (xs ++ m.0, m.1) (lower_on xs v m h)
+
+  -- one more is taken off, under those that were
+  pub one_taken : (v x w : Values) (ts : List ℕ) (left : ℕ) → 0 < left → left ≤ length ts → IsLowered steps v (with_all (drop left ts) x)
+      → IsLowered steps x (get_or ts (left - 1) 0 ∷ w.0, w.1) → IsLowered steps v (with_all (drop (left - 1) ts) w)
+  one_taken v x w ts left some within all one =
+      let t = get_or ts (left - 1) 0 in
+      let next : suc (left - 1) ≡ left = omega (arith, some) in
+      let whole : drop (left - 1) ts ≡ t ∷ drop left ts =
+      drop-cons ts (left - 1) 0 (omega (arith, some, within)) ∙ ap (λ (k : ℕ). t ∷ drop k ts) next in
+      lower_trans steps v (with_all (drop left ts) x) (with_all (drop (left - 1) ts) w) all
+      (lower_trans steps (with_all (drop left ts) x) (with_all (drop left ts) (t ∷ w.0, w.1)) (with_all (drop (left - 1) ts) w)
+      (lower_on (reverse (drop left ts)) x (t ∷ w.0, w.1) one)
+      (lower_same steps (with_all (drop left ts) (t ∷ w.0, w.1)) (with_all (drop (left - 1) ts) w)
+      (sym (first_of_all t (drop left ts) w) ∙ ap (λ (l : List ℕ). with_all l w) (sym whole))))
+
+  pub none_taken : (v : Values) (ts : List ℕ) → IsLowered steps v (with_all (drop (length ts) ts) v)
+  none_taken v ts = lower_same steps v (with_all (drop (length ts) ts) v) (sym (ap (λ (l : List ℕ). with_all l v) (drop_all (length ts) ts (omega arith))))
+
+  pub all_taken : (v w : Values) (ts : List ℕ) (left : ℕ) → left ≤ 0 → IsLowered steps v (with_all (drop left ts) w) → IsLowered steps v (with_all ts w)
+  all_taken v w ts left none h = let e : left ≡ 0 = omega (arith, none) in subst (λ (k : ℕ). IsLowered steps v (with_all (drop k ts) w)) e h

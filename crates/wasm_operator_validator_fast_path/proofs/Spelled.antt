@@ -25,11 +25,11 @@ many_more g (suc n) [] x t u h k = absurd h
 many_more g (suc n) (y ∷ ys) x t u (f, b, gy, more, whole) k =
     (f, b ++ u, gy, many_more g n ys x b u more k, ap (λ (s : List ℕ). s ++ u) whole ∙ append_assoc f b u)
 
-all_cons : {A : Type 0} (P : A → Type 0) (x : A) (xs : List A) → P x → All P xs → All P (x ∷ xs)
+pub all_cons : {A : Type 0} (P : A → Type 0) (x : A) (xs : List A) → P x → All P xs → All P (x ∷ xs)
 all_cons P x xs p h zero d lt = p
 all_cons P x xs p h (suc k) d lt = h k d (omega (arith, lt))
 
-all_tail : {A : Type 0} (P : A → Type 0) (x : A) (xs : List A) → All P (x ∷ xs) → All P xs
+pub all_tail : {A : Type 0} (P : A → Type 0) (x : A) (xs : List A) → All P (x ∷ xs) → All P xs
 all_tail P x xs h k d lt = h (suc k) d (omega (arith, lt))
 
 all_push : {A : Type 0} (P : A → Type 0) (x : A) (xs : List A) → P x → All P xs → All P (xs ++ x ∷ [])

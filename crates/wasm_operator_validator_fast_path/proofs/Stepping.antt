@@ -2,6 +2,7 @@
 use Rattle.std.proofs.Common.{◌≡◌, ◌≤◌, ◌∙◌, ℕ, ◌+◌, ◌-◌, List, ◌∷◌, ◌++◌, IsTrue, refl, sym, subst, ap, arith, drop, length}
 use Rattle.std.proofs.lemmas.List.{drop-drop}
 use Rattle.wasm_types.specs.settings.Settings.{Settings}
+use Rattle.wasm_types.specs.trees.Trees.{TypeTree}
 use Rattle.wasm_types.specs.decoding.Numbers.{behind, GivesAt}
 use Rattle.wasm_operators_frequent.specs.Short.{IsTold}
 use Rattle.wasm_operators_enums.specs.Op.{Op}
@@ -45,21 +46,21 @@ stood features text i j o told z same within =
     let here : IsTold z.features text i j (λ p. p ≡ o) = subst (λ (f : ℕ). IsTold f text i j (λ p. p ≡ o)) (sym same) told in
     subst (λ (p : Op). IsSpelledAt z text i j p) here.told (read_here z text i j here.op here.canonical (here.reads z.limits))
 
-pub step : (z : Settings) (text : List ℕ) (t : Tables) (g : Context) (i j : ℕ) (opens others : List Open) (v w : Values) → Fits z text t g
-    → (o : Op) → Stands t.features.0 text i j o → ((os : List Op) → Closes t g others w os → Closes t g opens v (o ∷ os))
-    → Goes z text t g j others w → Goes z text t g i opens v
-step z text t g i j opens others v w fits o stands closes (os, h, c) =
+pub step : (ids : List TypeTree) (z : Settings) (text : List ℕ) (t : Tables) (g : Context) (i j : ℕ) (opens others : List Open) (v w : Values) → Fits ids z text t g
+    → (o : Op) → Stands t.features.0 text i j o → ((os : List Op) → Closes ids t g others w os → Closes ids t g opens v (o ∷ os))
+    → Goes ids z text t g j others w → Goes ids z text t g i opens v
+step ids z text t g i j opens others v w fits o stands closes (os, h, c) =
     let (front, spelled, whole) = stands z fits.features fits.within in
     (o ∷ os, (front, drop j text, spelled, h, whole), closes os c)
 
 -- ---- operators
 
 -- one that neither opens nor ends a frame
-pub plain_more : (t : Tables) (g : Context) (o : Open) (outer : List Open) (a b u : List ℕ) (p : Op) → role_of p ≡ Plain
+pub plain_more : (ids : List TypeTree) (t : Tables) (g : Context) (o : Open) (outer : List Open) (a b u : List ℕ) (p : Op) → role_of p ≡ Plain
     → ((set : Initialised) → Full t set → Full t (after p set))
-    → ((set : Initialised) → Full t set → Steps (inside_all g t.known.flat.items (o ∷ outer)) set p (operands a) (operands b))
-    → (os : List Op) → Closes t g (o ∷ outer) (b, u) os → Closes t g (o ∷ outer) (a, u) (p ∷ os)
-plain_more t g o outer a b u p is keeps steps os c set before full whole =
-    (in_plain (inside_all g t.known.flat.items (o ∷ outer)) (record { kind = o.kind; block = signature_in t.known.flat.items o.sig; before = before }) set (operands a) p os
-    (λ rest. Closes t g outer (with_all (results_in t.known.flat.items o.sig) (lying o.base u)) rest) is).1
-    (operands b, steps set full, c (after p set) before (keeps set full) whole)
+    → ((set : Initialised) → Full t set → Steps (inside_all ids g t.known.flat.items (o ∷ outer)) set p (operands ids a) (operands ids b))
+    → (os : List Op) → Closes ids t g (o ∷ outer) (b, u) os → Closes ids t g (o ∷ outer) (a, u) (p ∷ os)
+plain_more ids t g o outer a b u p is keeps steps os c set before full whole =
+    (in_plain (inside_all ids g t.known.flat.items (o ∷ outer)) (record { kind = o.kind; block = signature_in ids t.known.flat.items o.sig; before = before }) set (operands ids a) p os
+    (λ rest. Closes ids t g outer (with_all (results_in t.known.flat.items o.sig) (lying o.base u)) rest) is).1
+    (operands ids b, steps set full, c (after p set) before (keeps set full) whole)

@@ -6,3 +6,4 @@ pub mod Shapes
 pub mod Labels
 pub mod Known
 pub mod Loop
+pub mod Written

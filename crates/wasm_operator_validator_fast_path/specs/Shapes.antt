@@ -3,7 +3,8 @@ use Rattle.std.specs.Prelude.{◌≡◌, ◌<◌, ◌≤◌, ℕ, List, [], ◌�
 use Rattle.wasm_operators_enums.specs.declared.numeric.NumericOperator.{NumericOperator}
 use Rattle.wasm_operators_enums.specs.numbers.Table.{numeric_info}
 use Rattle.wasm_operator_validator_rules.specs.Numbers.{class_of, taken_by, given_by, numbers}
-use Rattle.wasm_types.specs.trees.Types.{Number}
+use Rattle.wasm_types.specs.trees.Types.{Number, number}
+use Rattle.wasm_types.specs.trees.Trees.{TypeTree}
 use Rattle.wasm_operators_immediates.specs.declared.memory.MemArg.{MemArg}
 use Rattle.wasm_operators_immediates.specs.declared.proposal.Proposal.TheVariants.{Mvp}
 use Rattle.wasm_operators_enums.specs.declared.memory.MemoryOperator.{MemoryOperator}
@@ -18,7 +19,7 @@ use Rattle.wasm_operator_validator_rules.specs.Context.{Context, Initialised}
 use Rattle.wasm_operator_validator_rules.specs.InstructionTypes.{instruction_type, accesses}
 use Rattle.wasm_operator_validator_rules.specs.Row.{TableRow, GroupRow, IsEnabled, after}
 use Rattle.wasm_operator_validator_fast_path.specs.Tables.{Allows}
-use Rattle.wasm_operator_validator_fast_path.specs.Values.{number_of, types}
+use Rattle.wasm_operator_validator_fast_path.specs.Values.{number_of, type_of, types}
 use Rattle.wasm_types.specs.decoding.Numbers.{GivesAt}
 use Rattle.wasm_operators_encoding.specs.immediates.MemoryArguments.{argument, memory_argument}
 use Rattle.wasm_operator_validator_fast_path.specs.declared.shape.Shape.{Shape}
@@ -31,11 +32,12 @@ pub record IsNumberAt (prefix : Option ℕ) (code : ℕ) (takes gives : List ℕ
   pub prefix_is : (numeric_info operator).prefix ≡ prefix
   pub low : code < 0xfb
   pub enabled : (bits : ℕ) → Allows bits → IsEnabled bits (op.Numeric operator)
-  pub taken : types takes ≡ numbers (taken_by (class_of operator))
-  pub given : types gives ≡ numbers (given_by (class_of operator))
+  pub taken : (ids : List TypeTree) → types ids takes ≡ numbers (taken_by (class_of operator))
+  pub given : (ids : List TypeTree) → types ids gives ≡ numbers (given_by (class_of operator))
 
 -- with any argument of this natural alignment the operator with this code is an access of this kind and type
 pub record IsAccessAt (kind : Number → Access) (code natural ty : ℕ) : Type 0 where
+  pub of_number : (ids : List TypeTree) → type_of ids ty ≡ number (number_of ty)
   pub operator : MemArg → MemoryOperator
   pub low : code < 0xfb
   pub code_is : (a : MemArg) → (info_of (op.Memory (operator a))).code ≡ code

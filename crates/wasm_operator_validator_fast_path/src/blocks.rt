@@ -1,42 +1,32 @@
 //! Frames that begin, turn and end.
 
-ghost use Rattle.std.specs.Prelude.{◌≡◌, ◌<◌, ◌≤◌, ◌∷◌, ℕ, List, true, length, [], IfSome};
+ghost use Rattle.std.specs.Prelude.{◌≡◌, ◌<◌, ◌≤◌, ◌∷◌, ℕ, List, true, length, get_or, [], IfSome};
 ghost use Rattle.wasm_operators_frequent.specs.Short.{Begins};
 ghost use Rattle.wasm_operator_validator_fast_path.specs.Loop.{Leads, Goes, Enters, Leaves, all};
 ghost use Rattle.wasm_types.specs.settings.Settings.{Settings};
-ghost use Rattle.wasm_types.specs.decoding.Numbers.{GivesAt};
-ghost use Rattle.wasm_types.specs.values.Decode.{begins_index};
-ghost use Rattle.wasm_operators_immediates.specs.Blocks.{block_type};
-ghost use Rattle.wasm_operators_immediates.specs.declared.block.BlockType.{BlockType};
-ghost use Rattle.wasm_operator_validator_rules.specs.Context.{Context, IsBlockType};
+ghost use Rattle.wasm_types.specs.trees.Trees.{TypeTree};
+ghost use Rattle.wasm_operator_validator_fast_path.specs.Stacks.{Values};
+ghost use Rattle.wasm_operator_validator_fast_path.specs.Values.{IsLowered};
+ghost use Rattle.wasm_operator_validator_rules.specs.Context.{Context};
 ghost use Rattle.wasm_operator_validator_rules.specs.Typed.{MayClose};
+ghost use Rattle.wasm_types.specs.values.Decode.{begins_index};
 ghost use Rattle.wasm_operator_validator_fast_path.specs.Tables.{Fits, signature_in};
+ghost use Rattle.wasm_operator_validator_fast_path.specs.Written.{IsBlockAt};
 
 use crate::lookups::part;
 use crate::stack::Stack;
 use crate::tables::{Open, Opens, Sig, Tables};
+use crate::written::{begins_index, value_at};
 use wasm_operator_validator_state::FrameKind;
 use wasm_types_decoding::short_s33_at;
 
-// Whether a number that is not negative begins with this byte.
-#[inline(always)]
-fn begins_index(byte: u8) -> bool
-    ensures { result ≡ begins_index byte }
-{
-    byte < 0x40 || 0x7f < byte
-}
-
 // The signature of a block by the index of its type, and the offset behind it.
-#[inline(never)]
+#[inline(always)]
 fn block_by_index(tables: &Tables, bytes: &[u8], at: usize) -> Option<(Sig, usize)>
-    requires { at < length bytes.now }
-    ensures { IfSome result (λ r. (bt : BlockType) × GivesAt block_type bytes.now at bt r.1
-        × ((z : Settings) (g : Context) → Fits z bytes.now tables.now g
-        → IsBlockType g bt (signature_in tables.now.known.flat.items r.0))) }
+    requires inside { at < length bytes.now }
+    requires begins { begins_index (get_or bytes.now at 0) ≡ true }
+    ensures { IfSome result (λ r. IsBlockAt bytes.now tables.now at r.0 r.1) }
 {
-    if !begins_index(bytes[at]) {
-        return None;
-    }
     let Some((index, end)) = short_s33_at(bytes, at) else {
         return None;
     };
@@ -58,7 +48,8 @@ fn block_by_index(tables: &Tables, bytes: &[u8], at: usize) -> Option<(Sig, usiz
 // The signature of a block of no operands.
 #[inline(always)]
 fn bare() -> Sig
-    ensures { (flat : List ℕ) → signature_in flat result ≡ record { params = []; results = [] } }
+    ensures { (ids : List TypeTree) (flat : List ℕ)
+        → signature_in ids flat result ≡ record { params = []; results = [] } }
 {
     Sig {
         params: 0,
@@ -68,25 +59,38 @@ fn bare() -> Sig
     }
 }
 
-// The signature of a block of one number.
+// The signature of a block of one result, whose code stands at this place.
 #[inline(always)]
-fn single(code: u32) -> Sig
-    ensures { result ≡ record { params = 0; param_count = 0; results = code; result_count = 1 } }
+fn single(place: u32) -> Sig
+    ensures { result ≡ record { params = 0; param_count = 0; results = place; result_count = 1 } }
 {
     Sig {
         params: 0,
         param_count: 0,
-        results: code,
+        results: place,
         result_count: 1,
     }
 }
 
-// The signature of a block, and the offset behind its type.
+// The signature of a block whose type is an index or a reference, and the offset behind its type.
+#[inline(never)]
+fn other_block_at(tables: &Tables, bytes: &[u8], at: usize) -> Option<(Sig, usize)>
+    requires { at < length bytes.now }
+    ensures { IfSome result (λ r. IsBlockAt bytes.now tables.now at r.0 r.1) }
+{
+    if begins_index(bytes[at]) {
+        return block_by_index(tables, bytes, at);
+    }
+    let Some((_code, place, end)) = value_at(tables, bytes, at) else {
+        return None;
+    };
+    Some((single(place), end))
+}
+
+/// The signature of a block, and the offset behind its type.
 #[inline(always)]
-fn block_at(tables: &Tables, bytes: &[u8], at: usize) -> Option<(Sig, usize)>
-    ensures { IfSome result (λ r. (bt : BlockType) × GivesAt block_type bytes.now at bt r.1
-        × ((z : Settings) (g : Context) → Fits z bytes.now tables.now g
-        → IsBlockType g bt (signature_in tables.now.known.flat.items r.0))) }
+pub fn block_at(tables: &Tables, bytes: &[u8], at: usize) -> Option<(Sig, usize)>
+    ensures { IfSome result (λ r. IsBlockAt bytes.now tables.now at r.0 r.1) }
 {
     if at >= bytes.len() {
         return None;
@@ -97,7 +101,7 @@ fn block_at(tables: &Tables, bytes: &[u8], at: usize) -> Option<(Sig, usize)>
         0x7e => Some((single(1), at + 1)),
         0x7d => Some((single(2), at + 1)),
         0x7c => Some((single(3), at + 1)),
-        _ => block_by_index(tables, bytes, at),
+        _ => other_block_at(tables, bytes, at),
     }
 }
 
@@ -116,10 +120,17 @@ fn enter_bare(kind: FrameKind, sig: Sig, stack: &mut Stack, opens: &mut Opens) -
     true
 }
 
-// A frame begins.
+/// A frame begins.
 #[inline(always)]
-fn enter(tables: &Tables, kind: FrameKind, sig: Sig, stack: &mut Stack, opens: &mut Opens) -> bool
-    ensures { result ≡ true → Enters tables.now.known.flat.items kind sig stack.old stack.new
+pub fn enter(
+    tables: &Tables,
+    kind: FrameKind,
+    sig: Sig,
+    stack: &mut Stack,
+    opens: &mut Opens,
+) -> bool
+    ensures { result ≡ true → (m : Values) × IsLowered tables.now.known.order stack.old m
+        × Enters tables.now.known.flat.items kind sig m stack.new
         opens.old.inner opens.old.outer opens.new.inner opens.new.outer }
 {
     if sig.param_count == 0 {
@@ -128,7 +139,7 @@ fn enter(tables: &Tables, kind: FrameKind, sig: Sig, stack: &mut Stack, opens: &
     let Some(params) = part(tables.known.flat.as_slice(), sig.params, sig.param_count) else {
         return false;
     };
-    if !stack.take_all(params) {
+    if !stack.take_all(&tables.known.order, params) {
         return false;
     }
     let base = stack.enter();
@@ -141,7 +152,7 @@ fn enter(tables: &Tables, kind: FrameKind, sig: Sig, stack: &mut Stack, opens: &
 
 /// A block begins.
 #[inline(always)]
-pub(crate) fn block(
+pub fn block(
     tables: &Tables,
     bytes: &[u8],
     at: usize,
@@ -165,7 +176,7 @@ pub(crate) fn block(
 
 /// A loop begins.
 #[inline(always)]
-pub(crate) fn begin_loop(
+pub fn begin_loop(
     tables: &Tables,
     bytes: &[u8],
     at: usize,
@@ -189,7 +200,7 @@ pub(crate) fn begin_loop(
 
 /// A choice begins.
 #[inline(always)]
-pub(crate) fn begin_if(
+pub fn begin_if(
     tables: &Tables,
     bytes: &[u8],
     at: usize,
@@ -213,7 +224,7 @@ pub(crate) fn begin_if(
 
 /// The second part of a choice begins.
 #[inline(always)]
-pub(crate) fn turn(
+pub fn turn(
     tables: &Tables,
     bytes: &[u8],
     at: usize,
@@ -239,7 +250,10 @@ pub(crate) fn turn(
     let Some(params) = part(flat, sig.params, sig.param_count) else {
         return None;
     };
-    if !stack.take_all(results) || !stack.is_empty() || !stack.put_all(params) {
+    if !stack.take_all(&tables.known.order, results)
+        || !stack.is_empty()
+        || !stack.put_all(params)
+    {
         return None;
     }
     opens.inner.kind = FrameKind::Else;
@@ -249,12 +263,14 @@ pub(crate) fn turn(
 // Whether a frame may end here: a choice without a second part may if it takes and gives nothing.
 #[inline(always)]
 fn may_close(frame: &Open) -> bool
-    ensures { result ≡ true → (flat : List ℕ) → MayClose frame.now.kind (signature_in flat frame.now.sig) }
+    ensures { result ≡ true → (ids : List TypeTree) (flat : List ℕ)
+        → MayClose frame.now.kind (signature_in ids flat frame.now.sig) }
 {
     match frame.kind {
         FrameKind::Block => true,
         FrameKind::Loop => true,
         FrameKind::Else => true,
+        FrameKind::TryTable => true,
         FrameKind::If => frame.sig.param_count == 0 && frame.sig.result_count == 0,
         _ => false,
     }
@@ -263,7 +279,8 @@ fn may_close(frame: &Open) -> bool
 // The innermost frame's operands are its results alone, which lie on those under it then.
 #[inline(always)]
 fn leave(tables: &Tables, frame: &Open, stack: &mut Stack) -> bool
-    ensures { result ≡ true → Leaves tables.now.known.flat.items frame.now stack.old stack.new }
+    ensures { result ≡ true → (m : Values) × IsLowered tables.now.known.order stack.old m
+        × Leaves tables.now.known.flat.items frame.now m stack.new }
 {
     if !may_close(frame) {
         return false;
@@ -278,12 +295,15 @@ fn leave(tables: &Tables, frame: &Open, stack: &mut Stack) -> bool
     ) else {
         return false;
     };
-    stack.take_all(results) && stack.leave(frame.base) && stack.put_all(results)
+    if !stack.take_all(&tables.known.order, results) || !stack.leave(frame.base) {
+        return false;
+    }
+    stack.put_all(results)
 }
 
 /// The innermost frame ends, and is not the last.
 #[inline(always)]
-pub(crate) fn end(
+pub fn end(
     tables: &Tables,
     bytes: &[u8],
     at: usize,
@@ -306,15 +326,9 @@ pub(crate) fn end(
 }
 
 /// The last frame ends at the end of the bytes.
-pub(crate) fn finish(
-    tables: &Tables,
-    bytes: &[u8],
-    at: usize,
-    stack: &mut Stack,
-    opens: &Opens,
-) -> bool
-    ensures { result ≡ true → (z : Settings) (g : Context) → Fits z bytes.now tables.now g
-        → Goes z bytes.now tables.now g at (all opens.now) stack.old }
+pub fn finish(tables: &Tables, bytes: &[u8], at: usize, stack: &mut Stack, opens: &Opens) -> bool
+    ensures { result ≡ true → (ids : List TypeTree) (z : Settings) (g : Context) → Fits ids z bytes.now tables.now g
+        → Goes ids z bytes.now tables.now g at (all opens.now) stack.old }
 {
     if at >= bytes.len() || at + 1 != bytes.len() || bytes[at] != 0x0b || opens.outer.len() != 0 {
         return false;

@@ -11,7 +11,7 @@ use wasm_operators_frequent::{f32_at, f64_at};
 
 /// A constant of type i32.
 #[inline(always)]
-pub(crate) fn i32_const(
+pub fn i32_const(
     tables: &Tables,
     bytes: &[u8],
     at: usize,
@@ -37,7 +37,7 @@ pub(crate) fn i32_const(
 
 /// A constant of type i64.
 #[inline(always)]
-pub(crate) fn i64_const(
+pub fn i64_const(
     tables: &Tables,
     bytes: &[u8],
     at: usize,
@@ -63,7 +63,7 @@ pub(crate) fn i64_const(
 
 /// A constant of type f32.
 #[inline(always)]
-pub(crate) fn f32_const(
+pub fn f32_const(
     tables: &Tables,
     bytes: &[u8],
     at: usize,
@@ -89,7 +89,7 @@ pub(crate) fn f32_const(
 
 /// A constant of type f64.
 #[inline(always)]
-pub(crate) fn f64_const(
+pub fn f64_const(
     tables: &Tables,
     bytes: &[u8],
     at: usize,

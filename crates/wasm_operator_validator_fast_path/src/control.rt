@@ -19,7 +19,7 @@ use wasm_types_decoding::short_u32_at;
 
 /// Nothing.
 #[inline(always)]
-pub(crate) fn nop(
+pub fn nop(
     tables: &Tables,
     bytes: &[u8],
     at: usize,
@@ -41,7 +41,7 @@ pub(crate) fn nop(
 
 /// Nothing behind this is reached, so any operands may lie there: the frame's results do.
 #[inline(always)]
-pub(crate) fn unreachable(
+pub fn unreachable(
     tables: &Tables,
     bytes: &[u8],
     at: usize,
@@ -71,7 +71,7 @@ pub(crate) fn unreachable(
 
 /// An operand is dropped.
 #[inline(always)]
-pub(crate) fn drop_top(
+pub fn drop_top(
     tables: &Tables,
     bytes: &[u8],
     at: usize,
@@ -95,7 +95,7 @@ pub(crate) fn drop_top(
 
 /// One of two operands of one type.
 #[inline(always)]
-pub(crate) fn select(
+pub fn select(
     tables: &Tables,
     bytes: &[u8],
     at: usize,
@@ -119,7 +119,7 @@ pub(crate) fn select(
 
 /// A branch. Behind it nothing is reached, so any operands may lie there: the frame's results do.
 #[inline(always)]
-pub(crate) fn br(
+pub fn br(
     tables: &Tables,
     bytes: &[u8],
     at: usize,
@@ -148,7 +148,7 @@ pub(crate) fn br(
     ) else {
         return None;
     };
-    if !stack.take_all(types) {
+    if !stack.take_all(&tables.known.order, types) {
         return None;
     }
     stack.cut();
@@ -160,7 +160,7 @@ pub(crate) fn br(
 
 /// A branch on a condition.
 #[inline(always)]
-pub(crate) fn br_if(
+pub fn br_if(
     tables: &Tables,
     bytes: &[u8],
     at: usize,
@@ -188,7 +188,7 @@ pub(crate) fn br_if(
     if types.len() == 0 {
         return Some(end);
     }
-    if !stack.take_all(types) || !stack.put_all(types) {
+    if !stack.take_all(&tables.known.order, types) || !stack.put_all(types) {
         return None;
     }
     Some(end)
@@ -196,7 +196,7 @@ pub(crate) fn br_if(
 
 /// A branch to one of several labels, which all take the same types.
 #[inline(always)]
-pub(crate) fn br_table(
+pub fn br_table(
     tables: &Tables,
     bytes: &[u8],
     at: usize,
@@ -232,7 +232,7 @@ pub(crate) fn br_table(
     ) else {
         return None;
     };
-    if !stack.take(0) || !stack.take_all(types) {
+    if !stack.take(0) || !stack.take_all(&tables.known.order, types) {
         return None;
     }
     stack.cut();
@@ -244,7 +244,7 @@ pub(crate) fn br_table(
 
 /// The function returns.
 #[inline(always)]
-pub(crate) fn return_all(
+pub fn return_all(
     tables: &Tables,
     bytes: &[u8],
     at: usize,
@@ -272,7 +272,7 @@ pub(crate) fn return_all(
     ) else {
         return None;
     };
-    if !stack.take_all(types) {
+    if !stack.take_all(&tables.known.order, types) {
         return None;
     }
     stack.cut();
@@ -284,7 +284,7 @@ pub(crate) fn return_all(
 
 /// A call.
 #[inline(always)]
-pub(crate) fn call(
+pub fn call(
     tables: &Tables,
     bytes: &[u8],
     at: usize,
@@ -319,7 +319,7 @@ pub(crate) fn call(
     let Some(results) = part(flat, sig.results, sig.result_count) else {
         return None;
     };
-    if !stack.take_all(params) || !stack.put_all(results) {
+    if !stack.take_all(&tables.known.order, params) || !stack.put_all(results) {
         return None;
     }
     Some(end)
@@ -348,7 +348,7 @@ fn first_table_at(bytes: &[u8], at: usize, features: WasmFeatures) -> Option<usi
 
 /// A call through table 0.
 #[inline(always)]
-pub(crate) fn call_indirect(
+pub fn call_indirect(
     tables: &Tables,
     bytes: &[u8],
     at: usize,
@@ -381,7 +381,7 @@ pub(crate) fn call_indirect(
     let Some(results) = part(flat, sig.results, sig.result_count) else {
         return None;
     };
-    if !stack.take(0) || !stack.take_all(params) || !stack.put_all(results) {
+    if !stack.take(0) || !stack.take_all(&tables.known.order, params) || !stack.put_all(results) {
         return None;
     }
     Some(end)

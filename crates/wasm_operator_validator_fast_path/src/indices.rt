@@ -11,7 +11,7 @@ use wasm_types_decoding::{short_i32_at, short_i64_at, short_u32_at};
 
 /// An index, which a linker may have written in five bytes, and the offset behind it.
 #[inline(always)]
-pub(crate) fn index_at(bytes: &[u8], at: usize) -> Option<(u32, usize)>
+pub fn index_at(bytes: &[u8], at: usize) -> Option<(u32, usize)>
     requires { at ≤ length bytes.now }
     ensures { IfSome result (λ r. GivesAt u32_decoder bytes.now at r.0 r.1) }
 {
@@ -54,12 +54,7 @@ fn long_argument_at(bytes: &[u8], at: usize, natural: u8, features: WasmFeatures
 
 /// The offset behind the argument of an access to memory 0, the natural alignment of which is so many times doubled.
 #[inline(always)]
-pub(crate) fn argument_at(
-    bytes: &[u8],
-    at: usize,
-    natural: u8,
-    features: WasmFeatures,
-) -> Option<usize>
+pub fn argument_at(bytes: &[u8], at: usize, natural: u8, features: WasmFeatures) -> Option<usize>
     requires { at ≤ length bytes.now }
     ensures { IfSome result (λ end. IsArgumentAt features.0 bytes.now at natural end) }
 {
@@ -77,7 +72,7 @@ pub(crate) fn argument_at(
 
 /// The offset behind a signed number of 32 bits.
 #[inline(always)]
-pub(crate) fn i32_end(bytes: &[u8], at: usize) -> Option<usize>
+pub fn i32_end(bytes: &[u8], at: usize) -> Option<usize>
     requires { at ≤ length bytes.now }
     ensures { IfSome result (λ end. (x : ℤ) × GivesAt s32 bytes.now at x end) }
 {
@@ -111,7 +106,7 @@ pub(crate) fn i32_end(bytes: &[u8], at: usize) -> Option<usize>
 
 /// The offset behind a signed number of 64 bits.
 #[inline(always)]
-pub(crate) fn i64_end(bytes: &[u8], at: usize) -> Option<usize>
+pub fn i64_end(bytes: &[u8], at: usize) -> Option<usize>
     requires { at ≤ length bytes.now }
     ensures { IfSome result (λ end. (x : ℤ) × GivesAt s64 bytes.now at x end) }
 {

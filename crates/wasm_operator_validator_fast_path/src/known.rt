@@ -1,83 +1,91 @@
 //! The tables of a module, made once for all its bodies.
 
-ghost use Rattle.std.specs.Prelude.{◌≡◌, ◌<◌, ◌≤◌, ◌-◌, ◌++◌, ◌∷◌, ◌↔◌, [], ℕ, List, IsTrue, true, false, length, take, IfSome};
+ghost use Rattle.std.specs.Prelude.{◌≡◌, ◌<◌, ◌≤◌, ◌-◌, ◌++◌, ◌↔◌, [], ℕ, List, IsTrue, true, false, length, IfSome};
 ghost use Rattle.wasm_types.specs.trees.Types.{ref, abstract, func};
 ghost use Rattle.wasm_types.specs.trees.Below.{Below};
 ghost use Rattle.wasm_operator_validator_state.specs.State.{types_in};
-ghost use Rattle.wasm_operator_validator_state.specs.resources.Meaning.{Meaning, type_in, reference_in};
-ghost use Rattle.wasm_operator_validator_fast_path.specs.Values.{type_of, types};
-ghost use Rattle.wasm_operator_validator_fast_path.specs.Tables.{Knows, HasTypeIn, IsGlobalIn, HasMemory, HasTable};
-ghost use Rattle.wasm_operator_validator_fast_path.specs.Known.{IsMore, IsSigIn, AreSigsIn, AreFunctionsIn, AreGlobalsIn};
+ghost use Rattle.wasm_operator_validator_state.specs.resources.Meaning.{Meaning, reference_in};
+ghost use Rattle.wasm_operator_validator_fast_path.specs.Values.{types};
+ghost use Rattle.wasm_operator_validator_fast_path.specs.Tables.{Knows, HasMemory, HasTable};
+ghost use Rattle.wasm_operator_validator_fast_path.specs.Known.{IsMore, StandAlone, IsSigIn, AreSigsIn, AreFunctionsIn, AreReferencedIn, AreGlobalsIn};
 
-use crate::tables::{Held, Known, Sig};
+use crate::codes::{DEFINED, code_of};
+use crate::naming::name_all;
+use crate::order::Order;
+use crate::tables::{Defined, Held, Known, NO_CODE, Named, Sig};
+use crate::tags::{data_of, sign_tags};
 use std::alloc::Global;
 use wasm_operator_validator_state::WasmModuleResources;
 use wasm_operator_validator_state::blocks::function_at;
 use wasm_types::{AbstractHeapType, HeapType, RefType, ValType};
 
+// The tables have room for the codes that stand for themselves.
+const LEAST: u32 = 64;
+
 /// What bodies ask of a module, as far as so many entries of each table tell. None if there is no memory for the least.
 pub fn known_of<R: WasmModuleResources>(alloc: Global, resources: &R, most: u32) -> Option<Known>
-    ensures { IfSome result (Knows (R.meaning resources.now).«module») }
+    ensures { let m = R.meaning resources.now in IfSome result (Knows m.ids m.«module») }
 {
     let mut flat = Vec::new(alloc);
-    if most < 4 || most >= u32::MAX || !put_numbers(&mut flat) {
+    if most < LEAST || most >= NO_CODE || !put_alone(&mut flat) {
         return None;
     }
+    let mut named = Vec::new(alloc);
+    let mut fields = Vec::new(alloc);
+    let mut steps = Vec::new(alloc);
+    name_all(
+        resources,
+        most,
+        &mut flat,
+        &mut named,
+        &mut fields,
+        &mut steps,
+    );
     let mut types = Vec::new(alloc);
     sign_all(resources, &mut flat, &mut types, most);
+    let mut tags = Vec::new(alloc);
+    sign_tags(resources, &mut flat, &mut tags, most);
+    let functions = functions_of(alloc, resources, most);
+    let wanted = defines_objects(named.as_slice());
     Some(Known {
         flat,
         types,
-        functions: functions_of(alloc, resources, most),
+        named,
+        fields,
+        order: Order::new(steps),
+        referenced: referenced_of(alloc, resources, functions.as_slice().len() as u32, wanted),
+        functions,
         globals: globals_of(alloc, resources, most),
+        tags,
+        data: data_of(resources),
         memory: has_memory(resources),
         table: has_table(resources),
     })
 }
 
-// The codes of the four types of numbers.
-fn put_numbers(flat: &mut Vec<u8>) -> bool
+// The codes of numbers and of abstract types, each at its own place.
+fn put_alone(flat: &mut Vec<u32>) -> bool
     requires { flat.old.items ≡ [] }
-    ensures { result ≡ true → flat.new.items ≡ 0 ∷ 1 ∷ 2 ∷ 3 ∷ [] }
+    ensures alone { result ≡ true → StandAlone flat.new.items }
+    ensures many { result ≡ true → length flat.new.items ≡ 40 }
 {
-    let Ok(()) = flat.push(0) else {
-        return false;
-    };
-    let Ok(()) = flat.push(1) else {
-        return false;
-    };
-    let Ok(()) = flat.push(2) else {
-        return false;
-    };
-    let Ok(()) = flat.push(3) else {
-        return false;
-    };
+    for code in 0..DEFINED {
+        let Ok(()) = flat.push(code) else {
+            return false;
+        };
+    }
     true
 }
 
-// The code of a type of numbers, or one past them.
-fn code_of(ty: &ValType) -> u8
-    ensures { result < 4 → (m : Meaning) → type_in m ty.now ≡ type_of result }
-{
-    match ty {
-        ValType::I32 => 0,
-        ValType::I64 => 1,
-        ValType::F32 => 2,
-        ValType::F64 => 3,
-        ValType::V128 => 4,
-        ValType::Ref(_) => 4,
-    }
-}
-
-// Puts the codes of types behind the others, if all are those of numbers.
-fn put_codes(flat: &mut Vec<u8>, written: &[ValType]) -> bool
+// Puts the codes of types behind the others, if all have codes.
+pub(crate) fn put_codes(flat: &mut Vec<u32>, written: &[ValType]) -> bool
     ensures codes { result ≡ true → (cs : List ℕ) × (flat.new.items ≡ flat.old.items ++ cs)
-        × ((m : Meaning) → types_in m written.now ≡ types cs) }
+        × ((m : Meaning) → types_in m written.now ≡ types m.ids cs) }
     ensures more { IsMore flat.old.items flat.new.items (length written.now) }
 {
     for ty in written {
         let code = code_of(ty);
-        if code >= 4 {
+        if code >= NO_CODE {
             return false;
         }
         let Ok(()) = flat.push(code) else {
@@ -88,7 +96,7 @@ fn put_codes(flat: &mut Vec<u8>, written: &[ValType]) -> bool
 }
 
 // A signature that is not for use.
-fn unusable() -> Sig
+pub(crate) fn unusable() -> Sig
     ensures { result.param_count ≡ 0xffffffff }
 {
     Sig {
@@ -99,10 +107,10 @@ fn unusable() -> Sig
     }
 }
 
-// The signature of the type at an index, with its types behind the other codes, if all are numbers and there is room for them.
-fn sig_of<R: WasmModuleResources>(resources: &R, at: u32, flat: &mut Vec<u8>, most: u32) -> Sig
+// The signature of the type at an index, with its types behind the other codes, if codes stand for all and there is room for them.
+fn sig_of<R: WasmModuleResources>(resources: &R, at: u32, flat: &mut Vec<u32>, most: u32) -> Sig
     requires { length flat.old.items ≤ most }
-    ensures sig { IsSigIn (R.meaning resources.now).«module» flat.new.items at result }
+    ensures sig { IsSigIn (R.meaning resources.now).ids (R.meaning resources.now).«module» flat.new.items at result }
     ensures more { IsMore flat.old.items flat.new.items (most - length flat.old.items) }
 {
     let Some(function) = function_at(resources, at) else {
@@ -133,15 +141,14 @@ fn sig_of<R: WasmModuleResources>(resources: &R, at: u32, flat: &mut Vec<u8>, mo
 // The signatures of types, in order, as far as there is memory.
 fn sign_all<R: WasmModuleResources>(
     resources: &R,
-    flat: &mut Vec<u8>,
+    flat: &mut Vec<u32>,
     types: &mut Vec<Sig>,
     most: u32,
 )
-    requires numbers { flat.old.items ≡ 0 ∷ 1 ∷ 2 ∷ 3 ∷ [] }
     requires none { types.old.items ≡ [] }
-    requires least { 4 ≤ most }
-    ensures types { AreSigsIn (R.meaning resources.now).«module» flat.new.items types.new.items }
-    ensures numbers { take 4 flat.new.items ≡ 0 ∷ 1 ∷ 2 ∷ 3 ∷ [] }
+    requires within { length flat.old.items ≤ most }
+    ensures types { let m = R.meaning resources.now in AreSigsIn m.ids m.«module» flat.new.items types.new.items }
+    ensures more { IsMore flat.old.items flat.new.items most }
     ensures within { length flat.new.items ≤ most }
 {
     for at in 0..most {
@@ -157,7 +164,8 @@ fn sign_all<R: WasmModuleResources>(
 
 // Functions by the indices of their types, as far as there is memory.
 fn functions_of<R: WasmModuleResources>(alloc: Global, resources: &R, most: u32) -> Vec<u32>
-    ensures { AreFunctionsIn (R.meaning resources.now).«module» result.items }
+    ensures types { AreFunctionsIn (R.meaning resources.now).«module» result.items }
+    ensures few { length result.items ≤ most }
 {
     let mut functions = Vec::new(alloc);
     for at in 0..most {
@@ -171,9 +179,42 @@ fn functions_of<R: WasmModuleResources>(alloc: Global, resources: &R, most: u32)
     functions
 }
 
+// Whether a structure or an array is among these types.
+fn defines_objects(named: &[Named]) -> bool {
+    for it in named {
+        match it.defined {
+            Defined::Struct(_, _) | Defined::Array(_) => return true,
+            Defined::Function | Defined::Other => {}
+        }
+    }
+    false
+}
+
+// Whether code may refer to each of so many functions, as far as there is memory, if that is wanted: each answer is a search in a set.
+fn referenced_of<R: WasmModuleResources>(
+    alloc: Global,
+    resources: &R,
+    count: u32,
+    wanted: bool,
+) -> Vec<bool>
+    ensures { AreReferencedIn (R.meaning resources.now).«module» result.items }
+{
+    let mut referenced = Vec::new(alloc);
+    if !wanted {
+        return referenced;
+    }
+    for at in 0..count {
+        let may = resources.is_function_referenced(at);
+        let Ok(()) = referenced.push(may) else {
+            return referenced;
+        };
+    }
+    referenced
+}
+
 // Globals, as far as there is memory.
 fn globals_of<R: WasmModuleResources>(alloc: Global, resources: &R, most: u32) -> Vec<Held>
-    ensures { AreGlobalsIn (R.meaning resources.now).«module» result.items }
+    ensures { let m = R.meaning resources.now in AreGlobalsIn m.ids m.«module» result.items }
 {
     let mut globals = Vec::new(alloc);
     for at in 0..most {

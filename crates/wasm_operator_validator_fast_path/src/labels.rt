@@ -15,12 +15,12 @@ use wasm_types_decoding::short_u32_at;
 #[inline(never)]
 pub(crate) fn labels_at<'a>(
     alloc: Global,
-    flat: &'a [u8],
+    flat: &'a [u32],
     bytes: &[u8],
     at: usize,
     count: u32,
     opens: &Opens,
-) -> Option<(&'a [u8], usize)>
+) -> Option<(&'a [u32], usize)>
     requires { at ≤ length bytes.now }
     ensures { IfSome result (λ r. AreLabels flat.now bytes.now (all opens.now) at count r.0.now r.1) }
 {
@@ -46,7 +46,7 @@ pub(crate) fn labels_at<'a>(
 
 // The types that a branch to the frame behind so many takes.
 #[inline(always)]
-fn taken<'a>(flat: &'a [u8], opens: &Opens, depth: u32) -> Option<&'a [u8]>
+fn taken<'a>(flat: &'a [u32], opens: &Opens, depth: u32) -> Option<&'a [u32]>
     ensures { IfSome result (λ s. Takes flat.now (all opens.now) s.now depth) }
 {
     let Some(frame) = frame_at(opens, depth) else {
@@ -57,7 +57,7 @@ fn taken<'a>(flat: &'a [u8], opens: &Opens, depth: u32) -> Option<&'a [u8]>
 
 // Whether a branch to the frame behind so many takes these, as those that were met do.
 #[inline(always)]
-fn is_taken_once(flat: &[u8], opens: &Opens, depth: u32, types: &[u8], met: &mut Met) -> bool
+fn is_taken_once(flat: &[u32], opens: &Opens, depth: u32, types: &[u32], met: &mut Met) -> bool
     ensures taken { result ≡ true → ((k : ℕ) → IsAmong k met.old.items → Takes flat.now (all opens.now) types.now k)
         → Takes flat.now (all opens.now) types.now depth }
     ensures kept { KeepsOne met.old.items depth met.new.items }
@@ -74,7 +74,7 @@ fn is_taken_once(flat: &[u8], opens: &Opens, depth: u32, types: &[u8], met: &mut
 
 // Whether a branch to the frame behind so many takes these.
 #[inline(always)]
-fn is_taken(flat: &[u8], opens: &Opens, depth: u32, types: &[u8]) -> bool
+fn is_taken(flat: &[u32], opens: &Opens, depth: u32, types: &[u32]) -> bool
     ensures { result ≡ true → Takes flat.now (all opens.now) types.now depth }
 {
     match taken(flat, opens, depth) {
@@ -85,7 +85,7 @@ fn is_taken(flat: &[u8], opens: &Opens, depth: u32, types: &[u8]) -> bool
 
 // Whether these are the same codes.
 #[inline(always)]
-pub(crate) fn same(one: &[u8], other: &[u8]) -> bool
+pub(crate) fn same(one: &[u32], other: &[u32]) -> bool
     ensures { result ≡ true → other.now ≡ one.now }
 {
     if one.len() != other.len() {

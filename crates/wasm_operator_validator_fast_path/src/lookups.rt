@@ -10,7 +10,7 @@ use wasm_operator_validator_state::FrameKind;
 
 /// So many codes from one on.
 #[inline(always)]
-pub fn part(flat: &[u8], from: u32, count: u32) -> Option<&[u8]>
+pub fn part(flat: &[u32], from: u32, count: u32) -> Option<&[u32]>
     ensures value { IfSome result (λ s. s.now ≡ part_of from count flat.now) }
     ensures within { IfSome result (λ s. count ≤ length flat.now) }
 {
@@ -25,7 +25,7 @@ pub fn part(flat: &[u8], from: u32, count: u32) -> Option<&[u8]>
 
 /// The frame behind so many.
 #[inline(always)]
-pub(crate) fn frame_at(opens: &Opens, depth: u32) -> Option<Open>
+pub fn frame_at(opens: &Opens, depth: u32) -> Option<Open>
     ensures { IfSome result (λ o. slice_get (all opens.now) depth ≡ Some o) }
 {
     let depth = depth as usize;
@@ -40,7 +40,7 @@ pub(crate) fn frame_at(opens: &Opens, depth: u32) -> Option<Open>
 
 /// What a branch to a frame takes.
 #[inline(always)]
-pub(crate) fn label<'a>(flat: &'a [u8], kind: FrameKind, sig: Sig) -> Option<&'a [u8]>
+pub fn label<'a>(flat: &'a [u32], kind: FrameKind, sig: Sig) -> Option<&'a [u32]>
     ensures { IfSome result (λ s. s.now ≡ label_in flat.now kind sig) }
 {
     match kind {
@@ -48,6 +48,7 @@ pub(crate) fn label<'a>(flat: &'a [u8], kind: FrameKind, sig: Sig) -> Option<&'a
         FrameKind::Block => part(flat, sig.results, sig.result_count),
         FrameKind::If => part(flat, sig.results, sig.result_count),
         FrameKind::Else => part(flat, sig.results, sig.result_count),
+        FrameKind::TryTable => part(flat, sig.results, sig.result_count),
         _ => None,
     }
 }

@@ -14,10 +14,10 @@ use wasm_types_decoding::short_u32_at;
 
 /// A load.
 #[inline(always)]
-pub(crate) fn load(
+pub fn load(
     code: u8,
     natural: u8,
-    gives: u8,
+    gives: u32,
     tables: &Tables,
     bytes: &[u8],
     at: usize,
@@ -47,10 +47,10 @@ pub(crate) fn load(
 
 /// A store.
 #[inline(always)]
-pub(crate) fn store(
+pub fn store(
     code: u8,
     natural: u8,
-    takes: u8,
+    takes: u32,
     tables: &Tables,
     bytes: &[u8],
     at: usize,
@@ -80,7 +80,7 @@ pub(crate) fn store(
 
 /// How large it is.
 #[inline(always)]
-pub(crate) fn memory_size(
+pub fn memory_size(
     tables: &Tables,
     bytes: &[u8],
     at: usize,
@@ -108,7 +108,7 @@ pub(crate) fn memory_size(
 
 /// It grows.
 #[inline(always)]
-pub(crate) fn memory_grow(
+pub fn memory_grow(
     tables: &Tables,
     bytes: &[u8],
     at: usize,
@@ -136,7 +136,7 @@ pub(crate) fn memory_grow(
 
 /// A part of it is copied.
 #[inline(always)]
-pub(crate) fn memory_copy(
+pub fn memory_copy(
     middle: usize,
     tables: &Tables,
     bytes: &[u8],
@@ -172,7 +172,7 @@ pub(crate) fn memory_copy(
 
 /// A part of it is filled.
 #[inline(always)]
-pub(crate) fn memory_fill(
+pub fn memory_fill(
     middle: usize,
     tables: &Tables,
     bytes: &[u8],

@@ -11,10 +11,10 @@ use crate::tables::{Opens, Tables};
 
 /// One that makes a number of one.
 #[inline(always)]
-pub(crate) fn change(
+pub fn change(
     code: u8,
-    takes: u8,
-    gives: u8,
+    takes: u32,
+    gives: u32,
     tables: &Tables,
     bytes: &[u8],
     at: usize,
@@ -40,10 +40,10 @@ pub(crate) fn change(
 
 /// One that makes a number of two of one type.
 #[inline(always)]
-pub(crate) fn combine(
+pub fn combine(
     code: u8,
-    takes: u8,
-    gives: u8,
+    takes: u32,
+    gives: u32,
     tables: &Tables,
     bytes: &[u8],
     at: usize,
@@ -69,11 +69,11 @@ pub(crate) fn combine(
 
 /// One behind the prefix `fc` that makes a number of one.
 #[inline(always)]
-pub(crate) fn change_prefixed(
+pub fn change_prefixed(
     code: u32,
     end: usize,
-    takes: u8,
-    gives: u8,
+    takes: u32,
+    gives: u32,
     tables: &Tables,
     bytes: &[u8],
     at: usize,

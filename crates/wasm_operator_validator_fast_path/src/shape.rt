@@ -4,22 +4,22 @@ ghost use Rattle.wasm_operator_validator_fast_path.specs.Shapes.{IsShape, IsSatu
 
 /// What an operator that is known by its code takes and gives, by the codes of types.
 #[derive(Clone, Copy)]
-pub(crate) enum Shape {
+pub enum Shape {
     /// None of the others.
     Other,
     /// A load from memory 0 of this type, the natural alignment of which is so many times doubled.
-    Load(u8, u8),
+    Load(u8, u32),
     /// A store to memory 0.
-    Store(u8, u8),
+    Store(u8, u32),
     /// Takes one number of the first type and gives one of the second.
-    Change(u8, u8),
+    Change(u32, u32),
     /// Takes two.
-    Combine(u8, u8),
+    Combine(u32, u32),
 }
 
 /// The shape of the operator with this code of one byte. A match with an arm for each code becomes a jump by a table.
 #[inline(always)]
-pub(crate) fn shape_of(code: u8) -> Shape
+pub fn shape_of(code: u8) -> Shape
     ensures { IsShape result code }
 {
     match code {
@@ -180,7 +180,7 @@ pub(crate) fn shape_of(code: u8) -> Shape
 
 /// The types that a saturating conversion takes and gives, by its code behind the prefix `fc`.
 #[inline(always)]
-pub(crate) fn saturating_of(code: u32) -> Option<(u8, u8)>
+pub fn saturating_of(code: u32) -> Option<(u32, u32)>
     ensures { IsSaturating result code }
 {
     match code {

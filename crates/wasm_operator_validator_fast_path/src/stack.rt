@@ -1,8 +1,10 @@
 //! The operands of all open frames.
 
-ghost use Rattle.std.specs.Prelude.{◌≡◌, ◌≤◌, ◌∷◌, [], ◌++◌, true, ℕ, List, length, reverse};
+ghost use Rattle.std.specs.Prelude.{◌≡◌, ◌<◌, ◌≤◌, ◌∷◌, [], true, ℕ, List, IfSome, length};
 ghost use Rattle.wasm_operator_validator_fast_path.specs.Stacks.{Values, lying, with_all};
+ghost use Rattle.wasm_operator_validator_fast_path.specs.Values.{IsLowered};
 
+use crate::order::Order;
 use crate::pile::Pile;
 use std::alloc::Global;
 use std::marker::Model;
@@ -10,7 +12,7 @@ use std::marker::Model;
 /// All operands, and how many of them lie under the innermost frame. A contract sees that frame's, and those under them.
 #[derive(Drop)]
 pub struct Stack {
-    items: Pile<u8>,
+    items: Pile<u32>,
     base: usize,
 }
 
@@ -46,7 +48,7 @@ impl Stack {
 
     /// Puts an operand on, where there is a place for it.
     #[inline(always)]
-    pub fn put(&mut self, ty: u8) -> bool
+    pub fn put(&mut self, ty: u32) -> bool
         ensures { result ≡ true → self.new ≡ (ty ∷ self.old.0, self.old.1) }
     {
         self.items.put(ty)
@@ -54,7 +56,7 @@ impl Stack {
 
     /// Takes an operand of this type off.
     #[inline(always)]
-    pub fn take(&mut self, ty: u8) -> bool
+    pub fn take(&mut self, ty: u32) -> bool
         ensures { result ≡ true → self.old ≡ (ty ∷ self.new.0, self.new.1) }
     {
         if self.items.len() <= self.base || self.items.under(0) != ty {
@@ -66,7 +68,7 @@ impl Stack {
 
     /// Whether an operand of this type lies on top.
     #[inline(always)]
-    pub fn has(&self, ty: u8) -> bool
+    pub fn has(&self, ty: u32) -> bool
         ensures { result ≡ true → (rest : List ℕ) × (self.now ≡ (ty ∷ rest, self.now.1)) }
     {
         if self.items.len() <= self.base || self.items.under(0) != ty {
@@ -89,7 +91,7 @@ impl Stack {
 
     /// Puts an operand in the place of another.
     #[inline(always)]
-    pub fn change(&mut self, takes: u8, gives: u8) -> bool
+    pub fn change(&mut self, takes: u32, gives: u32) -> bool
         ensures { result ≡ true → (rest : List ℕ) × (self.old ≡ (takes ∷ rest, self.old.1))
             × (self.new ≡ (gives ∷ rest, self.old.1)) }
     {
@@ -102,7 +104,7 @@ impl Stack {
 
     /// Puts an operand in the place of two of one type.
     #[inline(always)]
-    pub fn combine(&mut self, takes: u8, gives: u8) -> bool
+    pub fn combine(&mut self, takes: u32, gives: u32) -> bool
         ensures { result ≡ true → (rest : List ℕ) × (self.old ≡ (takes ∷ takes ∷ rest, self.old.1))
             × (self.new ≡ (gives ∷ rest, self.old.1)) }
     {
@@ -112,25 +114,67 @@ impl Stack {
     /// Takes a condition off, and one of two operands of one type under it.
     #[inline(always)]
     pub fn choose(&mut self) -> bool
-        ensures { result ≡ true → (t : ℕ) × (self.old ≡ (0 ∷ t ∷ self.new.0, self.new.1))
+        ensures { result ≡ true → (t : ℕ) × (t < 4) × (self.old ≡ (0 ∷ t ∷ self.new.0, self.new.1))
             × ((rest : List ℕ) × (self.new ≡ (t ∷ rest, self.new.1))) }
     {
         if !self.take(0) || self.items.len() <= self.base {
             return false;
         }
         let top = self.items.under(0);
-        self.take(top) && self.has(top)
+        top < 4 && self.take(top) && self.has(top)
     }
 
-    /// Takes operands of these types off, the last on top.
+    /// The type of the operand on top.
     #[inline(always)]
-    pub fn take_all(&mut self, types: &[u8]) -> bool
-        ensures { result ≡ true → self.old ≡ with_all types.now self.new }
+    pub fn top(&self) -> Option<u32>
+        ensures { IfSome result (λ t. (rest : List ℕ) × (self.now ≡ (t ∷ rest, self.now.1))) }
+    {
+        if self.items.len() <= self.base {
+            return None;
+        }
+        Some(self.items.under(0))
+    }
+
+    /// Takes an operand off that may be taken for one of this type.
+    #[inline(always)]
+    pub fn take_below(&mut self, order: &Order, ty: u32) -> bool
+        ensures { result ≡ true → IsLowered order.now self.old (ty ∷ self.new.0, self.new.1) }
+    {
+        if self.items.len() <= self.base {
+            return false;
+        }
+        let top = self.items.under(0);
+        if !order.may_be_taken(top, ty) {
+            return false;
+        }
+        self.take(top)
+    }
+
+    /// Puts an operand of this type in the place of one that may be taken for it.
+    #[inline(always)]
+    pub fn change_below(&mut self, order: &Order, ty: u32) -> bool
+        ensures { result ≡ true → (rest : List ℕ) × (self.new ≡ (ty ∷ rest, self.new.1))
+            × IsLowered order.now self.old self.new }
+    {
+        if self.items.len() <= self.base {
+            return false;
+        }
+        let top = self.items.under(0);
+        if !order.may_be_taken(top, ty) {
+            return false;
+        }
+        self.change(top, ty)
+    }
+
+    /// Takes operands off that may be taken for those of these types, the last on top.
+    #[inline(always)]
+    pub fn take_all(&mut self, order: &Order, types: &[u32]) -> bool
+        ensures { result ≡ true → IsLowered order.now self.old (with_all types.now self.new) }
     {
         let mut left = types.len();
         while left > 0 {
             left -= 1;
-            if !self.take(types[left]) {
+            if !self.take_below(order, types[left]) {
                 return false;
             }
         }
@@ -139,7 +183,7 @@ impl Stack {
 
     /// Puts operands of these types on, the last on top.
     #[inline(always)]
-    pub fn put_all(&mut self, types: &[u8]) -> bool
+    pub fn put_all(&mut self, types: &[u32]) -> bool
         ensures { result ≡ true → self.new ≡ with_all types.now self.old }
     {
         for ty in types {

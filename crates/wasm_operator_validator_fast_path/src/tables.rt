@@ -1,5 +1,6 @@
 //! What bodies ask of a module, packed, and open frames.
 
+use crate::order::Order;
 use crate::pile::Pile;
 use wasm_operator_validator_state::FrameKind;
 use wasm_types::WasmFeatures;
@@ -13,33 +14,72 @@ pub struct Sig {
     pub result_count: u32,
 }
 
-/// A global: its type as a code, which is past those of numbers where it is none, and whether it may be written.
+/// No code stands for the type.
+pub const NO_CODE: u32 = 0xffff_ffff;
+
+/// A global: its type as a code, and whether it may be written.
 #[derive(Clone, Copy)]
 pub struct Held {
-    pub ty: u8,
+    pub ty: u32,
     pub mutable: bool,
 }
 
-/// What bodies ask of a module: the types of signatures as codes, one after the other, behind the four codes themselves; the
-/// types of the module, where they stand there; functions by the indices of their types; globals; whether memory 0 is one of 32
-/// bits, and table 0 one of functions and of 32 bits.
+/// A field or an element: the code of what is read, whether it is packed, and whether it may be written.
+#[derive(Clone, Copy)]
+pub struct Field {
+    pub code: u32,
+    pub packed: bool,
+    pub mutable: bool,
+}
+
+/// What a type of the module is.
+#[derive(Clone, Copy)]
+pub enum Defined {
+    /// None that the loop knows.
+    Other,
+    /// A function.
+    Function,
+    /// A structure: where its fields begin among those of all structures, and how many it has.
+    Struct(u32, u32),
+    /// An array of this element.
+    Array(Field),
+}
+
+/// A type of the module: what it is, and the code of references to it that may be null. The next code is that of the others.
+#[derive(Clone, Copy)]
+pub struct Named {
+    pub code: u32,
+    pub defined: Defined,
+}
+
+/// What bodies ask of a module: codes, one after the other, first 40 that stand for themselves, then two for each type of the module, then the
+/// types of signatures; where those of each function type lie there; what each type is, and the fields of structures; what is below what;
+/// functions by the indices of their types, and whether code may refer to them; globals; tags, by where their parameters lie; how many data segments there are; whether memory 0 is one of 32 bits, and table 0 one of functions and of 32 bits.
 #[derive(Drop)]
 pub struct Known {
-    pub flat: Vec<u8>,
+    pub flat: Vec<u32>,
     pub types: Vec<Sig>,
+    pub named: Vec<Named>,
+    pub fields: Vec<Field>,
+    pub order: Order,
     pub functions: Vec<u32>,
+    pub referenced: Vec<bool>,
     pub globals: Vec<Held>,
+    pub tags: Vec<Sig>,
+    pub data: u32,
     pub memory: bool,
     pub table: bool,
 }
 
-/// What one body asks: its module, its locals as codes, the results of its function, and the features that it is read by.
+/// What one body asks: its module, its locals as codes, the results of its function, the features that it is read by, and whether these have
+/// references.
 #[derive(Drop)]
 pub struct Tables {
     pub known: Known,
-    pub locals: Vec<u8>,
+    pub locals: Vec<u32>,
     pub results: Sig,
     pub features: WasmFeatures,
+    pub references: bool,
 }
 
 /// An open frame, and how many operands lie under the frame around it.

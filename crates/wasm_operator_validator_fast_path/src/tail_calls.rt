@@ -11,10 +11,10 @@ use crate::lookups::part;
 use crate::stack::Stack;
 use crate::tables::{Opens, Tables};
 
-// What a function of the type at an index takes, if it gives what the function that is judged gives. Out of line, so that the loop has
-// no more to look up than for a call.
+/// What a function of the type at an index takes, if it gives what the function that is judged gives. Out of line, so that the loop has
+/// no more to look up than for a call.
 #[inline(never)]
-fn returned(tables: &Tables, ty: u32) -> Option<&[u8]>
+pub fn returned(tables: &Tables, ty: u32) -> Option<&[u32]>
     ensures { IfSome result (λ params. ReturnsBy tables.now ty params.now) }
 {
     let index = ty as usize;
@@ -41,7 +41,7 @@ fn returned(tables: &Tables, ty: u32) -> Option<&[u8]>
 
 /// A call of a function.
 #[inline(always)]
-pub(crate) fn return_call(
+pub fn return_call(
     tables: &Tables,
     bytes: &[u8],
     at: usize,
@@ -75,7 +75,7 @@ pub(crate) fn return_call(
     ) else {
         return None;
     };
-    if !stack.take_all(params) {
+    if !stack.take_all(&tables.known.order, params) {
         return None;
     }
     stack.cut();
@@ -87,7 +87,7 @@ pub(crate) fn return_call(
 
 /// A call through table 0.
 #[inline(always)]
-pub(crate) fn return_call_indirect(
+pub fn return_call_indirect(
     tables: &Tables,
     bytes: &[u8],
     at: usize,
@@ -122,7 +122,7 @@ pub(crate) fn return_call_indirect(
     ) else {
         return None;
     };
-    if !stack.take(0) || !stack.take_all(params) {
+    if !stack.take(0) || !stack.take_all(&tables.known.order, params) {
         return None;
     }
     stack.cut();

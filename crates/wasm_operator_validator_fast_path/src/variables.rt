@@ -6,12 +6,12 @@ ghost use Rattle.wasm_operator_validator_fast_path.specs.Loop.{Leads, all};
 
 use crate::indices::index_at;
 use crate::stack::Stack;
-use crate::tables::{Opens, Tables};
+use crate::tables::{NO_CODE, Opens, Tables};
 use wasm_types_decoding::short_u32_at;
 
 /// The value of a local.
 #[inline(always)]
-pub(crate) fn local_get(
+pub fn local_get(
     tables: &Tables,
     bytes: &[u8],
     at: usize,
@@ -38,7 +38,7 @@ pub(crate) fn local_get(
 
 /// A local takes a value.
 #[inline(always)]
-pub(crate) fn local_set(
+pub fn local_set(
     tables: &Tables,
     bytes: &[u8],
     at: usize,
@@ -57,7 +57,7 @@ pub(crate) fn local_set(
     };
     let index = index as usize;
     let locals = tables.locals.as_slice();
-    if index >= locals.len() || !stack.take(locals[index]) {
+    if index >= locals.len() || !stack.take_below(&tables.known.order, locals[index]) {
         return None;
     }
     Some(end)
@@ -65,7 +65,7 @@ pub(crate) fn local_set(
 
 /// A local takes a value, which stays.
 #[inline(always)]
-pub(crate) fn local_tee(
+pub fn local_tee(
     tables: &Tables,
     bytes: &[u8],
     at: usize,
@@ -84,7 +84,7 @@ pub(crate) fn local_tee(
     };
     let index = index as usize;
     let locals = tables.locals.as_slice();
-    if index >= locals.len() || !stack.has(locals[index]) {
+    if index >= locals.len() || !stack.change_below(&tables.known.order, locals[index]) {
         return None;
     }
     Some(end)
@@ -92,7 +92,7 @@ pub(crate) fn local_tee(
 
 /// The value of a global.
 #[inline(always)]
-pub(crate) fn global_get(
+pub fn global_get(
     tables: &Tables,
     bytes: &[u8],
     at: usize,
@@ -115,7 +115,7 @@ pub(crate) fn global_get(
         return None;
     }
     let held = globals[index];
-    if held.ty >= 4 || !stack.put(held.ty) {
+    if held.ty >= NO_CODE || !stack.put(held.ty) {
         return None;
     }
     Some(end)
@@ -123,7 +123,7 @@ pub(crate) fn global_get(
 
 /// A global takes a value.
 #[inline(always)]
-pub(crate) fn global_set(
+pub fn global_set(
     tables: &Tables,
     bytes: &[u8],
     at: usize,
@@ -146,7 +146,7 @@ pub(crate) fn global_set(
         return None;
     }
     let held = globals[index];
-    if held.ty >= 4 || !held.mutable || !stack.take(held.ty) {
+    if held.ty >= NO_CODE || !held.mutable || !stack.take_below(&tables.known.order, held.ty) {
         return None;
     }
     Some(end)

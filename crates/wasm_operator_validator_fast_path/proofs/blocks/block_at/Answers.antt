@@ -6,36 +6,36 @@ use Rattle.wasm_operator_validator_fast_path.specs.Values.{types}
 use Rattle.wasm_operator_validator_fast_path.proofs.blocks.block_at.Goals as goal
 
 pub returns-in-64 : goal.returns-in-64
-returns-in-64 c = (Empty, empty_there c.args.bytes.now c.args.at c.if-at-bytes.false c.in-64.is, λ z g fits. c.bare.ensures c.args.tables.now.known.flat.items)
+returns-in-64 c = (Empty, empty_there c.args.bytes.now c.args.at c.if-at-bytes.false c.in-64.is, λ ids z g fits. c.bare.ensures ids c.args.tables.now.known.flat.items)
 
 pub returns-in-127 : goal.returns-in-127
 returns-in-127 c = (
   Val I32,
   i32_there c.args.bytes.now c.args.at c.if-at-bytes.false c.in-127.is,
-  λ z g fits.
-      (_, record { allowed = tt; known = tt; is = refl }, rw c.single.ensures (ap (λ xs. record { params = []; results = types xs }) (fits.knows.numbers 0 (omega arith)))),
+  λ ids z g fits.
+      (_, record { allowed = tt; known = tt; is = refl }, rw c.single.ensures (ap (λ xs. record { params = []; results = types ids xs }) (fits.knows.alone 0 (omega arith)))),
 )
 
 pub returns-in-126 : goal.returns-in-126
 returns-in-126 c = (
   Val I64,
   i64_there c.args.bytes.now c.args.at c.if-at-bytes.false c.in-126.is,
-  λ z g fits.
-      (_, record { allowed = tt; known = tt; is = refl }, rw c.single-in-126.ensures (ap (λ xs. record { params = []; results = types xs }) (fits.knows.numbers 1 (omega arith)))),
+  λ ids z g fits.
+      (_, record { allowed = tt; known = tt; is = refl }, rw c.single-in-126.ensures (ap (λ xs. record { params = []; results = types ids xs }) (fits.knows.alone 1 (omega arith)))),
 )
 
 pub returns-in-125 : goal.returns-in-125
 returns-in-125 c = (
   Val F32,
   f32_there c.args.bytes.now c.args.at c.if-at-bytes.false c.in-125.is,
-  λ z g fits.
-      (_, record { allowed = fits.allows.floats; known = tt; is = refl }, rw c.single-in-125.ensures (ap (λ xs. record { params = []; results = types xs }) (fits.knows.numbers 2 (omega arith)))),
+  λ ids z g fits.
+      (_, record { allowed = fits.allows.floats; known = tt; is = refl }, rw c.single-in-125.ensures (ap (λ xs. record { params = []; results = types ids xs }) (fits.knows.alone 2 (omega arith)))),
 )
 
 pub returns-in-124 : goal.returns-in-124
 returns-in-124 c = (
   Val F64,
   f64_there c.args.bytes.now c.args.at c.if-at-bytes.false c.in-124.is,
-  λ z g fits.
-      (_, record { allowed = fits.allows.floats; known = tt; is = refl }, rw c.single-in-124.ensures (ap (λ xs. record { params = []; results = types xs }) (fits.knows.numbers 3 (omega arith)))),
+  λ ids z g fits.
+      (_, record { allowed = fits.allows.floats; known = tt; is = refl }, rw c.single-in-124.ensures (ap (λ xs. record { params = []; results = types ids xs }) (fits.knows.alone 3 (omega arith)))),
 )

@@ -1,4 +1,4 @@
-use Rattle.std.proofs.Common.{rules, ◌≡◌, to_z, of_z, w64, nat_abs, sym, ◌∙◌}
+use Rattle.std.proofs.Common.{rules, ◌≡◌, to_z, of_z, w64, nat_abs}
 use Rattle.std.proofs.lemmas.Option.{slice_get-get_or}
 use Rattle.wasm_operators_immediates.specs.declared.block.BlockType.TheVariants.{FuncType}
 use Rattle.wasm_operators_frequent.proofs.Carried.{index_there}
@@ -7,11 +7,10 @@ use Rattle.wasm_operator_validator_fast_path.proofs.blocks.block_by_index.Goals 
 pub returns : goal.returns
 returns c =
     let held : to_z w64 (of_z w64 c.in-Some.index) ≡ c.in-Some.index = search rules in
-    let begins = sym c.begins_index.ensures ∙ c.if-not-begins_index.false in
     rw (held, c.as_slice-types.ensures.value) (
       FuncType (nat_abs c.in-Some.index),
-      index_there c.args.bytes.now c.args.at c.requires begins c.in-Some.index c.in-Some.end (rw held at c.if-index-lt0.false) (rw held at c.if-index-ge4294967296.false) c.in-Some.ensures.found,
-      λ z g fits.
+      index_there c.args.bytes.now c.args.at c.requires.inside c.requires.begins c.in-Some.index c.in-Some.end (rw held at c.if-index-lt0.false) (rw held at c.if-index-ge4294967296.false) c.in-Some.ensures.found,
+      λ ids z g fits.
           let (t, at, is) = fits.knows.types (nat_abs c.in-Some.index) _
           (slice_get-get_or c.args.tables.now.known.types.items (nat_abs c.in-Some.index) (record { params = 0; param_count = 0; results = 0; result_count = 0 })
           (rw (held, c.as_slice-types.ensures.value) at c.if-index-types.false))

@@ -1,4 +1,6 @@
-use Rattle.std.proofs.Common.{refl}
+use Rattle.std.proofs.Common.{◌∷◌, refl}
+use Rattle.wasm_operator_validator_fast_path.specs.Stacks.{with_all}
+use Rattle.wasm_operator_validator_fast_path.proofs.Lowering.{lowered, lower_past}
 use Rattle.wasm_operator_validator_fast_path.proofs.Rows.{took_br_if}
 use Rattle.wasm_operator_validator_fast_path.proofs.Frames.{nothing_on}
 use Rattle.wasm_operator_validator_fast_path.proofs.control.br_if.Goals as goal
@@ -13,5 +15,10 @@ returns-then-types-eq0-clause-leads c =
 
 pub returns-clause-leads : goal.returns-clause-leads
 returns-clause-leads c =
-    took_br_if c.args.tables.now c.args.bytes.now c.args.at c.in-Some.end c.args.opens.now.inner c.args.opens.now.outer c.args.stack.now c.put_all.new.self c.requires c.in-Some.depth c.in-Some.ensures.found c.in-Some-frame_at.frame c.in-Some-frame_at.ensures
-    c.in-Some-label.types.now (rw c.as_slice.ensures.value at c.in-Some-label.ensures) c.take.new.self c.take_all.new.self (c.if-not-take.ensures refl) (c.if-not-take_all.ensures refl) (c.if-not-put_all.ensures refl)
+    let types = c.in-Some-label.types.now in
+    let under = c.take_all.new.self in
+    lowered c.args.tables.now c.args.bytes.now c.args.at c.in-Some.end c.args.opens.now.inner c.args.opens.now.outer (c.args.opens.now.inner ∷ c.args.opens.now.outer) c.args.stack.now
+    (0 ∷ (with_all types under).0, under.1) c.put_all.new.self
+    (lower_past c.args.tables.now.known.order 0 c.args.stack.now c.take.new.self (with_all types under) (c.if-not-take.ensures refl) (c.if-not-take_all.ensures refl))
+    (took_br_if c.args.tables.now c.args.bytes.now c.args.at c.in-Some.end c.args.opens.now.inner c.args.opens.now.outer (0 ∷ (with_all types under).0, under.1) c.put_all.new.self c.requires c.in-Some.depth c.in-Some.ensures.found c.in-Some-frame_at.frame c.in-Some-frame_at.ensures
+    types (rw c.as_slice.ensures.value at c.in-Some-label.ensures) (with_all types under) under refl refl (c.if-not-put_all.ensures refl))

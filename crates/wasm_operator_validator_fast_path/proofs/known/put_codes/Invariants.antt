@@ -6,4 +6,4 @@ use Rattle.wasm_operator_validator_fast_path.proofs.known.put_codes.Given as goa
 
 abbrev pub invariant-loop-ty : goal.invariant-loop-ty
 invariant-loop-ty l =
-    (cs : List ℕ) × (l.flat.items ≡ l.fn.flat.items ++ cs) × (length cs ≡ l.ty-index) × ((m : Meaning) → types_in m (take l.ty-index l.written) ≡ types cs)
+    (cs : List ℕ) × (l.flat.items ≡ l.fn.flat.items ++ cs) × (length cs ≡ l.ty-index) × ((m : Meaning) → types_in m (take l.ty-index l.written) ≡ types m.ids cs)

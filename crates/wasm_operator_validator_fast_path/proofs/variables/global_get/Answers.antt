@@ -7,4 +7,4 @@ pub returns-clause-leads : goal.returns-clause-leads
 returns-clause-leads c =
     took_global_get c.args.tables.now c.args.bytes.now c.args.at c.in-Some.end c.args.opens.now.inner c.args.opens.now.outer c.args.stack.now c.put.new.self c.requires c.in-Some.index c.in-Some.ensures _
     (slice_get-get_or c.args.tables.now.known.globals.items c.in-Some.index (record { ty = 0; mutable = false }) (rw c.as_slice-globals.ensures.value at c.if-index-globals.false))
-    (rw c.as_slice-globals.ensures.value at c.if-held-ge4.false) (rw c.as_slice-globals.ensures.value at (c.if-not-put.ensures refl))
+    (rw c.as_slice-globals.ensures.value at c.if-held-ge-NO_CODE.false) (rw c.as_slice-globals.ensures.value at (c.if-not-put.ensures refl))

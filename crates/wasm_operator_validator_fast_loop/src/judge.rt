@@ -1,0 +1,351 @@
+//! The loop.
+
+ghost use Rattle.std.specs.Prelude.{◌≡◌, ◌<◌, ◌≤◌, ◌∷◌, ℕ, List, true, length, drop, IfSome, None};
+ghost use Rattle.wasm_types.specs.settings.Settings.{Settings};
+ghost use Rattle.wasm_types.specs.trees.Trees.{TypeTree};
+ghost use Rattle.wasm_operators_encoding.specs.expressions.Code.{Code};
+ghost use Rattle.wasm_operators_encoding.specs.expressions.Spelling.{SpelledExpression};
+ghost use Rattle.wasm_operator_validator_rules.specs.Context.{Context};
+ghost use Rattle.wasm_operator_validator_rules.specs.Typed.{IsBody};
+ghost use Rattle.wasm_operators_frequent.specs.Short.{Begins};
+ghost use Rattle.wasm_operator_validator_fast_path.specs.Tables.{Fits, BeginSet};
+ghost use Rattle.wasm_operator_validator_fast_path.specs.Loop.{Goes, Leads, all, outermost};
+
+use crate::arrays::{
+    array_copy, array_fill, array_get, array_get_s, array_get_u, array_len, array_new,
+    array_new_data, array_new_default, array_new_fixed, array_set,
+};
+use crate::calls::{call_ref, return_call_ref};
+use crate::casts::{br_on_cast, convert, i31_get, ref_cast, ref_i31, ref_test};
+use crate::exceptions::{throw, throw_ref, try_table};
+use crate::references::{
+    br_on_non_null, br_on_null, ref_as_non_null, ref_eq, ref_func, ref_is_null, ref_null,
+    select_typed,
+};
+use crate::structs::{
+    struct_get, struct_get_s, struct_get_u, struct_new, struct_new_default, struct_set,
+};
+use std::alloc::Global;
+use std::mem;
+use wasm_operator_validator_fast_path::blocks::{begin_if, begin_loop, block, end, finish, turn};
+use wasm_operator_validator_fast_path::constants::{f32_const, f64_const, i32_const, i64_const};
+use wasm_operator_validator_fast_path::control::{
+    br, br_if, br_table, call, call_indirect, drop_top, nop, return_all, select, unreachable,
+};
+use wasm_operator_validator_fast_path::memory::{
+    load, memory_copy, memory_fill, memory_grow, memory_size, store,
+};
+use wasm_operator_validator_fast_path::numbers::{change, change_prefixed, combine};
+use wasm_operator_validator_fast_path::shape::{Shape, saturating_of, shape_of};
+use wasm_operator_validator_fast_path::tail_calls::{return_call, return_call_indirect};
+use wasm_operator_validator_fast_path::variables::{
+    global_get, global_set, local_get, local_set, local_tee,
+};
+use wasm_operator_validator_fast_path::{Open, Opens, Pile, Sig, Stack, Tables};
+use wasm_operator_validator_state::FrameKind;
+use wasm_types_decoding::short_u32_at;
+
+/// Takes the next operator.
+#[inline(always)]
+fn next(
+    tables: &Tables,
+    bytes: &[u8],
+    at: usize,
+    stack: &mut Stack,
+    opens: &mut Opens,
+) -> Option<usize>
+    requires { at < length bytes.now }
+    ensures leads { IfSome result (λ end. Leads bytes.now tables.now at (all opens.old) stack.old
+        end (all opens.new) stack.new) }
+    ensures forward { IfSome result (λ end. at < end) }
+    ensures inside { IfSome result (λ end. end ≤ length bytes.now) }
+{
+    let code = bytes[at];
+    match code {
+        0x00 => unreachable(tables, bytes, at, stack, opens),
+        0x01 => nop(tables, bytes, at, stack, opens),
+        0x02 => block(tables, bytes, at, stack, opens),
+        0x03 => begin_loop(tables, bytes, at, stack, opens),
+        0x04 => begin_if(tables, bytes, at, stack, opens),
+        0x05 => turn(tables, bytes, at, stack, opens),
+        0x0b => end(tables, bytes, at, stack, opens),
+        0x0c => br(tables, bytes, at, stack, opens),
+        0x0d => br_if(tables, bytes, at, stack, opens),
+        0x0e => br_table(tables, bytes, at, stack, opens),
+        0x0f => return_all(tables, bytes, at, stack, opens),
+        0x10 => call(tables, bytes, at, stack, opens),
+        0x11 => call_indirect(tables, bytes, at, stack, opens),
+        0x12 => return_call(tables, bytes, at, stack, opens),
+        0x13 => return_call_indirect(tables, bytes, at, stack, opens),
+        0x1a => drop_top(tables, bytes, at, stack, opens),
+        0x1b => select(tables, bytes, at, stack, opens),
+        0x20 => local_get(tables, bytes, at, stack, opens),
+        0x21 => local_set(tables, bytes, at, stack, opens),
+        0x22 => local_tee(tables, bytes, at, stack, opens),
+        0x23 => global_get(tables, bytes, at, stack, opens),
+        0x24 => global_set(tables, bytes, at, stack, opens),
+        0x3f => memory_size(tables, bytes, at, stack, opens),
+        0x40 => memory_grow(tables, bytes, at, stack, opens),
+        0x41 => i32_const(tables, bytes, at, stack, opens),
+        0x42 => i64_const(tables, bytes, at, stack, opens),
+        0x43 => f32_const(tables, bytes, at, stack, opens),
+        0x44 => f64_const(tables, bytes, at, stack, opens),
+        0xfc => prefixed(tables, bytes, at, stack, opens),
+        _ => shaped(code, tables, bytes, at, stack, opens),
+    }
+}
+
+/// Takes an operator out of the loop: the operands go there and come back, so that no pointer leads to what the loop counts by, and it can
+/// stay in registers.
+#[inline(always)]
+fn away(
+    tables: &Tables,
+    bytes: &[u8],
+    at: usize,
+    stack: &mut Stack,
+    opens: &mut Opens,
+) -> Option<usize>
+    requires { at < length bytes.now }
+    ensures leads { IfSome result (λ end. Leads bytes.now tables.now at (all opens.old) stack.old
+        end (all opens.new) stack.new) }
+    ensures forward { IfSome result (λ end. at < end) }
+    ensures inside { IfSome result (λ end. end ≤ length bytes.now) }
+{
+    let mut own = mem::replace(stack, Stack::new(*tables.known.flat.allocator()));
+    let end = referring(tables, bytes, at, &mut own, opens);
+    *stack = own;
+    end
+}
+
+/// Takes an operator on references, objects or exceptions.
+#[inline(never)]
+fn referring(
+    tables: &Tables,
+    bytes: &[u8],
+    at: usize,
+    stack: &mut Stack,
+    opens: &mut Opens,
+) -> Option<usize>
+    requires { at < length bytes.now }
+    ensures leads { IfSome result (λ end. Leads bytes.now tables.now at (all opens.old) stack.old
+        end (all opens.new) stack.new) }
+    ensures forward { IfSome result (λ end. at < end) }
+    ensures inside { IfSome result (λ end. end ≤ length bytes.now) }
+{
+    let code = bytes[at];
+    match code {
+        0x08 => throw(tables, bytes, at, stack, opens),
+        0x0a => throw_ref(tables, bytes, at, stack, opens),
+        0x14 => call_ref(tables, bytes, at, stack, opens),
+        0x15 => return_call_ref(tables, bytes, at, stack, opens),
+        0x1c => select_typed(tables, bytes, at, stack, opens),
+        0x1f => try_table(tables, bytes, at, stack, opens),
+        0xd0 => ref_null(tables, bytes, at, stack, opens),
+        0xd1 => ref_is_null(tables, bytes, at, stack, opens),
+        0xd2 => ref_func(tables, bytes, at, stack, opens),
+        0xd3 => ref_eq(tables, bytes, at, stack, opens),
+        0xd4 => ref_as_non_null(tables, bytes, at, stack, opens),
+        0xd5 => br_on_null(tables, bytes, at, stack, opens),
+        0xd6 => br_on_non_null(tables, bytes, at, stack, opens),
+        0xfb => object(tables, bytes, at, stack, opens),
+        _ => None,
+    }
+}
+
+/// Takes an operator behind the prefix `fb`.
+fn object(
+    tables: &Tables,
+    bytes: &[u8],
+    at: usize,
+    stack: &mut Stack,
+    opens: &Opens,
+) -> Option<usize>
+    requires { Begins bytes.now at 0xfb }
+    ensures leads { IfSome result (λ end. Leads bytes.now tables.now at (all opens.now) stack.old
+        end (all opens.now) stack.new) }
+    ensures forward { IfSome result (λ end. at < end) }
+    ensures inside { IfSome result (λ end. end ≤ length bytes.now) }
+{
+    let Some((code, middle)) = short_u32_at(bytes, at + 1) else {
+        return None;
+    };
+    match code {
+        0x00 => struct_new(middle, tables, bytes, at, stack, opens),
+        0x01 => struct_new_default(middle, tables, bytes, at, stack, opens),
+        0x02 => struct_get(middle, tables, bytes, at, stack, opens),
+        0x03 => struct_get_s(middle, tables, bytes, at, stack, opens),
+        0x04 => struct_get_u(middle, tables, bytes, at, stack, opens),
+        0x05 => struct_set(middle, tables, bytes, at, stack, opens),
+        0x06 => array_new(middle, tables, bytes, at, stack, opens),
+        0x07 => array_new_default(middle, tables, bytes, at, stack, opens),
+        0x08 => array_new_fixed(middle, tables, bytes, at, stack, opens),
+        0x09 => array_new_data(middle, tables, bytes, at, stack, opens),
+        0x0b => array_get(middle, tables, bytes, at, stack, opens),
+        0x0c => array_get_s(middle, tables, bytes, at, stack, opens),
+        0x0d => array_get_u(middle, tables, bytes, at, stack, opens),
+        0x0e => array_set(middle, tables, bytes, at, stack, opens),
+        0x0f => array_len(middle, tables, bytes, at, stack, opens),
+        0x10 => array_fill(middle, tables, bytes, at, stack, opens),
+        0x11 => array_copy(middle, tables, bytes, at, stack, opens),
+        0x14 => ref_test(false, middle, tables, bytes, at, stack, opens),
+        0x15 => ref_test(true, middle, tables, bytes, at, stack, opens),
+        0x16 => ref_cast(false, middle, tables, bytes, at, stack, opens),
+        0x17 => ref_cast(true, middle, tables, bytes, at, stack, opens),
+        0x18 => br_on_cast(false, middle, tables, bytes, at, stack, opens),
+        0x19 => br_on_cast(true, middle, tables, bytes, at, stack, opens),
+        0x1a => convert(false, middle, tables, bytes, at, stack, opens),
+        0x1b => convert(true, middle, tables, bytes, at, stack, opens),
+        0x1c => ref_i31(middle, tables, bytes, at, stack, opens),
+        0x1d => i31_get(true, middle, tables, bytes, at, stack, opens),
+        0x1e => i31_get(false, middle, tables, bytes, at, stack, opens),
+        _ => None,
+    }
+}
+
+/// Takes an operator that its code tells all of, or any other out of the loop.
+#[inline(always)]
+fn shaped(
+    code: u8,
+    tables: &Tables,
+    bytes: &[u8],
+    at: usize,
+    stack: &mut Stack,
+    opens: &mut Opens,
+) -> Option<usize>
+    requires { Begins bytes.now at code }
+    ensures leads { IfSome result (λ end. Leads bytes.now tables.now at (all opens.old) stack.old
+        end (all opens.new) stack.new) }
+    ensures forward { IfSome result (λ end. at < end) }
+    ensures inside { IfSome result (λ end. end ≤ length bytes.now) }
+{
+    match shape_of(code) {
+        Shape::Other => away(tables, bytes, at, stack, opens),
+        Shape::Load(natural, gives) => load(code, natural, gives, tables, bytes, at, stack, opens),
+        Shape::Store(natural, takes) => {
+            store(code, natural, takes, tables, bytes, at, stack, opens)
+        }
+        Shape::Change(takes, gives) => {
+            change(code, takes, gives, tables, bytes, at, stack, opens)
+        }
+        Shape::Combine(takes, gives) => {
+            combine(code, takes, gives, tables, bytes, at, stack, opens)
+        }
+    }
+}
+
+/// Takes an operator behind the prefix `fc`.
+#[inline(always)]
+fn prefixed(
+    tables: &Tables,
+    bytes: &[u8],
+    at: usize,
+    stack: &mut Stack,
+    opens: &Opens,
+) -> Option<usize>
+    requires { Begins bytes.now at 0xfc }
+    ensures leads { IfSome result (λ end. Leads bytes.now tables.now at (all opens.now) stack.old
+        end (all opens.now) stack.new) }
+    ensures forward { IfSome result (λ end. at < end) }
+    ensures inside { IfSome result (λ end. end ≤ length bytes.now) }
+{
+    let Some((code, middle)) = short_u32_at(bytes, at + 1) else {
+        return None;
+    };
+    match code {
+        0x0a => memory_copy(middle, tables, bytes, at, stack, opens),
+        0x0b => memory_fill(middle, tables, bytes, at, stack, opens),
+        _ => match saturating_of(code) {
+            None => None,
+            Some((takes, gives)) => {
+                change_prefixed(code, middle, takes, gives, tables, bytes, at, stack, opens)
+            }
+        },
+    }
+}
+
+/// Takes all operators.
+#[inline(always)]
+fn run(tables: &Tables, bytes: &[u8], start: usize, stack: &mut Stack, opens: &mut Opens) -> bool
+    requires { start ≤ length bytes.now }
+    ensures { result ≡ true → (ids : List TypeTree) (z : Settings) (g : Context) → Fits ids z bytes.now tables.now g
+        → Goes ids z bytes.now tables.now g start (all opens.old) stack.old }
+{
+    if bytes.len() == 0 {
+        return false;
+    }
+    let last = bytes.len() - 1;
+    let mut at = start;
+    while at < last {
+        let Some(end) = next(tables, bytes, at, stack, opens) else {
+            return false;
+        };
+        at = end;
+    }
+    finish(tables, bytes, at, stack, opens)
+}
+
+// The frame of a body with these results.
+#[inline(always)]
+fn body_frame(results: Sig) -> Open
+    ensures { result ≡ outermost results }
+{
+    Open {
+        kind: FrameKind::Block,
+        base: 0,
+        sig: Sig {
+            params: 0,
+            param_count: 0,
+            results: results.results,
+            result_count: results.result_count,
+        },
+    }
+}
+
+/// What bodies are judged in: operands and frames, in memory that the next body uses again.
+#[derive(Drop)]
+pub struct Room {
+    stack: Stack,
+    opens: Opens,
+    alloc: Global,
+}
+
+impl Room {
+    /// One for no body yet. It takes no memory.
+    pub fn new(alloc: Global) -> Room {
+        Room {
+            stack: Stack::new(alloc),
+            opens: Opens {
+                inner: body_frame(Sig {
+                    params: 0,
+                    param_count: 0,
+                    results: 0,
+                    result_count: 0,
+                }),
+                outer: Pile::new(alloc),
+            },
+            alloc,
+        }
+    }
+
+    /// Whether the bytes from an offset on spell the body of a function, as these tables tell of it. It may say no of one that they do
+    /// spell.
+    pub fn accepts(&mut self, tables: &Tables, bytes: &[u8], start: usize) -> bool
+        requires { start ≤ length bytes.now }
+        ensures { result ≡ true → (ids : List TypeTree) (z : Settings) (g : Context) → Fits ids z bytes.now tables.now g
+            → (params : ℕ) → BeginSet tables.now params
+            → (c : Code) × SpelledExpression z c (drop start bytes.now) × IsBody g params c }
+    {
+        // a body that has more operands at a time is left to the validator of operators
+        let places = (bytes.len() - start + 64).min(8192);
+        let frame = body_frame(tables.results);
+        self.opens.inner = frame;
+        if !self.opens.outer.begin(0, frame) || !self.stack.begin(places) {
+            return false;
+        }
+        // taken out, so that no pointer leads to what the loop counts by, and it can stay in registers
+        let mut stack = mem::replace(&mut self.stack, Stack::new(self.alloc));
+        let valid = run(tables, bytes, start, &mut stack, &mut self.opens);
+        self.stack = stack;
+        valid
+    }
+}

@@ -1,0 +1,30 @@
+-- What a walk up a table of steps tells.
+use Rattle.std.proofs.Common.{◌≡◌, ◌≤◌, ◌-◌, ◌/◌, ◌%◌, ℕ, List, [], ◌∷◌, Some, slice_get, refl, subst, le-ltb}
+use Rattle.std.specs.Prelude.{◌==◌}
+use Rattle.wasm_types.specs.trees.Types.{ref}
+use Rattle.wasm_types.specs.trees.Trees.{TypeTree}
+use Rattle.wasm_types.specs.trees.Below.{HeapBelow}
+use Rattle.wasm_types.specs.trees.laws.Below.{heap_reflexive, heap_transitive}
+use Rattle.wasm_operator_validator_rules.specs.Operands.{AllBelow}
+use Rattle.wasm_operator_validator_state.specs.laws.Operands.{all_below_refl}
+use Rattle.wasm_operator_validator_fast_path.specs.declared.order.Step.{Step}
+use Rattle.wasm_operator_validator_fast_path.specs.Values.{heap_of, type_of, operands, AreSteps, AreBelow}
+
+module _ (ids : List TypeTree) where
+  pub heaps_same : (n m : ℕ) → n ≡ m → HeapBelow (heap_of ids n) (heap_of ids m)
+  heaps_same n m e = subst (λ (k : ℕ). HeapBelow (heap_of ids n) (heap_of ids k)) e (heap_reflexive (heap_of ids n))
+
+  -- a step more
+  pub next_above : (steps : List Step) → AreSteps ids steps → (n at m : ℕ) (s : Step) → HeapBelow (heap_of ids n) (heap_of ids at) → slice_get steps at ≡ Some s → s.above ≡ m
+      → HeapBelow (heap_of ids n) (heap_of ids m)
+  next_above steps all n at m s below there is =
+      subst (λ (k : ℕ). HeapBelow (heap_of ids n) (heap_of ids k)) is (heap_transitive (heap_of ids n) (heap_of ids at) (heap_of ids s.above) below (all at s there).up)
+
+  pub bottom_below : (steps : List Step) → AreSteps ids steps → (n m : ℕ) (s : Step) → slice_get steps m ≡ Some s → s.bottom ≡ n → HeapBelow (heap_of ids n) (heap_of ids m)
+  bottom_below steps all n m s there is = subst (λ (k : ℕ). HeapBelow (heap_of ids k) (heap_of ids m)) is (all m s there).down
+
+  pub is_reference : (n : ℕ) → 8 ≤ n → type_of ids n ≡ ref (n % 2 == 0) (heap_of ids ((n - 8) / 2))
+  is_reference n high = rw (le-ltb n 8 high) refl
+
+pub same_below : (steps : List Step) (n m : ℕ) → n ≡ m → AreBelow steps (n ∷ []) (m ∷ [])
+same_below steps n m e ids are = subst (λ (k : ℕ). AllBelow (operands ids (n ∷ [])) (operands ids (k ∷ []))) e (all_below_refl (operands ids (n ∷ [])))

@@ -1,0 +1,24 @@
+use Rattle.std.proofs.Common.{refl}
+use Rattle.wasm_operator_validator_fast_path.specs.Stacks.{with_all}
+use Rattle.wasm_operator_validator_fast_path.proofs.Lowering.{lower_same}
+use Rattle.wasm_operator_validator_fast_path.proofs.Frames.{left_bare, left_with}
+use Rattle.wasm_operator_validator_fast_path.proofs.blocks.leave.Goals as goal
+
+pub returns-then-frame-eq0 : goal.returns-then-frame-eq0
+returns-then-frame-eq0 c = λ e.
+    let (none, ended) = c.leave.ensures e in (
+      c.args.stack.now,
+      lower_same c.args.tables.now.known.order _ _ refl,
+      left_bare c.args.tables.now.known.flat.items c.args.stack.now c.leave.new.self c.args.frame.now (λ ids. c.if-not-may_close.ensures refl ids c.args.tables.now.known.flat.items)
+          c.if-frame-eq0.true none ended,
+    )
+
+pub returns : goal.returns
+returns c = λ e.
+    let xs = c.in-Some.results.now in
+    let (none, under) = c.if-not-leave.ensures refl in (
+      with_all xs c.take_all.new.self,
+      c.if-not-take_all.ensures refl,
+      left_with c.args.tables.now.known.flat.items xs c.take_all.new.self c.leave-else-not-take_all.new.self c.put_all.new.self c.args.frame.now
+          (λ ids. c.if-not-may_close.ensures refl ids c.args.tables.now.known.flat.items) (rw c.as_slice.ensures.value at c.in-Some.ensures.value) none under (c.put_all.ensures e),
+    )

@@ -1,7 +1,0 @@
-use Rattle.wasm_operator_validator_fast_path.proofs.Frames.{whole_body}
-use Rattle.wasm_operator_validator_fast_path.proofs.judge.Room.accepts.Goals as goal
-
-pub returns : goal.returns
-returns c = λ e z g fits params.
-    whole_body c.args.tables.now c.args.bytes.now c.args.start c.replace-stack.result (rw c.replace-stack.ensures.value (c.begin-else-not-begin.ensures c.if-not-begin-2.false)) z g fits
-    (rw (c.body_frame-frame.ensures, c.begin.ensures c.if-not-begin.false) at (c.run-valid.ensures e z g fits)) params
