@@ -7,9 +7,14 @@
  * and its memory answer; docs/SOUNDNESS.md says which checks a compiler may leave out. durskeyl_is_valid answers 1 only if durskeyl_validate may answer DURSKEYL_VALID by the settings by default,
  * and else 0. durskeyl_imports and durskeyl_exports, of bytes that durskeyl_validate accepted by whatever settings: how
  * many there are, and in each row the names, the kind and the index that the module has, in its order; of any other bytes, that the names of
- * all rows that were written lie in the bytes, unless the answer is DURSKEYL_NO_MODULE. All calls end on all bytes, read only
- * what they are given, and write only the fault or the rows. No call depends on an earlier one, keeps anything, or leaves anything to free.
- * NOT PROVED: which of several faults is told, its kind, offset and text; time, memory and stack; this header; the kit's
+ * all rows that were written lie in the bytes, unless the answer is DURSKEYL_NO_MODULE. Of a module whose pieces are handed over:
+ * durskeyl_take answers DURSKEYL_VALID only if each whole item that came was judged and none is refused; a kind that is a
+ * verdict only if no module that begins with these bytes is valid; and a refusal of bytes stays. durskeyl_end answers of all pieces that were
+ * taken what durskeyl_validate is proved to answer of whole bytes. Between calls no more bytes are held than the cap says. All calls end on all bytes, read only
+ * what they are given, and write only the fault, the rows or the handle. Except for the four calls on a handle no call depends on an
+ * earlier one, keeps anything, or leaves anything to free.
+ * NOT PROVED: which of several faults is told, its kind, offset and text; time, memory and stack; that it is the cap, if the answer is
+ *   DURSKEYL_OUT_OF_MEMORY, and not the system, which refuses; this header; the kit's
  *   functions of memory; the C library. The file PROVED, which is installed beside LICENSE, says whether the archive was built by the
  *   toolchain from what it proved; if it was not, durskeyl_version has the bit DURSKEYL_NOT_PROVED.
  *
@@ -18,9 +23,12 @@
  *     read during the whole call (a length above PTRDIFF_MAX is refused, and nothing is read). Nobody writes them meanwhile: no other thread,
  *     and no process, so no file mapped as shared.
  *   - the fault overlaps neither the bytes nor the settings. rows are so many, apart from the bytes, and aligned; null only with capacity 0.
+ *   - a durskeyl_pieces is all 0 before the first call that takes it, is written by these calls alone, and is not copied: of two copies one
+ *     call leaves the other with memory that is gone. It overlaps nothing that a call takes besides. One thread at a time uses it, and the
+ *     thread that began a module is the one that hands it over, ends it or drops it.
  *   - malloc, realloc and free belong together and align to 16; there are 128 KiB of stack, for the library and what the C library
  *     takes of it in these three; no call comes from a signal handler, nor after fork in the child of a process with threads, before exec.
- * Any number of threads may call at once. */
+ * Any number of threads may call at once, each with handles of its own. */
 #ifndef DURSKEYL_H
 #define DURSKEYL_H
 #include <stddef.h>
@@ -40,11 +48,12 @@ enum durskeyl_kind {
     DURSKEYL_VALID = 0,
     DURSKEYL_END_OF_DATA = 1,     /* invalid: the bytes end too early; detail: at least so many more would be asked for */
     DURSKEYL_MISSING_FEATURE = 2, /* invalid under these features; detail: the bits of a feature that would allow what is there */
-    DURSKEYL_OUT_OF_MEMORY = 3,   /* NO VERDICT: malloc refused. Never take it for invalid */
+    DURSKEYL_OUT_OF_MEMORY = 3,   /* NO VERDICT: malloc refused, or more bytes would have to be held than the cap of durskeyl_begin allows. Never
+                                   * take it for invalid */
     DURSKEYL_FAILED = 4,          /* not answered by durskeyl_validate today */
     DURSKEYL_INVALID = 5,         /* invalid: any other fault */
     DURSKEYL_BAD_SETTINGS = 6     /* NO VERDICT: an unknown bit among the features, a limit above its ceiling, a number other than 0 at a place
-                                   * that is kept for later, or a length above PTRDIFF_MAX */
+                                   * that is kept for later, or a length above PTRDIFF_MAX; or a call on a handle with no module that was begun */
 };
 
 /* The features, as bits of durskeyl_settings.features: the names and bits of wasmparser's WasmFeatures. */
@@ -158,6 +167,15 @@ typedef struct {
                                    * any characters: escape it before it is printed to a terminal or a log */
 } durskeyl_fault;
 
+/* A module whose pieces are handed over: what the library keeps of it, between durskeyl_begin and durskeyl_end or durskeyl_drop. */
+typedef struct {
+    void *inside;                 /* the library's */
+    uint64_t begun;               /* 1 if a module was begun, else 0 */
+} durskeyl_pieces;
+
+/* A handle with no module, as each handle is at first: durskeyl_pieces pieces = DURSKEYL_NO_PIECES; */
+#define DURSKEYL_NO_PIECES {0, 0}
+
 /* What is imported or exported. */
 enum durskeyl_external {
     DURSKEYL_FUNCTION = 0,
@@ -202,6 +220,33 @@ uint32_t durskeyl_validate_part(const durskeyl_settings *settings, const uint8_t
 
 /* 1 if the bytes are a valid module by the settings by default; else 0, also if there was no memory. */
 uint32_t durskeyl_is_valid(const uint8_t *bytes, size_t length);
+
+/* A module piece by piece: begun once, then each piece in its order, of any length, 0 too, and then the end, which gives the verdict on all of
+ * them together. A piece need not stay there after its call. Each section, and each body, is judged as soon as it is whole and is then
+ * forgotten; what is held is a part of one, and what a call finds whole in its piece is not copied.
+ *
+ * most is the cap: of the bytes no more are held between two calls; the list that holds them may take twice the memory while it grows. If
+ * more would have to be held, the answer is DURSKEYL_OUT_OF_MEMORY. A section other than that of the code is one item, and so is each body,
+ * which has at most 7.6 MB by the limits: with 16 MB (16 << 20) a module is judged, however it is cut, whose sections besides its code are
+ * no longer than that, custom ones and the bytes of id and size counted; with UINT64_MAX each is that memory is there for. What the module
+ * declares is kept besides (types, imports, exports, names), as it is by durskeyl_validate.
+ *
+ * A refusal of bytes, and one for memory, stays: each later durskeyl_take, and durskeyl_end, answers the same kind, so it does no harm to hand
+ * over the rest. DURSKEYL_BAD_SETTINGS of durskeyl_take does not stay, and its piece is not the module's: do not go on as if it were. */
+
+/* Answers DURSKEYL_VALID if a module is begun; DURSKEYL_BAD_SETTINGS or DURSKEYL_OUT_OF_MEMORY if none is. A module that was begun in the
+ * handle before is dropped in any case. What is begun belongs to the caller, who gives it back by durskeyl_end or durskeyl_drop. */
+uint32_t durskeyl_begin(const durskeyl_settings *settings, uint64_t most, durskeyl_pieces *pieces, durskeyl_fault *fault);
+
+/* Answers DURSKEYL_VALID while nothing is refused, which says nothing of the bytes to come; DURSKEYL_BAD_SETTINGS if no module was begun, or
+ * the length is above PTRDIFF_MAX, and then nothing was taken; else why the bytes are refused that came by now. */
+uint32_t durskeyl_take(durskeyl_pieces *pieces, const uint8_t *bytes, size_t length, durskeyl_fault *fault);
+
+/* The verdict on all pieces together; DURSKEYL_BAD_SETTINGS if no module was begun. The handle is empty after it, and nothing is left to free. */
+uint32_t durskeyl_end(durskeyl_pieces *pieces, durskeyl_fault *fault);
+
+/* Gives back a module for which no verdict is wanted. Does nothing with a handle that has none. */
+void durskeyl_drop(durskeyl_pieces *pieces);
 
 /* Of bytes that were accepted, all of them: answers how many imports (exports) the module has, and writes the first of them, as many as
  * capacity. With capacity 0 it only counts. Of other bytes the answer and the rows mean nothing. */

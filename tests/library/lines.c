@@ -1,6 +1,7 @@
 // Says of each file whether it is a valid module, by lines as those of wasm-check.
-// usage: lines FILE.. ; lines --calls ; lines --stack FILE.. ; lines --parts N FILE..
-// After --parts each file is judged in N parts, whose verdict has to be that of the whole. After --stack each file is judged, and its entries listed, on a stack of 128 KiB, which a page without access ends.
+// usage: lines FILE.. ; lines --calls ; lines --stack FILE.. ; lines --parts N FILE.. ; lines --pieces N FILE..
+// After --parts each file is judged in N parts, whose verdict has to be that of the whole. After --pieces each file is handed over in
+// pieces of N bytes. After --stack each file is judged, and its entries listed, on a stack of 128 KiB, which a page without access ends.
 #define _GNU_SOURCE
 #include <durskeyl.h>
 #include <pthread.h>
@@ -37,12 +38,32 @@ static void print_text(const char *text, uint32_t length) {
     }
 }
 
-static void say(const durskeyl_settings *settings, const char *name) {
+// The verdict on bytes that are handed over in pieces of so many. Each piece is a copy that goes after its call.
+static uint32_t by_pieces(const durskeyl_settings *settings, const uint8_t *bytes, size_t length, size_t piece, uint64_t most, durskeyl_fault *fault) {
+    durskeyl_pieces pieces = DURSKEYL_NO_PIECES;
+    uint8_t *copy = malloc(piece);
+    uint32_t refused = DURSKEYL_VALID;
+    wrong += durskeyl_begin(settings, most, &pieces, fault) != DURSKEYL_VALID;
+    for (size_t at = 0; at < length; at += piece) {
+        size_t count = length - at < piece ? length - at : piece;
+        memcpy(copy, bytes + at, count);
+        uint32_t kind = durskeyl_take(&pieces, copy, count, fault);
+        wrong += kind != fault->kind || (refused != DURSKEYL_VALID && kind != refused);
+        refused = kind;
+        memset(copy, '#', count);
+    }
+    free(copy);
+    uint32_t kind = durskeyl_end(&pieces, fault);
+    wrong += (refused != DURSKEYL_VALID && kind != refused) || pieces.begun || pieces.inside;
+    return kind;
+}
+
+static void say(const durskeyl_settings *settings, const char *name, size_t piece) {
     size_t length;
     uint8_t *bytes = read_file(name, &length);
     durskeyl_fault fault;
     memset(&fault, '#', sizeof fault);
-    uint32_t kind = durskeyl_validate(settings, bytes, length, &fault);
+    uint32_t kind = piece ? by_pieces(settings, bytes, length, piece, 16 << 20, &fault) : durskeyl_validate(settings, bytes, length, &fault);
     wrong += kind != fault.kind || fault.text[fault.text_length] != 0;
     if (kind == DURSKEYL_VALID) {
         printf("%s: valid\n", name);
@@ -136,6 +157,69 @@ static void features(const durskeyl_settings *settings) {
     want("the last", DURSKEYL_CUSTOM_DESCRIPTORS, 1 << 27);
 }
 
+// Calls on a handle, in an order that none of the files makes.
+static void pieces(const durskeyl_settings *settings) {
+    durskeyl_settings other = *settings;
+    durskeyl_pieces it = DURSKEYL_NO_PIECES;
+    durskeyl_fault fault;
+    want("take of none", durskeyl_take(&it, header, 8, &fault), DURSKEYL_BAD_SETTINGS);
+    want("take of none", fault.kind, DURSKEYL_BAD_SETTINGS);
+    want("end of none", durskeyl_end(&it, &fault), DURSKEYL_BAD_SETTINGS);
+    durskeyl_drop(&it);
+    want("begin", durskeyl_begin(settings, 16, &it, &fault), DURSKEYL_VALID);
+    want("begun", it.begun, 1);
+    want("a piece", durskeyl_take(&it, header, 3, &fault), DURSKEYL_VALID);
+    want("an empty piece", durskeyl_take(&it, NULL, 0, &fault), DURSKEYL_VALID);
+    want("the rest", durskeyl_take(&it, header + 3, 5, &fault), DURSKEYL_VALID);
+    want("end", durskeyl_end(&it, &fault), DURSKEYL_VALID);
+    want("end again", durskeyl_end(&it, &fault), DURSKEYL_BAD_SETTINGS);
+    want("take after the end", durskeyl_take(&it, header, 8, &fault), DURSKEYL_BAD_SETTINGS);
+    // no bytes are no module; a header that is cut off is none either
+    want("begin", durskeyl_begin(settings, 16, &it, &fault), DURSKEYL_VALID);
+    want("end of no bytes", durskeyl_end(&it, &fault), DURSKEYL_END_OF_DATA);
+    durskeyl_begin(settings, 16, &it, &fault);
+    durskeyl_take(&it, header, 7, &fault);
+    want("end of a part", durskeyl_end(&it, &fault), DURSKEYL_END_OF_DATA);
+    // a refusal stays
+    const uint8_t other_magic[] = {0, 'a', 's', 'n', 1, 0, 0, 0};
+    durskeyl_begin(settings, 16, &it, &fault);
+    want("a wrong header", durskeyl_take(&it, other_magic, 8, &fault), DURSKEYL_INVALID);
+    want("again", durskeyl_take(&it, header, 8, &fault), DURSKEYL_INVALID);
+    want("again", fault.kind, DURSKEYL_INVALID);
+    want("at the end", durskeyl_end(&it, &fault), DURSKEYL_INVALID);
+    // a custom section of 40 bytes: it is held if it is cut, and is not if it comes whole
+    uint8_t custom[50] = {0, 'a', 's', 'm', 1, 0, 0, 0, 0, 40, 1, 'n'};
+    durskeyl_begin(settings, 41, &it, &fault);
+    want("below the cap", durskeyl_take(&it, custom, 49, &fault), DURSKEYL_VALID);
+    want("at the cap", durskeyl_take(&it, custom + 49, 1, &fault), DURSKEYL_OUT_OF_MEMORY);
+    want("the cap, again", durskeyl_take(&it, custom, 0, &fault), DURSKEYL_OUT_OF_MEMORY);
+    want("the cap, at the end", durskeyl_end(&it, &fault), DURSKEYL_OUT_OF_MEMORY);
+    durskeyl_begin(settings, 42, &it, &fault);
+    durskeyl_take(&it, custom, 49, &fault);
+    want("within the cap", durskeyl_take(&it, custom + 49, 1, &fault), DURSKEYL_VALID);
+    want("within the cap", durskeyl_end(&it, &fault), DURSKEYL_VALID);
+    durskeyl_begin(settings, 0, &it, &fault);
+    want("whole, with a cap of 0", durskeyl_take(&it, custom, 50, &fault), DURSKEYL_VALID);
+    want("whole, with a cap of 0", durskeyl_end(&it, &fault), DURSKEYL_VALID);
+    // what is begun goes if another one is, if none can be, and if it is dropped
+    durskeyl_begin(settings, 16, &it, &fault);
+    durskeyl_take(&it, other_magic, 8, &fault);
+    want("begin anew", durskeyl_begin(settings, 16, &it, &fault), DURSKEYL_VALID);
+    want("begun anew", durskeyl_take(&it, header, 8, &fault), DURSKEYL_VALID);
+    other.limits[DURSKEYL_LOCALS] = 1000001;
+    want("begin by none", durskeyl_begin(&other, 16, &it, &fault), DURSKEYL_BAD_SETTINGS);
+    want("take of none", durskeyl_take(&it, header, 8, &fault), DURSKEYL_BAD_SETTINGS);
+    durskeyl_begin(settings, 16, &it, &fault);
+    durskeyl_drop(&it);
+    want("end of what was dropped", durskeyl_end(&it, &fault), DURSKEYL_BAD_SETTINGS);
+    // lengths that no object has
+    durskeyl_begin(settings, UINT64_MAX, &it, &fault);
+    durskeyl_take(&it, header, 4, &fault);
+    want("too long", durskeyl_take(&it, header, (size_t)PTRDIFF_MAX + 1, &fault), DURSKEYL_BAD_SETTINGS);
+    want("not taken", durskeyl_take(&it, header + 4, 4, &fault), DURSKEYL_VALID);
+    want("not taken", durskeyl_end(&it, &fault), DURSKEYL_VALID);
+}
+
 static void calls(void) {
     durskeyl_settings settings, other;
     durskeyl_fault fault;
@@ -195,6 +279,7 @@ static void calls(void) {
     }
     limits(&settings);
     features(&settings);
+    pieces(&settings);
     want("header is valid", durskeyl_is_valid(header, 8), 1);
     want("cut off is valid", durskeyl_is_valid(header, 7), 0);
     want("nothing is valid", durskeyl_is_valid(NULL, 0), 0);
@@ -231,6 +316,7 @@ static void *judge(void *held) {
     durskeyl_fault fault;
     durskeyl_import in;
     durskeyl_export out;
+    work->kind = by_pieces(&work->settings, work->bytes, work->length, 1000, 16 << 20, &fault);
     work->kind = durskeyl_validate(&work->settings, work->bytes, work->length, &fault);
     durskeyl_imports(work->bytes, work->length, &in, 1);
     durskeyl_exports(work->bytes, work->length, &out, 1);
@@ -285,8 +371,9 @@ int main(int count, char **words) {
     } else {
         durskeyl_settings settings;
         durskeyl_settings_default(&settings);
-        for (int i = 1; i < count; i++)
-            say(&settings, words[i]);
+        int by = count > 3 && !strcmp(words[1], "--pieces");
+        for (int i = by ? 3 : 1; i < count; i++)
+            say(&settings, words[i], by ? strtoul(words[2], NULL, 10) : 0);
     }
     return wrong != 0;
 }

@@ -1,5 +1,6 @@
-// Refuses each allocation of a validation in turn, and all that come after it, until one meets no refusal. The answer is "out of memory",
-// or that of a validation with ample memory, since a type's ancestors are looked for one by one if there is no memory to keep them.
+// Refuses each allocation of a validation in turn, of whole bytes and in pieces, and all that come after it, until one meets no refusal. The
+// answer is "out of memory", or that of a validation with ample memory, since a type's ancestors are looked for one by one if there is no
+// memory to keep them.
 // It is linked with the archive of proved code alone, whose three functions of memory are defined here. usage: memory FILE..
 #include <durskeyl.h>
 #include <stdbool.h>
@@ -34,11 +35,54 @@ void rattle_dealloc(void *old) {
     free(old);
 }
 
+// The verdict on bytes that are handed over in pieces of 100 bytes, or the first refusal.
+static uint32_t by_pieces(const durskeyl_settings *settings, const uint8_t *bytes, size_t length, durskeyl_fault *fault) {
+    durskeyl_pieces pieces = DURSKEYL_NO_PIECES;
+    uint32_t kind = durskeyl_begin(settings, UINT64_MAX, &pieces, fault);
+    for (size_t at = 0; kind == DURSKEYL_VALID && at < length; at += 100)
+        kind = durskeyl_take(&pieces, bytes + at, length - at < 100 ? length - at : 100, fault);
+    if (kind == DURSKEYL_VALID)
+        return durskeyl_end(&pieces, fault);
+    // what is refused is given back by either call
+    if (length & 1)
+        durskeyl_drop(&pieces);
+    else
+        durskeyl_end(&pieces, fault);
+    return kind;
+}
+
+typedef uint32_t judge(const durskeyl_settings *settings, const uint8_t *bytes, size_t length, durskeyl_fault *fault);
+
+static long tried, without;
+
+// Refuses each allocation of these calls in turn: whether that is told, and nothing is left.
+static bool refused_in_turn(const char *name, judge *judge, const durskeyl_settings *settings, const uint8_t *bytes, size_t length, uint32_t wanted) {
+    durskeyl_fault fault;
+    for (long n = 0;; n++) {
+        left = n;
+        uint32_t kind = judge(settings, bytes, length, &fault);
+        if (held) {
+            printf("%s: %ld allocations are not given back where number %ld is refused\n", name, held, n);
+            return false;
+        }
+        if (left >= 0) {
+            if (kind != wanted)
+                printf("%s: kind %u in the place of %u\n", name, kind, wanted);
+            return kind == wanted;
+        }
+        if (kind != DURSKEYL_OUT_OF_MEMORY && kind != wanted) {
+            printf("%s: kind %u in the place of %u where allocation %ld is refused\n", name, kind, wanted, n);
+            return false;
+        }
+        without += kind == wanted;
+        tried++;
+    }
+}
+
 int main(int count, char **words) {
     durskeyl_settings settings;
     durskeyl_fault fault;
     static uint8_t bytes[1 << 20];
-    long tried = 0, without = 0;
     durskeyl_settings_default(&settings);
     for (int i = 1; i < count; i++) {
         FILE *file = fopen(words[i], "rb");
@@ -48,27 +92,16 @@ int main(int count, char **words) {
         fclose(file);
         left = 1 << 30;
         uint32_t wanted = durskeyl_validate(&settings, bytes, length, &fault);
-        for (long n = 0;; n++) {
-            left = n;
-            uint32_t kind = durskeyl_validate(&settings, bytes, length, &fault);
-            if (held) {
-                printf("%s: %ld allocations are not given back where number %ld is refused\n", words[i], held, n);
-                return 1;
-            }
-            if (left >= 0) {
-                if (kind != wanted) {
-                    printf("%s: kind %u in the place of %u\n", words[i], kind, wanted);
-                    return 1;
-                }
-                break;
-            }
-            if (kind != DURSKEYL_OUT_OF_MEMORY && kind != wanted) {
-                printf("%s: kind %u in the place of %u where allocation %ld is refused\n", words[i], kind, wanted, n);
-                return 1;
-            }
-            without += kind == wanted;
-            tried++;
+        left = 1 << 30;
+        // in pieces another fault may be the first
+        uint32_t in_pieces = by_pieces(&settings, bytes, length, &fault);
+        if ((wanted == DURSKEYL_VALID) != (in_pieces == DURSKEYL_VALID)) {
+            printf("%s: kind %u in pieces in the place of %u\n", words[i], in_pieces, wanted);
+            return 1;
         }
+        if (!refused_in_turn(words[i], durskeyl_validate, &settings, bytes, length, wanted)
+            || !refused_in_turn(words[i], by_pieces, &settings, bytes, length, in_pieces))
+            return 1;
     }
     printf("%ld allocations refused in turn; %ld validations did without\n", tried, without);
     // few can do so: were it most, a refusal would not be told

@@ -2,3 +2,5 @@
 pub mod Settings
 pub mod Told
 pub mod Listed
+pub mod Handles
+pub mod Pieces

@@ -8,3 +8,7 @@ pub mod OneItem
 pub mod KeptJudge
 -- Bytes that hold no whole item.
 pub mod Waiting
+-- Bytes that are handed over.
+pub mod Handed
+-- A module whose pieces are handed over.
+pub mod HandedModule

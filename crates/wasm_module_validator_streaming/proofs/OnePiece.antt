@@ -9,10 +9,7 @@ use Rattle.wasm_module_validator_streaming.specs.declared.reading.ReadError.TheV
 use Rattle.wasm_module_validator_streaming.specs.Pieces.{Answers, Concludes, HasCome, RefusesAll, ReadsSome, StopsWithin, takes_most}
 use Rattle.wasm_module_validator_streaming.specs.Reads.{Gives}
 use Rattle.wasm_module_validator_streaming.specs.Taking.{IsMidst, IsPassed, Carries, DeniesFrom}
-
--- a law of what takes bytes: more may come
-abbrev pub MayGrow : {S : Type 0} → (S → List ℕ → Bool → List ℕ → S → Type 0) → Type 0
-MayGrow {S = S} stands = (first : S) (got : List ℕ) (rest : List ℕ) (now : S) (bytes : List ℕ) → stands first got false rest now → stands first (got ++ bytes) false (rest ++ bytes) now
+use Rattle.wasm_module_validator_streaming.proofs.Handed.{MayGrow}
 
 -- ---- how far was read
 

@@ -179,7 +179,7 @@ not_refused_here z id text q rest v g w = record {
     go (inl (st, empty, types)) = subst (λ (m : SoFar). AreFirst z m.tree m.bodies) (none empty) tt
     go (inr (st, some, fits, grown)) = (fits g.some.0 g.some.1).bodies
 
-passed_here : (j : Judging) (text : List ℕ) → IsPassed StandsAt WaitsAt j text → IsNotRefused j.validator.settings text
+pub passed_here : (j : Judging) (text : List ℕ) → IsPassed StandsAt WaitsAt j text → IsNotRefused j.validator.settings text
 passed_here j text (rest, now, s, w) = not_refused_here j.validator.settings j.validator.id text now.parser.frames rest now.validator s.goes w
 
 -- how far it was read, by these settings

@@ -14,5 +14,9 @@ pub mod Judges
 pub mod Awaiting
 -- What is said of the bytes of a module.
 pub mod Verdicts
+-- Bytes that are handed over.
+pub mod Handing
+-- A module whose pieces are handed over.
+pub mod HandedOver
 -- Laws, with the proofs.
 pub mod laws

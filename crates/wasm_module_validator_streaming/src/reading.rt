@@ -25,10 +25,23 @@ pub enum ReadError {
 /// Bytes that came and were not taken yet: fewer than can bring an item or a refusal (`IsPending`).
 #[derive(Drop)]
 pub(crate) struct Pending {
-    bytes: Vec<u8>,
+    pub(crate) bytes: Vec<u8>,
     /// With fewer bytes nothing more can be taken.
-    needed: usize,
+    pub(crate) needed: usize,
     ghost few: { vec_len bytes < needed },
+}
+
+impl Pending {
+    /// None yet.
+    pub(crate) fn none(alloc: Global) -> Pending
+        ensures bytes { result.bytes.items ≡ [] }
+        ensures needed { result.needed ≡ 1 }
+    {
+        Pending {
+            bytes: Vec::new(alloc),
+            needed: 1,
+        }
+    }
 }
 
 /// Drops so many bytes at the front.
@@ -42,7 +55,7 @@ fn drop_front(bytes: &mut Vec<u8>, count: usize)
 }
 
 /// Puts a piece behind the bytes.
-fn append(bytes: &mut Vec<u8>, piece: &[u8]) -> Result<(), Error>
+pub(crate) fn append(bytes: &mut Vec<u8>, piece: &[u8]) -> Result<(), Error>
     ensures ok { OnOk result (bytes.new.items ≡ bytes.old.items ++ piece.now) }
     ensures err { IfErr result (λ e. e.kind ≡ OutOfMemory) }
 {
@@ -57,6 +70,7 @@ fn take_pending<T: TakesBytes>(taker: &mut T, bytes: Vec<u8>) -> Result<Pending,
     requires { IsMidst T.stands false bytes.items taker.old }
     ensures ok { IfOk result (λ p. Carries T.stands false bytes.items taker.old p.bytes.items taker.new) }
     ensures pending { IfOk result (λ p. IsPending T.waits p.needed p.bytes.items taker.new) }
+    ensures held { IfOk result (λ p. vec_len p.bytes ≤ vec_len bytes) }
     ensures err { IfErr result (DeniesFrom T.stands T.denied false bytes.items taker.old) }
 {
     match take_items(taker, bytes.as_slice(), false) {
@@ -83,7 +97,7 @@ fn left_behind(bytes: Vec<u8>, passed: usize, more: usize) -> Pending
 }
 
 /// Puts a piece behind the bytes that came, and takes all items that are whole then.
-fn take_piece<T: TakesBytes>(
+pub(crate) fn take_piece<T: TakesBytes>(
     alloc: Global,
     taker: &mut T,
     pending: &mut Pending,
@@ -94,6 +108,7 @@ fn take_piece<T: TakesBytes>(
     ensures ok { OnOk result (Carries T.stands false (pending.old.bytes.items ++ piece.now) taker.old
         pending.new.bytes.items taker.new) }
     ensures pending { OnOk result (IsPending T.waits pending.new.needed pending.new.bytes.items taker.new) }
+    ensures held { vec_len pending.new.bytes ≤ vec_len pending.old.bytes + length piece.now }
     ensures err { IfErr result (DeniesFrom T.stands T.denied false (pending.old.bytes.items ++ piece.now) taker.old) }
 {
     let mut bytes = std::mem::replace(&mut pending.bytes, Vec::new(alloc));
@@ -151,10 +166,7 @@ fn take_chunks<T: TakesBytes, R: Read>(
     ensures count { reader.new.reads ≤ reader.old.reads + (max_bytes + 1) }
     ensures counted { reader.old.reads ≤ reader.new.reads }
 {
-    let mut pending = Pending {
-        bytes: Vec::new(alloc),
-        needed: 1,
-    };
+    let mut pending = Pending::none(alloc);
     let mut room = max_bytes;
     for _turn in 0..=max_bytes {
         let Some(count) = reader.read_once(chunk) else {

@@ -1,0 +1,6 @@
+-- A box, taken apart.
+pub mod LooseValues
+-- The place of a module.
+pub mod PlaceValues
+-- What the answer of a module in pieces tells.
+pub mod HandedPieces

@@ -1,0 +1,164 @@
+//! A module whose pieces are handed over, one after the other.
+
+ghost use Rattle.std.specs.Prelude.{◌≡◌, ◌≤◌, ◌<◌, ◌^◌, ◌++◌, [], List, ℕ, length, vec_len, IfErr, IfSome, OnOk};
+ghost use Rattle.wasm_types.specs.settings.Limits.{IsWithinCeilings};
+ghost use Rattle.wasm_types.specs.settings.Settings.{Settings};
+ghost use Rattle.wasm_module_validator_index_spaces.specs.declared.view.validator_id.ValidatorId.{ValidatorId};
+ghost use Rattle.wasm_module_validator_streaming.specs.Awaiting.{IsNotRefused};
+ghost use Rattle.wasm_module_validator_streaming.specs.HandedOver.{Came, IsUnderWay, RefusesFrom, TellsModule, Remembers};
+
+use crate::handing::{conclude, take_handed};
+use crate::judging::Judging;
+use crate::reading::Pending;
+use std::alloc::Global;
+use wasm_module_validator::Types;
+use wasm_module_validator_index_spaces::view::ValidatorId;
+use wasm_types::{Error, ErrorKind, Limits, Result, WasmFeatures};
+
+/// A module as far as its bytes were handed over. Each section, and each body, is judged as soon as it is whole, and is not kept; so what is
+/// held of the bytes is a part of one item.
+///
+/// [`Came`] tells which bytes came: none at first, and with each piece that is taken those of the piece too.
+#[derive(Drop)]
+pub struct ModuleInPieces {
+    judging: Judging,
+    /// The bytes that are in no whole item yet.
+    pending: Pending,
+    /// How many bytes may be held.
+    most: usize,
+    /// How many bytes came, until they were refused.
+    came: u64,
+    /// Why they are refused.
+    refused: Option<Error>,
+    alloc: Global,
+}
+
+impl ModuleInPieces {
+    /// A module of which no bytes came yet. It is judged by these features and limits, and of its bytes at most `most` are held.
+    pub fn new(
+        alloc: Global,
+        id: ValidatorId,
+        features: WasmFeatures,
+        limits: Limits,
+        most: usize,
+    ) -> ModuleInPieces
+        requires within { IsWithinCeilings limits }
+        ensures came { Came (record { features = features.0; limits = limits }) id [] result }
+        ensures most { result.most ≡ most }
+        ensures refused { result.refused ≡ None }
+    {
+        ModuleInPieces {
+            judging: Judging::new(alloc, id, features, limits),
+            pending: Pending::none(alloc),
+            most,
+            came: 0,
+            refused: None,
+            alloc,
+        }
+    }
+
+    /// Takes the next bytes of the module: of those that came now each whole item is judged, and none is refused.
+    ///
+    /// The work is linear in the bytes, however they are cut: an item that is not whole is looked at again only if as many bytes came as it
+    /// asked for. What lies whole in one piece is judged in its place, and is not copied.
+    ///
+    /// # Errors
+    ///
+    /// The bytes that came refuse each module that begins with them; or, of kind `OutOfMemory`, which is no verdict, there is no memory, or
+    /// more than `most` bytes would have to be held, or the module has 2^64 bytes. A refusal stays: each later call has an error of the
+    /// same kind, at the same offset.
+    pub fn take(&mut self, bytes: &[u8]) -> Result<()>
+        requires { IsUnderWay self.old }
+        ensures came { (z : Settings) (id : ValidatorId) (got : List ℕ) → Came z id got self.old
+            → Came z id (got ++ bytes.now) self.new }
+        ensures ok { OnOk result ((z : Settings) (id : ValidatorId) (got : List ℕ) → Came z id got self.old
+            → IsNotRefused z (got ++ bytes.now)) }
+        ensures err { IfErr result (λ e. (z : Settings) (id : ValidatorId) (got : List ℕ) → Came z id got self.old
+            → RefusesFrom z (got ++ bytes.now) e) }
+        ensures refused { Remembers result self.new.refused }
+        ensures stays { IfSome self.old.refused (λ _. self.new.refused ≡ self.old.refused) }
+        ensures held { vec_len self.new.pending.bytes ≤ self.new.most }
+        ensures most { self.new.most ≡ self.old.most }
+    {
+        if let Some(error) = &self.refused {
+            return Err(again(error));
+        }
+        match self.advance(bytes) {
+            Ok(()) => Ok(()),
+            Err(error) => {
+                self.refused = Some(again(&error));
+                Err(error)
+            }
+        }
+    }
+
+    /// Takes the next bytes, if none are refused so far.
+    fn advance(&mut self, bytes: &[u8]) -> Result<()>
+        requires way { IsUnderWay self.old }
+        requires going { self.old.refused ≡ None }
+        ensures came { OnOk result ((z : Settings) (id : ValidatorId) (got : List ℕ) → Came z id got self.old
+            → Came z id (got ++ bytes.now) self.new) }
+        ensures err { IfErr result (λ e. (z : Settings) (id : ValidatorId) (got : List ℕ) → Came z id got self.old
+            → RefusesFrom z (got ++ bytes.now) e) }
+        ensures refused { self.new.refused ≡ None }
+        ensures held { vec_len self.new.pending.bytes ≤ self.new.most }
+        ensures most { self.new.most ≡ self.old.most }
+    {
+        let Some(came) = self.came.checked_add(bytes.len() as u64) else {
+            return Err(Error::out_of_memory(0));
+        };
+        self.came = came;
+        match take_handed(
+            self.alloc,
+            &mut self.judging,
+            &mut self.pending,
+            bytes,
+            self.most,
+        ) {
+            Ok(()) => Ok(()),
+            Err(error) => Err(error),
+        }
+    }
+
+    /// The verdict on the module whose bytes are all that came. An accepted module runs soundly, and what was learned of it is shown.
+    ///
+    /// # Errors
+    ///
+    /// The bytes are no valid module, or were refused before; or there is no memory, which is no verdict.
+    pub fn end(self) -> Result<Types>
+        requires { IsUnderWay self }
+        ensures told { (z : Settings) (id : ValidatorId) (got : List ℕ) → Came z id got self → length got < 2 ^ 64
+            → TellsModule z id got result }
+        ensures stays { IfSome self.refused (λ e. result ≡ Err e) }
+    {
+        let ModuleInPieces {
+            mut judging,
+            pending,
+            most: _,
+            came: _,
+            refused,
+            alloc: _,
+        } = self;
+        match refused {
+            Some(error) => Err(error),
+            None => conclude(&mut judging, pending.bytes.as_slice()),
+        }
+    }
+}
+
+/// An error of the same kind, at the same offset.
+fn again(error: &Error) -> Error
+    ensures kind { result.kind ≡ error.now.kind }
+    ensures offset { result.offset ≡ error.now.offset }
+{
+    let offset = error.offset();
+    match error.kind() {
+        ErrorKind::EndOfData { needed_hint } => Error::eof(offset, needed_hint),
+        ErrorKind::MissingFeature(feature) => {
+            Error::missing_feature(feature, error.message(), offset)
+        }
+        ErrorKind::OutOfMemory => Error::out_of_memory(offset),
+        ErrorKind::Failed => Error::failed(error.message(), offset),
+        ErrorKind::Other => Error::new(error.message(), offset),
+    }
+}
