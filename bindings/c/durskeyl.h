@@ -9,13 +9,13 @@
  * many there are, and in each row the names, the kind and the index that the module has, in its order; of any other bytes, that the names of
  * all rows that were written lie in the bytes, unless the answer is DURSKEYL_NO_MODULE. Of a module whose pieces are handed over:
  * durskeyl_take answers DURSKEYL_VALID only if each whole item that came was judged and none is refused; a kind that is a
- * verdict only if no module that begins with these bytes is valid; and a refusal of bytes stays. durskeyl_end answers of all pieces that were
- * taken what durskeyl_validate is proved to answer of whole bytes. Between calls no more bytes are held than the cap says. All calls end on all bytes, read only
- * what they are given, and write only the fault, the rows or the handle. Except for the four calls on a handle no call depends on an
- * earlier one, keeps anything, or leaves anything to free.
- * NOT PROVED: which of several faults is told, its kind, offset and text; time, memory and stack; that it is the cap, if the answer is
- *   DURSKEYL_OUT_OF_MEMORY, and not the system, which refuses; this header; the kit's
- *   functions of memory; the C library. The file PROVED, which is installed beside LICENSE, says whether the archive was built by the
+ * verdict only if no module that begins with these bytes is valid; DURSKEYL_TOO_LONG only if a section or body of them has more bytes than
+ * the cap, or there are 2^64 of them; and a refusal of bytes stays. durskeyl_end answers of all pieces that were taken what durskeyl_validate
+ * is proved to answer of whole bytes, or DURSKEYL_TOO_LONG, as durskeyl_take does. Between calls no more bytes are held than the cap says. All
+ * calls end on all bytes, read only what they are given, and write only the fault, the rows or the handle. Except for the four calls on a handle
+ * no call depends on an earlier one, keeps anything, or leaves anything to free.
+ * NOT PROVED: which of several faults is told, its kind, offset and text; time, memory and stack; that the system refused, if the answer is
+ *   DURSKEYL_OUT_OF_MEMORY; this header; the kit's functions of memory; the C library. The file PROVED, which is installed beside LICENSE, says whether the archive was built by the
  *   toolchain from what it proved; if it was not, durskeyl_version has the bit DURSKEYL_NOT_PROVED.
  *
  * THE CALLER PROMISES, and nothing checks it:
@@ -48,15 +48,16 @@ enum durskeyl_kind {
     DURSKEYL_VALID = 0,
     DURSKEYL_END_OF_DATA = 1,     /* invalid: the bytes end too early; detail: at least so many more would be asked for */
     DURSKEYL_MISSING_FEATURE = 2, /* invalid under these features; detail: the bits of a feature that would allow what is there */
-    DURSKEYL_OUT_OF_MEMORY = 3,   /* NO VERDICT: malloc refused, or more bytes would have to be held than the cap of durskeyl_begin allows. Never
-                                   * take it for invalid */
+    DURSKEYL_OUT_OF_MEMORY = 3,   /* NO VERDICT: malloc refused. Never take it for invalid */
     DURSKEYL_FAILED = 4,          /* not answered by durskeyl_validate today */
     DURSKEYL_INVALID = 5,         /* invalid: any other fault */
-    DURSKEYL_BAD_SETTINGS = 6     /* NO VERDICT: an unknown bit among the features, a limit above its ceiling, a number other than 0 at a place
+    DURSKEYL_BAD_SETTINGS = 6,    /* NO VERDICT: an unknown bit among the features, a limit above its ceiling, a number other than 0 at a place
                                    * that is kept for later, or a length above PTRDIFF_MAX; or a call on a handle with no module that was begun */
+    DURSKEYL_TOO_LONG = 7         /* NO VERDICT, and the same pieces get none again: more bytes would have to be held than the cap of
+                                   * durskeyl_begin allows. Only durskeyl_take and durskeyl_end answer it */
 };
 
-/* The features, as bits of durskeyl_settings.features: the names and bits of wasmparser's WasmFeatures. */
+/* The features, as bits of durskeyl_settings.features: the names are those of wasmparser's WasmFeatures, the order of the bits is ours. */
 enum durskeyl_feature {
     DURSKEYL_MUTABLE_GLOBAL = 1 << 0,
     DURSKEYL_SATURATING_FLOAT_TO_INT = 1 << 1,
@@ -226,13 +227,14 @@ uint32_t durskeyl_is_valid(const uint8_t *bytes, size_t length);
  * forgotten; what is held is a part of one, and what a call finds whole in its piece is not copied.
  *
  * most is the cap: of the bytes no more are held between two calls; the list that holds them may take twice the memory while it grows. If
- * more would have to be held, the answer is DURSKEYL_OUT_OF_MEMORY. A section other than that of the code is one item, and so is each body,
+ * more would have to be held, the answer is DURSKEYL_TOO_LONG. A section other than that of the code is one item, and so is each body,
  * which has at most 7.6 MB by the limits: with 16 MB (16 << 20) a module is judged, however it is cut, whose sections besides its code are
  * no longer than that, custom ones and the bytes of id and size counted; with UINT64_MAX each is that memory is there for. What the module
  * declares is kept besides (types, imports, exports, names), as it is by durskeyl_validate.
  *
- * A refusal of bytes, and one for memory, stays: each later durskeyl_take, and durskeyl_end, answers the same kind, so it does no harm to hand
- * over the rest. DURSKEYL_BAD_SETTINGS of durskeyl_take does not stay, and its piece is not the module's: do not go on as if it were. */
+ * A refusal of bytes, one for memory, and DURSKEYL_TOO_LONG stay: each later durskeyl_take, and durskeyl_end, answers the same kind, so it
+ * does no harm to hand over the rest. DURSKEYL_BAD_SETTINGS of durskeyl_take does not stay, and its piece is not the module's: do not go on as
+ * if it were. */
 
 /* Answers DURSKEYL_VALID if a module is begun; DURSKEYL_BAD_SETTINGS or DURSKEYL_OUT_OF_MEMORY if none is. A module that was begun in the
  * handle before is dropped in any case. What is begun belongs to the caller, who gives it back by durskeyl_end or durskeyl_drop. */

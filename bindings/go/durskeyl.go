@@ -7,13 +7,19 @@
 //		}
 //	}
 //
+// A module that comes in pieces is written into a Validator, which is an io.Writer.
+//
 // It calls the library that ./install-library of the repository installs, which pkg-config finds (PKG_CONFIG_PATH). What is proved is that
-// library, and only if IsProved. Calls keep nothing, and may come from any number of goroutines; nobody may write the bytes meanwhile.
+// library, and only if IsProved. Calls may come from any number of goroutines; nobody may write the bytes meanwhile. A program that is started
+// with a library of another version than that of this package panics at its start: structures may have another size there.
 package durskeyl
 
 /*
 #cgo pkg-config: durskeyl
 #include <durskeyl.h>
+#if DURSKEYL_VERSION >> 8 != 2
+#error "the package durskeyl needs durskeyl.h of its own version, 0.2"
+#endif
 */
 import "C"
 
@@ -26,6 +32,12 @@ import (
 // Version is that of this package.
 const Version = "0.2.0"
 
+func init() {
+	if major, minor, patch := LibraryVersion(); uint32(major)<<8|uint32(minor) != C.DURSKEYL_VERSION>>8 {
+		panic(fmt.Sprintf("the package durskeyl %s needs a library of its own version, and %d.%d.%d is loaded", Version, major, minor, patch))
+	}
+}
+
 // Kind is what kind of fault was found.
 type Kind uint32
 
@@ -36,6 +48,7 @@ const (
 	OutOfMemory    Kind = 3 // no verdict: memory was refused
 	Invalid        Kind = 5 // any other fault of the bytes
 	BadSettings    Kind = 6 // no verdict: a feature or a limit that the library does not know, or a limit above its ceiling
+	TooLong        Kind = 7 // no verdict: more bytes would have to be held than a module in pieces may hold
 )
 
 // Error is why there is no valid module.
@@ -61,6 +74,8 @@ func (err *Error) Error() string {
 		return "out of memory"
 	case err.Kind == BadSettings:
 		return "bad settings"
+	case err.Kind == TooLong:
+		return "an item is longer than may be held"
 	}
 	return fmt.Sprintf("no verdict: unknown kind %d", err.Kind)
 }
@@ -71,7 +86,8 @@ func LibraryVersion() (first, second, third uint8) {
 	return uint8(version >> 16), uint8(version >> 8), uint8(version)
 }
 
-// IsProved says whether the library was built by the toolchain from what it proved.
+// IsProved says whether the library says of itself that it was built by the toolchain from what it proved. The file PROVED, installed beside
+// it, says from which commit, or why not.
 func IsProved() bool {
 	return C.durskeyl_version()&C.DURSKEYL_NOT_PROVED == 0
 }

@@ -1,8 +1,11 @@
 package durskeyl
 
 import (
+	"bytes"
 	"errors"
 	"fmt"
+	"io"
+	"runtime"
 	"strings"
 	"sync"
 	"testing"
@@ -106,9 +109,111 @@ func TestValidateOn(t *testing.T) {
 	for _, workers := range []int{1, 2, 5} {
 		want(t, "valid by parts", settings.ValidateOn(workers, module) == nil, true)
 		err := settings.ValidateOn(workers, module[:len(module)-1])
-		want(t, "the same refusal by parts", *err.(*Error), *settings.Validate(module[: len(module)-1]).(*Error))
+		want(t, "the same refusal by parts", *err.(*Error), *settings.Validate(module[:len(module)-1]).(*Error))
 		want(t, "bad settings by parts", kind(bad.ValidateOn(workers, header)), BadSettings)
 	}
+}
+
+func inPieces(validator *Validator, module []byte, piece int) error {
+	for len(module) > piece {
+		if _, err := validator.Write(module[:piece]); err != nil {
+			return err
+		}
+		module = module[piece:]
+	}
+	if _, err := validator.Write(module); err != nil {
+		return err
+	}
+	return validator.Finish()
+}
+
+func begin(t *testing.T, settings *Settings, most uint64) *Validator {
+	t.Helper()
+	validator, err := NewValidator(settings, most)
+	if err != nil {
+		t.Fatal(err)
+	}
+	return validator
+}
+
+func TestPieces(t *testing.T) {
+	for _, piece := range []int{1, 3, 1000} {
+		for end := 0; end <= len(module); end++ {
+			err := inPieces(begin(t, DefaultSettings(), MostHeld), module[:end], piece)
+			if (err == nil) != IsValid(module[:end]) || err != nil && !err.(*Error).IsVerdict() {
+				t.Errorf("the first %d bytes in pieces of %d: %v", end, piece, err)
+			}
+		}
+	}
+	settings := DefaultSettings()
+	settings.Limits[LimitLocals] = 10
+	want(t, "ten locals", inPieces(begin(t, settings, MostHeld), withLocals(10), 5), nil)
+	want(t, "eleven locals", kind(inPieces(begin(t, settings, MostHeld), withLocals(11), 5)), Invalid)
+	settings.Limits[LimitLocals] = 1000001
+	_, err := NewValidator(settings, MostHeld)
+	want(t, "bad settings", kind(err), BadSettings)
+}
+
+func TestWriter(t *testing.T) {
+	validator := begin(t, DefaultSettings(), MostHeld)
+	count, err := io.Copy(validator, bytes.NewReader(module))
+	want(t, "copied", count, int64(len(module)))
+	want(t, "copied", err, nil)
+	want(t, "finished", validator.Finish(), nil)
+	want(t, "finished again", validator.Finish(), ErrClosed)
+	_, err = validator.Write(header)
+	want(t, "written after the end", err, ErrClosed)
+	want(t, "closed", validator.Close(), nil)
+	validator = begin(t, DefaultSettings(), MostHeld)
+	want(t, "closed", validator.Close(), nil)
+	want(t, "closed again", validator.Close(), nil)
+	want(t, "finished after it", validator.Finish(), ErrClosed)
+	// a refusal stays
+	validator = begin(t, DefaultSettings(), MostHeld)
+	_, err = validator.Write([]byte("\x00asm\x02\x00\x00\x00"))
+	want(t, "refused", kind(err), Invalid)
+	_, again := validator.Write(header)
+	want(t, "refused again", again, err)
+	want(t, "refused at the end", validator.Finish(), err)
+	want(t, "closed", validator.Close(), nil)
+	want(t, "refused after it", validator.Finish(), err)
+}
+
+// A body of 2,000 operators, cut in the middle, of which no more than 16 bytes may be held.
+func TestMostHeld(t *testing.T) {
+	long := append(append([]byte{}, header...), 1, 4, 1, 0x60, 0, 0, 3, 2, 1, 0, 10, 0xd5, 0x0f, 1, 0xd2, 0x0f, 0)
+	long = append(append(long, bytes.Repeat([]byte{1}, 2000)...), 0x0b)
+	want(t, "held", inPieces(begin(t, DefaultSettings(), MostHeld), long, 1000), nil)
+	err := inPieces(begin(t, DefaultSettings(), 16), long, 1000)
+	want(t, "a verdict", err == nil || err.(*Error).IsVerdict(), false)
+}
+
+// Validators that go from goroutine to goroutine, and such that nobody closes.
+func TestValidatorsMove(t *testing.T) {
+	begun, written := make(chan *Validator), make(chan *Validator)
+	go func() {
+		for i := 0; i < 100; i++ {
+			runtime.LockOSThread()
+			forgotten := begin(t, DefaultSettings(), MostHeld)
+			forgotten.Write(module[:i%len(module)])
+			begun <- begin(t, DefaultSettings(), MostHeld)
+			runtime.UnlockOSThread()
+		}
+		close(begun)
+	}()
+	go func() {
+		runtime.LockOSThread()
+		for validator := range begun {
+			validator.Write(module)
+			written <- validator
+		}
+		close(written)
+	}()
+	for validator := range written {
+		want(t, "moved", validator.Finish(), nil)
+	}
+	runtime.GC()
+	runtime.GC()
 }
 
 func TestVersion(t *testing.T) {

@@ -5,7 +5,7 @@ package durskeyl
 */
 import "C"
 
-// Features is a set of features, with the names and bits of wasmparser's WasmFeatures.
+// Features is a set of features, with the names of wasmparser's WasmFeatures. The order of the bits is ours.
 type Features uint64
 
 // The features.

@@ -1,42 +1,58 @@
-//! Finds the library: in the folder `DURSKEYL_LIB_DIR`, or as the program `pkg-config` says. With `DURSKEYL_STATIC=1` its archive is linked.
+//! Finds the library: in the folder `DURSKEYL_LIB_DIR`, or as the program `pkg-config` says. Its archive is linked if it is there, so that the
+//! program needs no shared library when it starts; with `DURSKEYL_STATIC=0` the shared library is.
+//!
+//! A build script of a crate that depends on this one finds the folder in `DEP_DURSKEYL_LIBDIR`.
 
 use std::env;
+use std::path::Path;
 use std::process::Command;
 
-const WANTED: &str = "durskeyl >= 0.2.0";
+// The crate and the library have the same first two numbers: structures of another version may have another size.
+const WANTED: [&str; 2] = ["durskeyl >= 0.2.0", "durskeyl < 0.3.0"];
 
 fn main() {
     for name in ["DURSKEYL_LIB_DIR", "DURSKEYL_STATIC", "PKG_CONFIG", "PKG_CONFIG_PATH"] {
         println!("cargo:rerun-if-env-changed={name}");
     }
-    let folders = match env::var("DURSKEYL_LIB_DIR") {
-        Ok(folder) => vec![folder],
-        Err(_) => folders_told(),
+    let folder = match env::var("DURSKEYL_LIB_DIR") {
+        Ok(folder) => folder,
+        Err(_) => folder_told(),
     };
-    for folder in folders {
-        println!("cargo:rustc-link-search=native={folder}");
+    let has_archive = Path::new(&folder).join("libdurskeyl.a").is_file();
+    let is_static = env::var("DURSKEYL_STATIC").map_or(has_archive, |it| it != "0");
+    println!("cargo:rustc-link-search=native={folder}");
+    println!("cargo:libdir={folder}");
+    if is_static {
+        println!("cargo:rerun-if-changed={folder}/libdurskeyl.a");
+        println!("cargo:rustc-link-lib=static=durskeyl");
+    } else {
+        println!("cargo:rustc-link-lib=dylib=durskeyl");
+        // reaches the tests and examples here; Cargo hands no such word on to a program that depends on this crate
+        println!("cargo:rustc-link-arg=-Wl,-rpath,{folder}");
     }
-    let is_static = env::var("DURSKEYL_STATIC").is_ok_and(|it| it != "0");
-    println!("cargo:rustc-link-lib={}=durskeyl", if is_static { "static" } else { "dylib" });
 }
 
-/// The folders in which `pkg-config` says that the library is.
-fn folders_told() -> Vec<String> {
+/// The folder in which `pkg-config` says that the library is.
+fn folder_told() -> String {
+    told(&[&["--exists", "--print-errors"], &WANTED[..]].concat());
+    told(&["--variable=libdir", "durskeyl"]).trim_end_matches('\n').to_string()
+}
+
+/// What `pkg-config` answers to these words.
+fn told(words: &[&str]) -> String {
     let program = env::var("PKG_CONFIG").unwrap_or_else(|_| "pkg-config".to_string());
-    let wanted = ["--libs-only-L", "--keep-system-libs", WANTED];
-    let told = match Command::new(&program).args(wanted).output() {
-        Ok(told) => told,
+    match Command::new(&program).args(words).output() {
+        Ok(told) if told.status.success() => String::from_utf8(told.stdout).unwrap_or_else(|_| stop("a path that is not UTF-8")),
+        Ok(told) => stop(String::from_utf8_lossy(&told.stderr).trim()),
         Err(error) => stop(&format!("`{program}` cannot be run: {error}")),
-    };
-    if !told.status.success() {
-        stop(String::from_utf8_lossy(&told.stderr).trim());
     }
-    let words = String::from_utf8_lossy(&told.stdout);
-    words.split_whitespace().filter_map(|it| it.strip_prefix("-L")).map(str::to_string).collect()
 }
 
 fn stop(why: &str) -> ! {
-    eprintln!("{WANTED} is not found. Install it by ./install-library, and name its lib/pkgconfig in PKG_CONFIG_PATH; or its lib in DURSKEYL_LIB_DIR.");
+    eprintln!(
+        "{} is not found. Install it by ./install-library, and name its lib/pkgconfig in PKG_CONFIG_PATH; or its lib in DURSKEYL_LIB_DIR.",
+        WANTED.join(", ")
+    );
     eprintln!("{why}");
     std::process::exit(1);
 }

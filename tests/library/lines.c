@@ -187,19 +187,22 @@ static void pieces(const durskeyl_settings *settings) {
     want("again", durskeyl_take(&it, header, 8, &fault), DURSKEYL_INVALID);
     want("again", fault.kind, DURSKEYL_INVALID);
     want("at the end", durskeyl_end(&it, &fault), DURSKEYL_INVALID);
-    // a custom section of 40 bytes: it is held if it is cut, and is not if it comes whole
-    uint8_t custom[50] = {0, 'a', 's', 'm', 1, 0, 0, 0, 0, 40, 1, 'n'};
+    // a section of 42 bytes, with its id and size: it is held if it is cut, and is not if it comes whole
+    uint8_t section[50] = {0, 'a', 's', 'm', 1, 0, 0, 0, 1, 40, 13};
+    for (size_t i = 0; i < 13; i++)
+        section[11 + 3 * i] = 0x60; // [] -> []
     durskeyl_begin(settings, 41, &it, &fault);
-    want("below the cap", durskeyl_take(&it, custom, 49, &fault), DURSKEYL_VALID);
-    want("at the cap", durskeyl_take(&it, custom + 49, 1, &fault), DURSKEYL_OUT_OF_MEMORY);
-    want("the cap, again", durskeyl_take(&it, custom, 0, &fault), DURSKEYL_OUT_OF_MEMORY);
-    want("the cap, at the end", durskeyl_end(&it, &fault), DURSKEYL_OUT_OF_MEMORY);
+    want("below the cap", durskeyl_take(&it, section, 49, &fault), DURSKEYL_VALID);
+    want("at the cap", durskeyl_take(&it, section + 49, 1, &fault), DURSKEYL_TOO_LONG);
+    want("the cap has a text", fault.text_length > 0 && fault.text[fault.text_length] == 0, 1);
+    want("the cap, again", durskeyl_take(&it, section, 0, &fault), DURSKEYL_TOO_LONG);
+    want("the cap, at the end", durskeyl_end(&it, &fault), DURSKEYL_TOO_LONG);
     durskeyl_begin(settings, 42, &it, &fault);
-    durskeyl_take(&it, custom, 49, &fault);
-    want("within the cap", durskeyl_take(&it, custom + 49, 1, &fault), DURSKEYL_VALID);
+    durskeyl_take(&it, section, 49, &fault);
+    want("within the cap", durskeyl_take(&it, section + 49, 1, &fault), DURSKEYL_VALID);
     want("within the cap", durskeyl_end(&it, &fault), DURSKEYL_VALID);
     durskeyl_begin(settings, 0, &it, &fault);
-    want("whole, with a cap of 0", durskeyl_take(&it, custom, 50, &fault), DURSKEYL_VALID);
+    want("whole, with a cap of 0", durskeyl_take(&it, section, 50, &fault), DURSKEYL_VALID);
     want("whole, with a cap of 0", durskeyl_end(&it, &fault), DURSKEYL_VALID);
     // what is begun goes if another one is, if none can be, and if it is dropped
     durskeyl_begin(settings, 16, &it, &fault);

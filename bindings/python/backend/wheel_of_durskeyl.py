@@ -7,6 +7,7 @@ import zipfile
 
 ROOT = os.path.dirname(os.path.dirname(os.path.abspath(__file__)))
 FILES = ["durskeyl/__init__.py", "durskeyl/__main__.py", "durskeyl/py.typed"]
+NOTICES = ["LICENSE", "NOTICE"]
 
 
 def read(name):
@@ -26,9 +27,11 @@ def get_requires_for_build_wheel(config_settings=None):
 def build_wheel(wheel_directory, config_settings=None, metadata_directory=None):
     version = said("version")
     info = f"durskeyl-{version}.dist-info"
-    about = f"Metadata-Version: 2.1\nName: durskeyl\nVersion: {version}\nSummary: {said('description')}\nLicense: Apache-2.0\n"
+    about = f"Metadata-Version: 2.4\nName: durskeyl\nVersion: {version}\nSummary: {said('description')}\nLicense-Expression: {said('license')}\n"
+    about += "".join(f"License-File: {name}\n" for name in NOTICES)
     about += f"Requires-Python: {said('requires-python')}\nDescription-Content-Type: text/markdown\n\n"
     held = {name: read(name) for name in FILES}
+    held.update({f"{info}/licenses/{name}": read(name) for name in NOTICES})
     held[f"{info}/METADATA"] = about.encode() + read("README.md")
     held[f"{info}/WHEEL"] = b"Wheel-Version: 1.0\nGenerator: wheel_of_durskeyl\nRoot-Is-Purelib: true\nTag: py3-none-any\n"
     record = ""

@@ -5,23 +5,32 @@
     durskeyl.validate(data)                       # None, or raises InvalidModule with offset, kind and message
     durskeyl.is_valid(data)                       # True or False
     for it in durskeyl.imports(data): print(it.module, it.name)
+    with durskeyl.Validator() as validator:       # a module that comes in pieces
+        for piece in pieces: validator.feed(piece)
+        validator.finish()                        # None, or raises InvalidModule
 
 The calls are those of the library that `./install-library` installs; DURSKEYL_LIBRARY names its file if the system does not find it. What
-is proved is that library, and only if is_proved(). Calls keep nothing, may come from any number of threads, and let other threads run.
+is proved is that library, and only if is_proved(). Calls may come from any number of threads, and let other threads run.
 """
 from __future__ import annotations
 
+import concurrent.futures
 import ctypes
 import enum
+import operator
 import os
+import sys
+import threading
 from collections.abc import Mapping
 from typing import Any, NamedTuple, Optional, Union
 
 __version__ = "0.2.0"
 __all__ = [
-    "Export", "External", "Features", "Import", "InvalidModule", "Kind", "LIMITS", "exports", "imports", "is_proved", "is_valid", "named_features",
-    "shown", "validate", "version",
+    "Export", "External", "Features", "Import", "InvalidModule", "Kind", "LIMITS", "MOST_HELD", "TooLong", "Validator", "exports", "imports", "is_proved",
+    "is_valid", "named_features", "shown", "validate", "version",
 ]
+#: how many bytes a Validator holds at most between two pieces, unless it is told otherwise: more than a function's body may have
+MOST_HELD = 16 << 20
 LIMITS = """types params results fields string_bytes imports exports functions globals tags tables memories element_segments data_segments
     segment_items body_bytes select_types locals catches subtyping_depth type_size""".split()
 _SETS = {"all": 0, "mvp": 1, "wasm1": 2, "wasm2": 3, "wasm3": 4, "lime1": 5, "default": 6}
@@ -39,7 +48,7 @@ class Kind(enum.IntEnum):
 
 
 class Features(enum.IntFlag):
-    """A set of features, with the names and bits of wasmparser's WasmFeatures."""
+    """A set of features, with the names of wasmparser's WasmFeatures. The order of the bits is ours."""
 
     MUTABLE_GLOBAL = 1 << 0
     SATURATING_FLOAT_TO_INT = 1 << 1
@@ -72,6 +81,7 @@ class Features(enum.IntFlag):
     #: no feature, and in no named set: operators on vectors are judged like all others
     VECTORS = 1 << 28
 
+
 class External(enum.IntEnum):
     """What is imported or exported."""
 
@@ -99,6 +109,21 @@ class Export(NamedTuple):
     index: int
 
 
+def _is_unshown(code: int) -> bool:
+    turns = code in (0x61C, 0x200E, 0x200F) or 0x202A <= code <= 0x202E or 0x2066 <= code <= 0x2069
+    return code < 0x20 or 0x7F <= code < 0xA0 or code in (0x2028, 0x2029) or turns
+
+
+def shown(text: str) -> str:
+    """A text of others, written so that it stays within its line: as wasm-check does, control characters, those that end a line for some
+    readers and those that turn its order are written as \\u{N}. So is what is no character, as the rest of a file's name."""
+    return "".join(f"\\u{{{ord(c):x}}}" if _is_unshown(ord(c)) or 0xD800 <= ord(c) < 0xE000 else c for c in text)
+
+
+# A set of features, its bits, the name of a set, or None for those by default.
+Chosen = Union[Features, int, str, None]
+
+
 class InvalidModule(Exception):
     """The bytes are no valid module."""
 
@@ -116,12 +141,20 @@ class InvalidModule(Exception):
         return f"invalid at {self.offset:#x}: {shown(self.message)}"
 
 
+class TooLong(Exception):
+    """There is no verdict: more bytes would have to be held than a Validator may hold."""
+
+
 class _Settings(ctypes.Structure):
     _fields_ = [("features", ctypes.c_uint64), ("limits", ctypes.c_uint32 * _PLACES)]
 
 
 class _Fault(ctypes.Structure):
     _fields_ = [("kind", ctypes.c_uint32), ("text_length", ctypes.c_uint32), ("offset", ctypes.c_uint64), ("detail", ctypes.c_uint64), ("text", ctypes.c_char * 264)]
+
+
+class _Pieces(ctypes.Structure):
+    _fields_ = [("inside", ctypes.c_void_p), ("begun", ctypes.c_uint64)]
 
 
 class _ImportRow(ctypes.Structure):
@@ -133,24 +166,63 @@ class _ExportRow(ctypes.Structure):
     _fields_ = [("name_offset", ctypes.c_uint64), ("name_length", ctypes.c_uint32), ("kind", ctypes.c_uint32), ("index", ctypes.c_uint32), ("later", ctypes.c_uint32)]
 
 
+def _open() -> ctypes.CDLL:
+    """The library that DURSKEYL_LIBRARY names, or that the system finds, or where ./install-library puts it."""
+    named = os.environ.get("DURSKEYL_LIBRARY")
+    names = [named] if named else ["libdurskeyl.so.0", "/usr/local/lib/libdurskeyl.so.0"]
+    errors = []
+    for name in names:
+        try:
+            return ctypes.CDLL(name)
+        except OSError as error:
+            errors.append(str(error))
+    raise ImportError(f"{names[0]} is not found: install it by ./install-library, or name its file in DURSKEYL_LIBRARY ({'; '.join(errors)})")
+
+
 def _load() -> ctypes.CDLL:
-    name = os.environ.get("DURSKEYL_LIBRARY", "libdurskeyl.so.0")
-    try:
-        library = ctypes.CDLL(name)
-    except OSError as error:
-        raise ImportError(f"{name} is not found: install it by ./install-library, or name its file in DURSKEYL_LIBRARY ({error})") from error
-    library.durskeyl_version.argtypes, library.durskeyl_version.restype = [], ctypes.c_uint32
-    library.durskeyl_features.argtypes, library.durskeyl_features.restype = [ctypes.c_uint32], ctypes.c_uint64
-    library.durskeyl_settings_default.argtypes, library.durskeyl_settings_default.restype = [ctypes.POINTER(_Settings)], None
-    # `bytes` have a length beside them and may hold zeros; the call keeps no pointer.
-    library.durskeyl_validate.argtypes = [ctypes.POINTER(_Settings), ctypes.c_char_p, ctypes.c_size_t, ctypes.POINTER(_Fault)]
-    library.durskeyl_validate.restype = ctypes.c_uint32
-    for listing, row in (library.durskeyl_imports, _ImportRow), (library.durskeyl_exports, _ExportRow):
-        listing.argtypes, listing.restype = [ctypes.c_char_p, ctypes.c_size_t, ctypes.POINTER(row), ctypes.c_size_t], ctypes.c_uint64
+    library, number, count = _open(), ctypes.c_uint32, ctypes.c_size_t
+    settings, fault, pieces = map(ctypes.POINTER, (_Settings, _Fault, _Pieces))
+    library.durskeyl_version.argtypes, library.durskeyl_version.restype = [], number
+    found = library.durskeyl_version()
+    # structures of another version may have another size
+    if [found >> 16 & 0xFF, found >> 8 & 0xFF] != [int(it) for it in __version__.split(".")[:2]]:
+        told = f"{found >> 16 & 0xFF}.{found >> 8 & 0xFF}.{found & 0xFF}"
+        raise ImportError(f"the package durskeyl {__version__} needs a library of its own version, and {told} was found")
+    # `bytes` have a length beside them and may hold zeros; the calls keep no pointer
+    calls = {
+        "features": ([number], ctypes.c_uint64),
+        "settings_default": ([settings], None),
+        "validate": ([settings, ctypes.c_char_p, count, fault], number),
+        "validate_part": ([settings, ctypes.c_char_p, count, number, number, fault], number),
+        "begin": ([settings, ctypes.c_uint64, pieces, fault], number),
+        "take": ([pieces, ctypes.c_char_p, count, fault], number),
+        "end": ([pieces, fault], number),
+        "drop": ([pieces], None),
+        "imports": ([ctypes.c_char_p, count, ctypes.POINTER(_ImportRow), count], ctypes.c_uint64),
+        "exports": ([ctypes.c_char_p, count, ctypes.POINTER(_ExportRow), count], ctypes.c_uint64),
+    }
+    for name, (words, answer) in calls.items():
+        call = getattr(library, f"durskeyl_{name}")
+        call.argtypes, call.restype = words, answer
     return library
 
 
-_library = _load()
+def _is_program() -> bool:
+    """Whether this is imported for `python3 -m durskeyl`. Python imports a package before its program, and ends with 1 if that fails, which would
+    say that a file is invalid."""
+    words = getattr(sys, "orig_argv", [])
+    asked = any(it.startswith("-") and f"{it} {after}".endswith("m durskeyl") for it, after in zip(words, words[1:]))
+    return sys.argv[:1] == ["-m"] and (asked or any(it.startswith("-") and it.endswith("mdurskeyl") for it in words))
+
+
+try:
+    _library = _load()
+except ImportError as _error:
+    if not _is_program():
+        raise
+    if sys.stderr is not None:
+        print(f"durskeyl: {shown(str(_error))}", file=sys.stderr)
+    sys.exit(2)
 
 
 def version() -> tuple[int, int, int]:
@@ -160,7 +232,8 @@ def version() -> tuple[int, int, int]:
 
 
 def is_proved() -> bool:
-    """Whether the library was built by the toolchain from what it proved."""
+    """Whether the library says of itself that it was built by the toolchain from what it proved. The file PROVED, installed beside it, says
+    from which commit, or why not."""
     return not _library.durskeyl_version() & _NOT_PROVED
 
 
@@ -176,54 +249,152 @@ def _bytes(data: Buffer) -> bytes:
     return data if type(data) is bytes else bytes(memoryview(data))
 
 
-def _settings(features: Union[Features, int, str, None], limits: Optional[Mapping[str, int]]) -> _Settings:
+def _settings(features: Chosen, limits: Optional[Mapping[str, int]]) -> _Settings:
     settings = _Settings()
     _library.durskeyl_settings_default(settings)
     if isinstance(features, str):
         features = named_features(features)
     if features is not None:
-        if not 0 <= features < 2**64:
+        bits = operator.index(features)
+        if not 0 <= bits < 2**64:
             raise ValueError(f"not a set of features: {features}")
-        settings.features = int(features)
+        settings.features = bits
     for name, most in (limits or {}).items():
         if name not in LIMITS:
             raise ValueError(f"unknown limit: {name!r}")
+        most = operator.index(most)
         if not 0 <= most < 2**32:
             raise ValueError(f"limit out of range: {name} = {most}")
         settings.limits[LIMITS.index(name)] = most
     return settings
 
 
-def _judge(data: bytes, features: Union[Features, int, str, None], limits: Optional[Mapping[str, int]]) -> Optional[InvalidModule]:
-    """None if the bytes are a valid module; else why not."""
-    fault = _Fault()
-    kind = _library.durskeyl_validate(_settings(features, limits), data, len(data), fault)
+def _answer(kind: int, fault: _Fault) -> Optional[InvalidModule]:
+    """What a call answered: None for a yes, or why the bytes are invalid. Raises what is no verdict."""
     if kind == 0:
         return None
     if kind == 3:
         raise MemoryError("durskeyl: out of memory")
     if kind == 6:
         raise ValueError("bad settings: a feature or a limit that the library does not know, or a limit above its ceiling")
+    if kind == 7:
+        raise TooLong("no verdict: more bytes would have to be held than the validator may hold")
     if kind not in (1, 2, 5):
         raise RuntimeError(f"no verdict: durskeyl answers the unknown kind {kind}")
     text = ctypes.string_at(ctypes.addressof(fault) + _Fault.text.offset, fault.text_length)
     return InvalidModule(Kind(kind), fault.offset, text.decode("utf-8", "replace"), fault.detail)
 
 
-def validate(data: Buffer, *, features: Union[Features, int, str, None] = None, limits: Optional[Mapping[str, int]] = None) -> None:
+def _judge_part(settings: _Settings, data: bytes, part: int, parts: int) -> Optional[InvalidModule]:
+    fault = _Fault()
+    if parts == 1:
+        return _answer(_library.durskeyl_validate(settings, data, len(data), fault), fault)
+    return _answer(_library.durskeyl_validate_part(settings, data, len(data), part, parts, fault), fault)
+
+
+def _judge(data: bytes, features: Chosen, limits: Optional[Mapping[str, int]], threads: int = 1) -> Optional[InvalidModule]:
+    """None if the bytes are a valid module; else why not."""
+    settings, threads = _settings(features, limits), operator.index(threads)
+    if not 1 <= threads <= 1024:
+        raise ValueError(f"threads out of range: {threads}")
+    if threads == 1:
+        return _judge_part(settings, data, 0, 1)
+    with concurrent.futures.ThreadPoolExecutor(threads) as pool:
+        parts = [pool.submit(_judge_part, settings, data, part, threads) for part in range(threads)]
+    # a verdict is told even if another part ran out of memory
+    faults = [fault for it in parts if it.exception() is None and (fault := it.result()) is not None]
+    if faults:
+        return min(faults, key=lambda it: it.offset)
+    for it in parts:
+        it.result()
+    return None
+
+
+def validate(data: Buffer, *, features: Chosen = None, limits: Optional[Mapping[str, int]] = None, threads: int = 1) -> None:
     """Returns if the bytes are a valid module, by the features (or the name of a set) and limits that are given, else by those by default.
+    With several threads each reads all sections, and judges its share of the bodies; of several faults the first in the bytes is told.
 
     Raises InvalidModule if they are not, MemoryError if there was no memory to tell, ValueError if the features or limits are wrong, and
-    TypeError if the data is no buffer.
+    TypeError if the data is no buffer, or features or limits are no whole numbers.
     """
-    fault = _judge(_bytes(data), features, limits)
+    fault = _judge(_bytes(data), features, limits, threads)
     if fault is not None:
         raise fault
 
 
-def is_valid(data: Buffer, *, features: Union[Features, int, str, None] = None, limits: Optional[Mapping[str, int]] = None) -> bool:
+def is_valid(data: Buffer, *, features: Chosen = None, limits: Optional[Mapping[str, int]] = None, threads: int = 1) -> bool:
     """Whether the bytes are a valid module. Raises as validate() does, except InvalidModule."""
-    return _judge(_bytes(data), features, limits) is None
+    return _judge(_bytes(data), features, limits, threads) is None
+
+
+class Validator:
+    """A module that comes in pieces: feed() takes the next bytes, and finish() gives the verdict.
+
+    Each section, and each body, is judged as soon as it is whole; of a part no more than `most` bytes are held between two pieces. Only
+    finish() gives a yes. A refusal stays: each later call raises it again. One thread at a time uses it; others wait.
+    """
+
+    def __init__(self, *, features: Chosen = None, limits: Optional[Mapping[str, int]] = None, most: int = MOST_HELD) -> None:
+        # first what close() needs, which comes in any case
+        self._pieces, self._lock, self._error = _Pieces(), threading.Lock(), None
+        most = operator.index(most)
+        if not 0 <= most < 2**64:
+            raise ValueError(f"most out of range: {most}")
+        fault = _Fault()
+        self._told(_library.durskeyl_begin(_settings(features, limits), most, self._pieces, fault), fault)
+
+    def _told(self, kind: int, fault: _Fault) -> None:
+        """Raises what a call answered that is no yes, and keeps it."""
+        try:
+            error: Optional[Exception] = _answer(kind, fault)
+        except Exception as other:
+            error = other
+        if error is not None:
+            self._error = error
+            raise error
+
+    def _check(self) -> None:
+        if self._error is not None:
+            raise self._error
+        if not self._pieces.begun:
+            raise ValueError("the validator is finished or closed")
+
+    def feed(self, data: Buffer) -> None:
+        """Takes the next bytes. Raises InvalidModule if no module that begins with the bytes so far is valid, and ValueError after finish() or
+        close(). There is no verdict if there is no memory, which is MemoryError, or if more would have to be held than it may, TooLong."""
+        data, fault = _bytes(data), _Fault()
+        with self._lock:
+            self._check()
+            self._told(_library.durskeyl_take(self._pieces, data, len(data), fault), fault)
+
+    def finish(self) -> None:
+        """Returns if all that was fed is a valid module; else raises as feed() does. Nothing is held afterwards."""
+        fault = _Fault()
+        with self._lock:
+            self._check()
+            self._told(_library.durskeyl_end(self._pieces, fault), fault)
+
+    def close(self) -> None:
+        """Gives back what is held, without a verdict. May be called at any time, and more than once."""
+        with self._lock:
+            _library.durskeyl_drop(self._pieces)
+
+    def __enter__(self) -> Validator:
+        return self
+
+    def __exit__(self, *_: object) -> None:
+        self.close()
+
+    def __del__(self) -> None:
+        # nobody else has it any more, so there is nothing to wait for
+        if hasattr(self, "_pieces") and _library is not None:
+            _library.durskeyl_drop(self._pieces)
+
+    def __copy__(self) -> Validator:
+        raise TypeError("a validator cannot be copied")
+
+    def __reduce__(self) -> str:
+        raise TypeError("a validator cannot be copied")
 
 
 def _rows(listing: Any, row: Any, data: bytes) -> Any:
@@ -239,7 +410,7 @@ def _name(data: bytes, offset: int, length: int) -> str:
     return data[offset : offset + length].decode()
 
 
-def imports(data: Buffer, *, features: Union[Features, int, str, None] = None, limits: Optional[Mapping[str, int]] = None) -> list[Import]:
+def imports(data: Buffer, *, features: Chosen = None, limits: Optional[Mapping[str, int]] = None) -> list[Import]:
     """What a module imports, in its order. It is validated first, and raises what validate() does."""
     data = _bytes(data)
     validate(data, features=features, limits=limits)
@@ -249,20 +420,9 @@ def imports(data: Buffer, *, features: Union[Features, int, str, None] = None, l
     ]
 
 
-def exports(data: Buffer, *, features: Union[Features, int, str, None] = None, limits: Optional[Mapping[str, int]] = None) -> list[Export]:
+def exports(data: Buffer, *, features: Chosen = None, limits: Optional[Mapping[str, int]] = None) -> list[Export]:
     """What a module exports, in its order. It is validated first, and raises what validate() does."""
     data = _bytes(data)
     validate(data, features=features, limits=limits)
     rows = _rows(_library.durskeyl_exports, _ExportRow, data)
     return [Export(_name(data, it.name_offset, it.name_length), External(it.kind), it.index) for it in rows]
-
-
-def _is_unshown(code: int) -> bool:
-    turns = code in (0x61C, 0x200E, 0x200F) or 0x202A <= code <= 0x202E or 0x2066 <= code <= 0x2069
-    return code < 0x20 or 0x7F <= code < 0xA0 or code in (0x2028, 0x2029) or turns
-
-
-def shown(text: str) -> str:
-    """A text of others, written so that it stays within its line: as wasm-check does, control characters, those that end a line for some
-    readers and those that turn its order are written as \\u{N}. So is what is no character, as the rest of a file's name."""
-    return "".join(f"\\u{{{ord(c):x}}}" if _is_unshown(ord(c)) or 0xD800 <= ord(c) < 0xE000 else c for c in text)

@@ -1,14 +1,37 @@
-"""python3 -m durskeyl [--vectors] [--entries] FILE.. says of each file whether it is a valid WebAssembly module, by lines as those of wasm-check; with
---vectors operators on vectors are judged like all others, and after --entries it says what each imports and exports. Ends with 0 if all are valid, 1 if some file is not, and 2 if there is no verdict on some file."""
+"""Says of each file whether it is a valid WebAssembly module, by lines as those of wasm-check.
+
+usage: python3 -m durskeyl [--vectors] [--entries] FILE...
+
+The file `-` is standard input. With --vectors operators on vectors are judged like all others, and after --entries it says what each file
+imports and exports. Ends with 0 if all are valid, 1 if some file is not, and 2 if there is no verdict on some file, or no file.
+"""
+import os
 import sys
 
 import durskeyl
 
 
+def complain(line: str) -> None:
+    """Writes a line on standard error, which may be closed. It is never written anywhere else."""
+    try:
+        if sys.stderr is not None:
+            print(line, file=sys.stderr, flush=True)
+    except OSError:
+        pass
+
+
+def read(name: str) -> bytes:
+    if name != "-":
+        with open(name, "rb") as it:
+            return it.read()
+    if sys.stdin is None:
+        raise OSError("standard input is closed")
+    return sys.stdin.buffer.read()
+
+
 def told(name: str, lists: bool, features: durskeyl.Features) -> "tuple[int, list[str]]":
     """The status of a file, and its lines."""
-    with open(name, "rb") as it:
-        data = it.read()
+    data = read(name)
     try:
         if not lists:
             durskeyl.validate(data, features=features)
@@ -20,33 +43,48 @@ def told(name: str, lists: bool, features: durskeyl.Features) -> "tuple[int, lis
         return 1, [f"{durskeyl.shown(name)}: {fault}"]
 
 
+def judge(names: "list[str]", lists: bool, features: durskeyl.Features) -> int:
+    """Writes the lines of all files, and gives the status."""
+    status = 0
+    for name in names:
+        try:
+            found, lines = told(name, lists, features)
+        except Exception as error:  # whatever it is, it is no verdict
+            why = error.strerror if isinstance(error, OSError) and error.strerror else str(error)
+            complain(f"durskeyl: {durskeyl.shown(name)}: {durskeyl.shown(why)}")
+            status = 2
+            continue
+        status = max(status, found)
+        for line in lines:
+            print(line)
+    return status
+
+
 def main() -> int:
     words = sys.argv[1:]
     features = durskeyl.named_features("default")
     if words[:1] == ["--vectors"]:
         features, words = features | durskeyl.Features.VECTORS, words[1:]
     lists = words[:1] == ["--entries"]
-    status = 0
-    sys.stdout.reconfigure(encoding="utf-8")
-    sys.stderr.reconfigure(encoding="utf-8")
-    for name in words[lists:]:
-        try:
-            found, lines = told(name, lists, features)
-        except (OSError, MemoryError, ValueError) as error:
-            why = error.strerror if isinstance(error, OSError) and error.strerror else str(error)
-            print(f"durskeyl: {durskeyl.shown(name)}: {why}", file=sys.stderr)
-            status = 2
-            continue
-        status = max(status, found)
-        for line in lines:
-            print(line)
-    sys.stdout.flush()
-    return status
+    names = words[lists:]
+    if not names:
+        complain("usage: python3 -m durskeyl [--vectors] [--entries] FILE...")
+        return 2
+    if sys.stdout is None:
+        complain("durskeyl: cannot write: standard output is closed")
+        return 2
+    try:
+        sys.stdout.reconfigure(encoding="utf-8")
+        status = judge(names, lists, features)
+        sys.stdout.flush()
+        return status
+    except OSError as error:
+        complain(f"durskeyl: cannot write: {error.strerror or error}")
+        # what is left in the buffer is not tried again at the end, which would change the status
+        os._exit(2)
 
 
 if __name__ == "__main__":
-    try:
-        sys.exit(main())
-    except OSError as error:
-        print(f"durskeyl: cannot write: {error}", file=sys.stderr)
-        sys.exit(2)
+    if sys.stderr is not None:
+        sys.stderr.reconfigure(encoding="utf-8")
+    sys.exit(main())

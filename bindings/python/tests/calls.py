@@ -1,5 +1,8 @@
 """What the calls answer, over small modules. usage: python3 calls.py"""
 import array
+import copy
+import gc
+import pickle
 import threading
 import unittest
 
@@ -64,6 +67,14 @@ class Calls(unittest.TestCase):
         self.assertTrue(durskeyl.is_valid(MEMORIES, features=durskeyl.named_features("wasm2") | Features.MULTI_MEMORY))
         self.assertFalse(durskeyl.is_valid(MEMORIES, features=0))
 
+    def test_types(self):
+        for wrong in 1.5, 2.0, b"wasm2", ["gc"]:
+            with self.assertRaises(TypeError):
+                durskeyl.validate(HEADER, features=wrong)
+        for wrong in {"locals": 1.5}, {"locals": "10"}, {"locals": None}:
+            with self.assertRaises(TypeError):
+                durskeyl.is_valid(HEADER, limits=wrong)
+
     def test_wrong_settings(self):
         for wrong in {"locals": 1000001}, {"locals": 2**32}, {"locals": -1}, {"nothing": 1}:
             with self.assertRaises(ValueError):
@@ -79,6 +90,122 @@ class Calls(unittest.TestCase):
 
     def test_shown(self):
         self.assertEqual(durskeyl.shown("a\x1b[0m\u202e\x85é\\\udcff"), r"a\u{1b}[0m\u{202e}\u{85}é\\u{dcff}")
+
+    def test_parts(self):
+        for threads in 1, 2, 5:
+            durskeyl.validate(MODULE, threads=threads)
+            self.assertTrue(durskeyl.is_valid(with_locals(10), limits={"locals": 10}, threads=threads))
+            with self.assertRaises(InvalidModule) as caught:
+                durskeyl.validate(with_locals(11), limits={"locals": 10}, threads=threads)
+            self.assertEqual(caught.exception.kind, Kind.INVALID)
+            with self.assertRaises(ValueError):
+                durskeyl.validate(HEADER, limits={"locals": 1000001}, threads=threads)
+        for wrong in 0, -1, 1025:
+            with self.assertRaises(ValueError):
+                durskeyl.validate(MODULE, threads=wrong)
+
+    def in_pieces(self, data, piece, **settings):
+        with durskeyl.Validator(**settings) as it:
+            for at in range(0, len(data), piece):
+                it.feed(data[at : at + piece])
+            return it.finish()
+
+    def test_pieces(self):
+        for piece in 1, 3, 1000:
+            self.assertIsNone(self.in_pieces(MODULE, piece))
+            for end in range(len(MODULE)):
+                if durskeyl.is_valid(MODULE[:end]):
+                    self.in_pieces(MODULE[:end], piece)
+                else:
+                    with self.assertRaises(InvalidModule):
+                        self.in_pieces(MODULE[:end], piece)
+        self.in_pieces(bytearray(with_locals(10)), 5, limits={"locals": 10})
+        with self.assertRaises(InvalidModule):
+            self.in_pieces(with_locals(11), 5, limits={"locals": 10})
+        for wrong in {"limits": {"locals": 1000001}}, {"features": 1 << 40}, {"features": "wasm9"}, {"most": -1}, {"most": 1 << 64}:
+            with self.assertRaises(ValueError):
+                durskeyl.Validator(**wrong)
+        for wrong in {"features": 1.5}, {"most": 1.5}:
+            with self.assertRaises(TypeError):
+                durskeyl.Validator(**wrong)
+
+    def test_refused_pieces(self):
+        it = durskeyl.Validator()
+        with self.assertRaises(InvalidModule) as caught:
+            it.feed(b"\0asm\2\0\0\0")
+        with self.assertRaises(InvalidModule) as again:
+            it.feed(HEADER)
+        with self.assertRaises(InvalidModule) as ended:
+            it.finish()
+        self.assertEqual(str(again.exception), str(caught.exception))
+        self.assertEqual(str(ended.exception), str(caught.exception))
+        it.close()
+        it.close()
+
+    def test_finished_pieces(self):
+        it = durskeyl.Validator()
+        it.feed(HEADER)
+        it.finish()
+        for call in it.finish, lambda: it.feed(b""):
+            with self.assertRaises(ValueError):
+                call()
+        with durskeyl.Validator() as it:
+            it.feed(HEADER[:3])
+        with self.assertRaises(ValueError):
+            it.finish()
+        with self.assertRaises(TypeError):
+            copy.copy(it)
+        with self.assertRaises(TypeError):
+            pickle.dumps(it)
+
+    def test_held_bytes(self):
+        # a body of 2,000 operators, cut in the middle, of which no more than 16 bytes may be held
+        body = b"\0" + b"\1" * 2000 + b"\x0b"
+        data = HEADER + b"\1\4\1\x60\0\0\3\2\1\0\x0a\xd5\x0f\1\xd2\x0f" + body
+        self.in_pieces(data, 1000)
+        with self.assertRaises(Exception) as caught:
+            self.in_pieces(data, 1000, most=16)
+        self.assertNotIsInstance(caught.exception, InvalidModule)
+
+    def test_many_validators(self):
+        # dropped in any state, on other threads than the one that began them
+        def some():
+            for number in range(100):
+                it = durskeyl.Validator()
+                it.feed(MODULE[: number % len(MODULE)])
+                held.append(it)
+                if len(held) > 50:
+                    held.pop(0)
+
+        held = []
+        threads = [threading.Thread(target=some) for _ in range(4)]
+        for it in threads:
+            it.start()
+        for it in threads:
+            it.join()
+        for it in held:
+            it.feed(b"")
+        held.clear()
+        gc.collect()
+
+    def test_one_validator_on_threads(self):
+        it, errors = durskeyl.Validator(), []
+
+        def feed():
+            try:
+                for _ in range(200):
+                    it.feed(b"\0\2\1n")
+            except Exception as error:
+                errors.append(error)
+
+        it.feed(HEADER)
+        threads = [threading.Thread(target=feed) for _ in range(4)]
+        for other in threads:
+            other.start()
+        for other in threads:
+            other.join()
+        self.assertEqual(errors, [])
+        it.finish()
 
     def test_threads(self):
         wrong = []

@@ -1,8 +1,10 @@
-//! Says of each file whether it is a valid WebAssembly module, by lines as those of `wasm-check`; with `--vectors` operators on vectors
-//! are judged like all others, and after `--entries` it says what each imports and exports. Ends with 0 if all are valid, 1 if some file is not, and 2 if there is no verdict on some file.
+//! Says of each file whether it is a valid WebAssembly module, by lines as those of `wasm-check`; the file `-` is standard input. With
+//! `--vectors` operators on vectors are judged like all others, and after `--entries` it says what each imports and exports. Ends with 0 if all
+//! are valid, 1 if some file is not, and 2 if there is no verdict on some file, or no file.
 
 use durskeyl::{External, Features, Module, Settings, Shown};
-use std::io::{self, Write};
+use std::ffi::OsStr;
+use std::io::{self, Read, Write};
 use std::process::ExitCode;
 
 fn main() -> ExitCode {
@@ -13,36 +15,68 @@ fn main() -> ExitCode {
         settings = Settings::new().with_features(Features::default() | Features::VECTORS);
     }
     let lists = words.first().is_some_and(|it| it == "--entries");
+    let names = &words[usize::from(lists)..];
+    if names.is_empty() {
+        complain("usage: check [--vectors] [--entries] FILE...");
+        return ExitCode::from(2);
+    }
+    if is_lost() {
+        complain("check: cannot write: standard output is closed");
+        return ExitCode::from(2);
+    }
     let out = &mut io::stdout().lock();
     let mut status = 0;
-    for name in &words[usize::from(lists)..] {
-        let shown = name.to_string_lossy();
-        let told = match std::fs::read(name) {
+    for name in names {
+        match told(out, name, &settings, lists) {
+            Ok(found) => status = status.max(found),
             Err(error) => {
-                eprintln!("check: {}: {error}", Shown(&shown));
-                status = 2;
-                continue;
+                complain(&format!("check: cannot write: {error}"));
+                return ExitCode::from(2);
             }
-            Ok(bytes) => match settings.validate(&bytes) {
-                Ok(module) if lists => list(out, module),
-                Ok(_) => writeln!(out, "{}: valid", Shown(&shown)),
-                Err(error) if error.is_verdict() => {
-                    status = status.max(1);
-                    writeln!(out, "{}: {error}", Shown(&shown))
-                }
-                Err(error) => {
-                    eprintln!("check: {}: {error}", Shown(&shown));
-                    status = 2;
-                    continue;
-                }
-            },
-        };
-        if let Err(error) = told {
-            eprintln!("check: cannot write: {error}");
-            return ExitCode::from(2);
         }
     }
     ExitCode::from(status)
+}
+
+// Writes the lines of a file, and gives its status.
+fn told(out: &mut impl Write, name: &OsStr, settings: &Settings, lists: bool) -> io::Result<u8> {
+    let shown = name.to_string_lossy();
+    let no_verdict = |why: &dyn std::fmt::Display| {
+        complain(&format!("check: {}: {why}", Shown(&shown)));
+        Ok(2)
+    };
+    let bytes = match read(name) {
+        Ok(bytes) => bytes,
+        Err(error) => return no_verdict(&error),
+    };
+    match settings.validate(&bytes) {
+        Ok(module) if lists => list(out, module).and(Ok(0)),
+        Ok(_) => writeln!(out, "{}: valid", Shown(&shown)).and(Ok(0)),
+        Err(error) if error.is_verdict() => writeln!(out, "{}: {error}", Shown(&shown)).and(Ok(1)),
+        Err(error) => no_verdict(&error),
+    }
+}
+
+fn read(name: &OsStr) -> io::Result<Vec<u8>> {
+    if name != "-" {
+        return std::fs::read(name);
+    }
+    let mut bytes = Vec::new();
+    io::stdin().lock().read_to_end(&mut bytes)?;
+    Ok(bytes)
+}
+
+// A line on standard error, which may be closed.
+fn complain(line: &str) {
+    let _ = writeln!(io::stderr(), "{line}");
+}
+
+// Whether standard output was closed. Rust's runtime opens /dev/null in its place, to read and write, so that lines would be lost without a word.
+fn is_lost() -> bool {
+    let to = std::fs::read_link("/proc/self/fd/1");
+    let how = std::fs::read_to_string("/proc/self/fdinfo/1").unwrap_or_default();
+    let flags = how.lines().find_map(|it| it.strip_prefix("flags:")).map_or("", str::trim);
+    to.is_ok_and(|it| it == OsStr::new("/dev/null")) && flags.ends_with('2')
 }
 
 // The lines of tests/library/entries.c.

@@ -2,7 +2,7 @@
 
 use crate::settings::Features;
 use crate::sys;
-use std::fmt;
+use std::{fmt, io};
 
 /// What kind of fault was found.
 #[derive(Clone, Copy, Debug, PartialEq, Eq, Hash)]
@@ -18,6 +18,8 @@ pub enum ErrorKind {
     OutOfMemory,
     /// No verdict: a feature or a limit that the library does not know, or a limit above its ceiling.
     BadSettings,
+    /// No verdict: more bytes would have to be held than a module in pieces may hold.
+    TooLong,
     /// No verdict: a number that this crate does not know.
     Unknown(u32),
 }
@@ -38,6 +40,7 @@ impl Error {
             3 => ErrorKind::OutOfMemory,
             5 => ErrorKind::Invalid,
             6 => ErrorKind::BadSettings,
+            7 => ErrorKind::TooLong,
             kind => ErrorKind::Unknown(kind),
         };
         let text = fault.text.get(..fault.text_length as usize).unwrap_or_default();
@@ -76,6 +79,7 @@ impl fmt::Display for Error {
         match self.kind {
             ErrorKind::OutOfMemory => f.write_str("out of memory"),
             ErrorKind::BadSettings => f.write_str("bad settings"),
+            ErrorKind::TooLong => f.write_str("an item is longer than may be held"),
             ErrorKind::Unknown(kind) => write!(f, "no verdict: unknown kind {kind}"),
             _ => write!(f, "invalid at {:#x}: {}", self.offset, Shown(&self.message)),
         }
@@ -83,6 +87,25 @@ impl fmt::Display for Error {
 }
 
 impl std::error::Error for Error {}
+
+/// The name that wasmparser gives to [`Error`].
+pub type BinaryReaderError = Error;
+
+/// What a call answers that may find no valid module.
+pub type Result<T, E = Error> = std::result::Result<T, E>;
+
+impl From<Error> for io::Error {
+    /// Its kind is `InvalidData` if the bytes were found invalid, `OutOfMemory`, or `InvalidInput` for bad settings.
+    fn from(error: Error) -> io::Error {
+        let kind = match error.kind {
+            ErrorKind::OutOfMemory => io::ErrorKind::OutOfMemory,
+            ErrorKind::BadSettings => io::ErrorKind::InvalidInput,
+            _ if error.is_verdict() => io::ErrorKind::InvalidData,
+            _ => io::ErrorKind::Other,
+        };
+        io::Error::new(kind, error)
+    }
+}
 
 /// A text of others, written so that it stays within its line: control characters, those that end a line for some readers and those that
 /// turn its order are written as `\u{N}`, as `wasm-check` does.

@@ -9,18 +9,22 @@
 //! # Ok::<(), Box<dyn std::error::Error>>(())
 //! ```
 //!
+//! A module that comes in pieces is written into a [`Validator`], which also has the calls of wasmparser's by which a module is validated.
+//!
 //! What is proved is the library that this crate links, and only if [`is_proved`]; this crate is neither proved nor part of the proof.
-//! Calls keep nothing, and may come from any number of threads.
+//! Calls may come from any number of threads.
 
 mod error;
 mod module;
 mod parts;
 mod settings;
 pub mod sys;
+mod validator;
 
-pub use error::{Error, ErrorKind, Shown};
+pub use error::{BinaryReaderError, Error, ErrorKind, Result, Shown};
 pub use module::{Export, Exports, External, Import, Imports, Module};
-pub use settings::{Features, Limit, Settings};
+pub use settings::{Features, Limit, Settings, WasmFeatures};
+pub use validator::{MOST_HELD, Validator};
 
 /// The module that these bytes are, if they are a valid one by the settings by default.
 ///
@@ -37,7 +41,8 @@ pub fn is_valid(bytes: &[u8]) -> bool {
     unsafe { sys::durskeyl_is_valid(bytes.as_ptr(), bytes.len()) == 1 }
 }
 
-/// Whether the library was built by the toolchain from what it proved.
+/// Whether the library says of itself that it was built by the toolchain from what it proved. The file PROVED, installed beside it, says
+/// from which commit, or why not.
 pub fn is_proved() -> bool {
     sys::durskeyl_version() >> 31 == 0
 }
@@ -55,7 +60,7 @@ impl Settings {
     ///
     /// If they are not valid; or if there is no verdict, for the lack of memory or for the settings ([`Error::is_verdict`]).
     pub fn validate<'a>(&self, bytes: &'a [u8]) -> Result<Module<'a>, Error> {
-        let mut fault = sys::Fault { kind: 0, text_length: 0, offset: 0, detail: 0, text: [0; 264] };
+        let mut fault = sys::Fault::none();
         // SAFETY: a slice is never null, has the length that it says, and is lent for the call; the fault is apart from it.
         match unsafe { sys::durskeyl_validate(&self.0, bytes.as_ptr(), bytes.len(), &mut fault) } {
             0 => Ok(Module::new(bytes)),

@@ -30,7 +30,7 @@ impl Settings {
 
     // Why one part is refused, if it is.
     fn validate_part(&self, bytes: &[u8], part: u32, parts: u32) -> Option<Error> {
-        let mut fault = sys::Fault { kind: 0, text_length: 0, offset: 0, detail: 0, text: [0; 264] };
+        let mut fault = sys::Fault::none();
         // SAFETY: as in `validate`.
         match unsafe { sys::durskeyl_validate_part(&self.0, bytes.as_ptr(), bytes.len(), part, parts, &mut fault) } {
             0 => None,

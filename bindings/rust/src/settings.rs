@@ -1,9 +1,16 @@
 //! What a module is judged by.
 
 use crate::sys;
-use std::ops::{BitOr, BitOrAssign};
+use std::ops::{BitAnd, BitAndAssign, BitOr, BitOrAssign, Sub, SubAssign};
+use std::sync::OnceLock;
 
-/// A set of features, with the names and bits of wasmparser's `WasmFeatures`.
+// The first two numbers of the version, 8 bits each.
+const WANTED: u32 = 2;
+
+/// The name that wasmparser gives to [`Features`].
+pub type WasmFeatures = Features;
+
+/// A set of features, with the names of wasmparser's `WasmFeatures`. The order of the bits is ours.
 #[derive(Clone, Copy, Debug, PartialEq, Eq, Hash)]
 pub struct Features(u64);
 
@@ -42,8 +49,51 @@ impl Features {
     /// No feature, and in no named set: operators on vectors are judged like all others.
     pub const VECTORS: Features = Features(1 << 28);
 
+    /// The first release of WebAssembly, without mutable globals in imports and exports.
+    pub const MVP: Features = Features(Features::FLOATS.0 | Features::GC_TYPES.0);
+    /// WebAssembly 1.0.
+    pub const WASM1: Features = Features(Features::MVP.0 | Features::MUTABLE_GLOBAL.0);
+    /// WebAssembly 2.0.
+    pub const WASM2: Features = Features(
+        Features::WASM1.0
+            | Features::SATURATING_FLOAT_TO_INT.0
+            | Features::SIGN_EXTENSION.0
+            | Features::REFERENCE_TYPES.0
+            | Features::MULTI_VALUE.0
+            | Features::BULK_MEMORY.0
+            | Features::SIMD.0,
+    );
+    /// WebAssembly 3.0, with threads.
+    pub const WASM3: Features = Features(
+        Features::WASM2.0
+            | Features::RELAXED_SIMD.0
+            | Features::THREADS.0
+            | Features::TAIL_CALL.0
+            | Features::MULTI_MEMORY.0
+            | Features::EXCEPTIONS.0
+            | Features::MEMORY64.0
+            | Features::EXTENDED_CONST.0
+            | Features::FUNCTION_REFERENCES.0
+            | Features::GC.0,
+    );
+    /// Lime1.
+    pub const LIME1: Features = Features(
+        Features::WASM1.0
+            | Features::SATURATING_FLOAT_TO_INT.0
+            | Features::SIGN_EXTENSION.0
+            | Features::MULTI_VALUE.0
+            | Features::EXTENDED_CONST.0
+            | Features::CALL_INDIRECT_OVERLONG.0
+            | Features::BULK_MEMORY_OPT.0,
+    );
+
     /// No features.
     pub const NONE: Features = Features(0);
+
+    /// No features.
+    pub const fn empty() -> Features {
+        Features::NONE
+    }
 
     /// All features that the library knows, those of proposals too.
     pub fn all() -> Features {
@@ -101,6 +151,49 @@ impl Features {
     pub const fn without(self, others: Features) -> Features {
         Features(self.0 & !others.0)
     }
+
+    /// Whether no feature is in this set.
+    pub const fn is_empty(self) -> bool {
+        self.0 == 0
+    }
+
+    /// Whether one of those features is in this set.
+    pub const fn intersects(self, others: Features) -> bool {
+        self.0 & others.0 != 0
+    }
+
+    /// The features of both sets.
+    #[must_use]
+    pub const fn union(self, others: Features) -> Features {
+        self.with(others)
+    }
+
+    /// The features that are in each of the two sets.
+    #[must_use]
+    pub const fn intersection(self, others: Features) -> Features {
+        Features(self.0 & others.0)
+    }
+
+    /// The features of this set that are not in the other.
+    #[must_use]
+    pub const fn difference(self, others: Features) -> Features {
+        self.without(others)
+    }
+
+    /// Adds those features.
+    pub fn insert(&mut self, others: Features) {
+        *self = self.with(others);
+    }
+
+    /// Takes those features away.
+    pub fn remove(&mut self, others: Features) {
+        *self = self.without(others);
+    }
+
+    /// Adds those features, or takes them away.
+    pub fn set(&mut self, others: Features, are_there: bool) {
+        *self = if are_there { self.with(others) } else { self.without(others) };
+    }
 }
 
 impl Default for Features {
@@ -119,7 +212,35 @@ impl BitOr for Features {
 
 impl BitOrAssign for Features {
     fn bitor_assign(&mut self, others: Features) {
-        *self = self.with(others);
+        self.insert(others);
+    }
+}
+
+impl BitAnd for Features {
+    type Output = Features;
+
+    fn bitand(self, others: Features) -> Features {
+        self.intersection(others)
+    }
+}
+
+impl BitAndAssign for Features {
+    fn bitand_assign(&mut self, others: Features) {
+        *self = self.intersection(others);
+    }
+}
+
+impl Sub for Features {
+    type Output = Features;
+
+    fn sub(self, others: Features) -> Features {
+        self.without(others)
+    }
+}
+
+impl SubAssign for Features {
+    fn sub_assign(&mut self, others: Features) {
+        self.remove(others);
     }
 }
 
@@ -157,7 +278,13 @@ pub struct Settings(pub(crate) sys::Settings);
 
 impl Settings {
     /// Those by default.
+    ///
+    /// # Panics
+    ///
+    /// If the library that the program was started with has another version than this crate, whose structures may have another size: the
+    /// first two numbers have to be the same.
     pub fn new() -> Settings {
+        check_version();
         let mut settings = sys::Settings { features: 0, limits: [0; sys::LIMITS] };
         // SAFETY: the settings are lent for the call.
         unsafe { sys::durskeyl_settings_default(&mut settings) };
@@ -187,6 +314,13 @@ impl Settings {
     pub fn limit(&self, limit: Limit) -> u32 {
         self.0.limits[limit as usize]
     }
+}
+
+// Asks the library once for its version.
+fn check_version() {
+    static IS_RIGHT: OnceLock<bool> = OnceLock::new();
+    let is_right = *IS_RIGHT.get_or_init(|| (sys::durskeyl_version() & 0x00ff_ffff) >> 8 == WANTED);
+    assert!(is_right, "the crate durskeyl needs a library of its own version, and {:?} is loaded", crate::version());
 }
 
 impl Default for Settings {

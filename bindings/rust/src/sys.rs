@@ -1,5 +1,7 @@
 //! The calls of `durskeyl.h` as they are. What a caller promises is said there.
 
+use std::ffi::c_void;
+
 /// How many places the limits have.
 pub const LIMITS: usize = 24;
 
@@ -19,6 +21,21 @@ pub struct Fault {
     pub offset: u64,
     pub detail: u64,
     pub text: [u8; 264],
+}
+
+impl Fault {
+    /// One that says nothing, for a call to write into.
+    pub(crate) fn none() -> Fault {
+        Fault { kind: 0, text_length: 0, offset: 0, detail: 0, text: [0; 264] }
+    }
+}
+
+/// `durskeyl_pieces`.
+#[repr(C)]
+#[derive(Debug)]
+pub struct Pieces {
+    pub inside: *mut c_void,
+    pub begun: u64,
 }
 
 /// `durskeyl_import`.
@@ -57,6 +74,10 @@ unsafe extern "C" {
         parts: u32,
         fault: *mut Fault,
     ) -> u32;
+    pub fn durskeyl_begin(settings: *const Settings, most: u64, pieces: *mut Pieces, fault: *mut Fault) -> u32;
+    pub fn durskeyl_take(pieces: *mut Pieces, bytes: *const u8, length: usize, fault: *mut Fault) -> u32;
+    pub fn durskeyl_end(pieces: *mut Pieces, fault: *mut Fault) -> u32;
+    pub fn durskeyl_drop(pieces: *mut Pieces);
     pub fn durskeyl_is_valid(bytes: *const u8, length: usize) -> u32;
     pub fn durskeyl_imports(bytes: *const u8, length: usize, rows: *mut ImportRow, capacity: usize) -> u64;
     pub fn durskeyl_exports(bytes: *const u8, length: usize, rows: *mut ExportRow, capacity: usize) -> u64;

@@ -1,14 +1,14 @@
 -- What C is told of a module whose pieces it hands over one after the other.
 use Rattle.std.specs.Prelude.{◌≡◌, ◌<◌, ◌≤◌, ◌^◌, ◌++◌, ℕ, List, length, Option, Some, None, vec_len}
-use Rattle.wasm_types.specs.decoding.ErrorValue.{ErrorValue}
 use Rattle.wasm_module_validator_import_export_places.specs.rules.Accepts.{AcceptsUnder}
 use Rattle.wasm_module_validator_streaming.specs.Awaiting.{IsNotRefused}
-use Rattle.wasm_module_validator_streaming.specs.HandedOver.{Came}
+use Rattle.wasm_module_validator_streaming.specs.HandedOver.{Came, IsTooLong}
+use Rattle.wasm_module_validator_streaming.specs.declared.handing.PieceError.{PieceError}
 use Rattle.wasm_module_validator_streaming.specs.declared.pieces.ModuleInPieces.{ModuleInPieces}
 use Rattle.wasm_module_validator.specs.declared.ValidatorId.{ValidatorId}
 use Rattle.durskeyl_c.specs.declared.settings.DurskeylSettings.{DurskeylSettings}
 use Rattle.durskeyl_c.specs.Settings.{settings_in, AreSettings}
-use Rattle.durskeyl_c.specs.Told.{number_of}
+use Rattle.durskeyl_c.specs.Told.{number_in}
 
 -- A module was begun by these settings, and these bytes came since then.
 abbrev pub Holds : Option ModuleInPieces → DurskeylSettings → List ℕ → Type 0
@@ -26,20 +26,26 @@ CanBeHeld None after = after ≡ None
 CanBeHeld (Some p) None = ⊥
 CanBeHeld (Some p) (Some q) = (q.most ≡ p.most) × (vec_len q.pending.bytes ≤ q.most)
 
--- 0 while nothing is refused, and else the number of the kind of the refusal
-abbrev pub answer_to : Option ErrorValue → ℕ
+-- the cap of the module that was begun, if one was
+abbrev pub cap_of : Option ModuleInPieces → ℕ
+cap_of None = 0
+cap_of (Some p) = p.most
+
+-- 0 while nothing is refused, and else the number of why no more is taken
+abbrev pub answer_to : Option PieceError → ℕ
 answer_to None = 0
-answer_to (Some e) = number_of e.kind
+answer_to (Some e) = number_in e
 
 -- the answer that a module gives as it is: 6 if none was begun
 abbrev pub answer_of : Option ModuleInPieces → ℕ
 answer_of None = 6
 answer_of (Some p) = answer_to p.refused
 
--- What a number tells of the bytes that came, where more may follow: 0 only if each whole item of them was judged and none is refused; 3 if there
--- was no memory, or an item that came in several pieces is longer than may be held, which is no verdict; and else, memory aside, that no module that
--- begins with them is valid.
-pub record TellsPiece (code : ℕ) (s : DurskeylSettings) (got : List ℕ) : Type 0 where
+-- What a number tells of the bytes that came, where more may follow and so many may be held: 0 only if each whole item of them was judged and none
+-- is refused; 3 if there was no memory, and 7 only if an item of them is longer than may be held, or they are more than offsets have, which are no
+-- verdicts; and else that no module that begins with them is valid.
+pub record TellsPiece (code : ℕ) (s : DurskeylSettings) (most : ℕ) (got : List ℕ) : Type 0 where
   pub going : code ≡ 0 → IsNotRefused (settings_in s) got
-  pub invalid : ¬ (code ≡ 0) → ¬ (code ≡ 3) → ¬ (code ≡ 6) → (more : List ℕ) → length (got ++ more) < 2 ^ 64
+  pub too_long : code ≡ 7 → IsTooLong (settings_in s) most got
+  pub invalid : ¬ (code ≡ 0) → ¬ (code ≡ 3) → ¬ (code ≡ 6) → ¬ (code ≡ 7) → (more : List ℕ) → length (got ++ more) < 2 ^ 64
       → ¬ AcceptsUnder (settings_in s) (got ++ more)

@@ -4,6 +4,8 @@ use Rattle.wasm_types.specs.decoding.declared.error.ErrorKind.{ErrorKind}
 use Rattle.wasm_types.specs.decoding.declared.error.ErrorKind.TheVariants.{EndOfData, MissingFeature, OutOfMemory, Failed, Other}
 use Rattle.wasm_module_validator_import_export_places.specs.rules.Accepts.{AcceptsUnder}
 use Rattle.wasm_module_validator.specs.Parts.{AcceptsPart}
+use Rattle.wasm_module_validator_streaming.specs.declared.handing.PieceError.{PieceError}
+use Rattle.wasm_module_validator_streaming.specs.declared.handing.PieceError.TheVariants as pieces
 use Rattle.durskeyl_c.specs.declared.settings.DurskeylSettings.{DurskeylSettings}
 use Rattle.durskeyl_c.specs.declared.fault.DurskeylFault.{DurskeylFault}
 use Rattle.durskeyl_c.specs.Settings.{settings_in, AreSettings}
@@ -30,6 +32,11 @@ number_of (MissingFeature f) = 2
 number_of OutOfMemory = 3
 number_of Failed = 4
 number_of Other = 5
+
+-- the number of what a module in pieces answers: of a refusal that of its kind, and 7 if an item is longer than may be held
+abbrev pub number_in : PieceError → ℕ
+number_in (pieces.Refused e) = number_of e.kind
+number_in pieces.TooLong = 7
 
 -- what a kind carries: how many bytes more would be wanted at least, or the bits of the missing feature
 abbrev pub detail_of : ErrorKind → ℕ

@@ -65,6 +65,15 @@ pub(crate) fn bad_settings(fault: &mut DurskeylFault)
     fault.kind = 6;
 }
 
+/// The fault of a module in pieces of which an item is longer than may be held.
+pub(crate) fn too_long(fault: &mut DurskeylFault)
+    ensures kind { fault.new.kind ≡ 7 }
+    ensures text { IsEnded fault.new }
+{
+    write_error(&Error::new("an item is longer than may be held", 0), fault);
+    fault.kind = 7;
+}
+
 /// Writes an error as a fault.
 pub(crate) fn write_error(error: &Error, fault: &mut DurskeylFault)
     ensures kind { fault.new.kind ≡ number_of error.now.kind }

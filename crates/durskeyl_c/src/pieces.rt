@@ -2,19 +2,19 @@
 
 ghost use Rattle.std.specs.Prelude.{◌≡◌, ◌≤◌, ◌<◌, ◌^◌, ◌++◌, ◌↔◌, ◌⊎◌, List, [], ℕ, length, IfSome, MatchOption};
 ghost use Rattle.wasm_types.specs.settings.Limits.{IsWithinCeilings};
-ghost use Rattle.wasm_module_validator_streaming.specs.HandedOver.{IsUnderWay};
+ghost use Rattle.wasm_module_validator_streaming.specs.HandedOver.{IsUnderWay, IsTooLong};
 ghost use Rattle.durskeyl_c.specs.declared.settings.DurskeylSettings.{DurskeylSettings};
 ghost use Rattle.durskeyl_c.specs.Settings.{settings_in, AreSettings};
-ghost use Rattle.durskeyl_c.specs.Told.{Told, IsEnded};
-ghost use Rattle.durskeyl_c.specs.Pieces.{Holds, HoldsAtMost, TellsPiece, answer_of, CanBeHeld};
+ghost use Rattle.durskeyl_c.specs.Told.{Told, IsEnded, number_in};
+ghost use Rattle.durskeyl_c.specs.Pieces.{Holds, HoldsAtMost, TellsPiece, answer_of, cap_of, CanBeHeld};
 
-use crate::fault::{DurskeylFault, bad_settings, no_fault, write_error};
+use crate::fault::{DurskeylFault, bad_settings, no_fault, too_long, write_error};
 use crate::handle::DurskeylPieces;
 use crate::settings::{DurskeylSettings, features_of, leaves_later, limits_of};
 use crate::validate::MOST_BYTES;
 use std::alloc::Global;
 use wasm_module_validator::ValidatorId;
-use wasm_module_validator_streaming::ModuleInPieces;
+use wasm_module_validator_streaming::{ModuleInPieces, PieceError};
 use wasm_types::{Error, Limits, WasmFeatures};
 
 /// Takes the module out of the handle, if one was begun.
@@ -40,6 +40,25 @@ fn give_back(alloc: Global, pieces: &mut DurskeylPieces)
     let _before = taken(alloc, pieces);
 }
 
+/// Writes why no more of a module in pieces is taken, and answers its number.
+fn write_piece_error(error: &PieceError, fault: &mut DurskeylFault) -> u32
+    ensures number { result ≡ number_in error.now }
+    ensures few { result ≤ 7 }
+    ensures kind { fault.new.kind ≡ result }
+    ensures text { IsEnded fault.new }
+{
+    match error {
+        PieceError::Refused(error) => {
+            write_error(error, fault);
+            fault.kind
+        }
+        PieceError::TooLong => {
+            too_long(fault);
+            7
+        }
+    }
+}
+
 /// Takes the next bytes, and writes what the module answers.
 fn take(it: &mut ModuleInPieces, bytes: &[u8], fault: &mut DurskeylFault) -> u32
     requires { IsUnderWay it.old }
@@ -47,7 +66,9 @@ fn take(it: &mut ModuleInPieces, bytes: &[u8], fault: &mut DurskeylFault) -> u32
         → Holds (Some it.new) s (got ++ bytes.now) }
     ensures answer { result ≡ answer_of (Some it.new) }
     ensures told { (s : DurskeylSettings) (got : List ℕ) → Holds (Some it.old) s got
-        → TellsPiece result s (got ++ bytes.now) }
+        → TellsPiece result s it.old.most (got ++ bytes.now) }
+    ensures few { result ≤ 7 }
+    ensures begun { ¬ (result ≡ 6) }
     ensures stays { 0 < answer_of (Some it.old) → result ≡ answer_of (Some it.old) }
     ensures held { CanBeHeld (Some it.old) (Some it.new) }
     ensures kind { fault.new.kind ≡ result }
@@ -58,10 +79,7 @@ fn take(it: &mut ModuleInPieces, bytes: &[u8], fault: &mut DurskeylFault) -> u32
             *fault = no_fault();
             0
         }
-        Err(error) => {
-            write_error(&error, fault);
-            fault.kind
-        }
+        Err(error) => write_piece_error(&error, fault),
     }
 }
 
@@ -69,8 +87,11 @@ fn take(it: &mut ModuleInPieces, bytes: &[u8], fault: &mut DurskeylFault) -> u32
 fn end(it: ModuleInPieces, fault: &mut DurskeylFault) -> u32
     requires { IsUnderWay it }
     ensures told { (s : DurskeylSettings) (got : List ℕ) → Holds (Some it) s got → length got < 2 ^ 64
-        → Told result s got }
-    ensures few { result ≤ 5 }
+        → ¬ (result ≡ 7) → Told result s got }
+    ensures too_long { (s : DurskeylSettings) (got : List ℕ) → Holds (Some it) s got → length got < 2 ^ 64
+        → result ≡ 7 → IsTooLong (settings_in s) it.most got }
+    ensures few { result ≤ 7 }
+    ensures begun { ¬ (result ≡ 6) }
     ensures stays { 0 < answer_of (Some it) → result ≡ answer_of (Some it) }
     ensures kind { fault.new.kind ≡ result }
     ensures text { IsEnded fault.new }
@@ -80,10 +101,7 @@ fn end(it: ModuleInPieces, fault: &mut DurskeylFault) -> u32
             *fault = no_fault();
             0
         }
-        Err(error) => {
-            write_error(&error, fault);
-            fault.kind
-        }
+        Err(error) => write_piece_error(&error, fault),
     }
 }
 
@@ -152,9 +170,9 @@ pub extern "C" fn durskeyl_begin(
     begin(alloc, features, limits, most, pieces, fault)
 }
 
-/// Takes the next bytes of the module that was begun: 0 if of all that came nothing is refused; 3 if there was no memory, or an item that comes
-/// in several pieces is longer than may be held; 6 if none was begun; else the number of the kind of fault for which no module that begins with
-/// these bytes is valid. A refusal stays: each later call, and the end, answers the same number.
+/// Takes the next bytes of the module that was begun: 0 if of all that came nothing is refused; 3 if there was no memory; 6 if none was begun;
+/// 7 if an item that comes in several pieces is longer than may be held; else the number of the kind of fault for which no module that begins
+/// with these bytes is valid. An answer that is not 0 stays: each later call, and the end, answers the same number.
 #[unsafe(no_mangle)]
 pub extern "C" fn durskeyl_take(
     alloc: Global,
@@ -166,12 +184,12 @@ pub extern "C" fn durskeyl_take(
     ensures came { (s : DurskeylSettings) (got : List ℕ) → Holds pieces.old.inside.value s got
         → Holds pieces.new.inside.value s (got ++ bytes.now) }
     ensures told { (s : DurskeylSettings) (got : List ℕ) → Holds pieces.old.inside.value s got
-        → TellsPiece result s (got ++ bytes.now) }
+        → TellsPiece result s (cap_of pieces.old.inside.value) (got ++ bytes.now) }
     ensures answer { result ≡ answer_of pieces.new.inside.value }
     ensures begun { (result ≡ 6) ↔ (pieces.old.inside.value ≡ None) }
     ensures stays { 0 < answer_of pieces.old.inside.value → result ≡ answer_of pieces.old.inside.value }
     ensures held { CanBeHeld pieces.old.inside.value pieces.new.inside.value }
-    ensures few { result ≤ 6 }
+    ensures few { result ≤ 7 }
     ensures kind { fault.new.kind ≡ result }
     ensures text { IsEnded fault.new }
 {
@@ -189,8 +207,8 @@ pub extern "C" fn durskeyl_take(
     answer
 }
 
-/// The verdict on the module whose bytes are all that were taken: what `durskeyl_validate` tells of them all at once, where a cap that was
-/// too small is no memory; or 6 if none was begun. Then none is begun, and its memory is given back.
+/// The verdict on the module whose bytes are all that were taken: what `durskeyl_validate` tells of them all at once; or 7 if an item was longer
+/// than may be held, and 6 if none was begun. Then none is begun, and its memory is given back.
 #[unsafe(no_mangle)]
 pub extern "C" fn durskeyl_end(
     alloc: Global,
@@ -199,11 +217,13 @@ pub extern "C" fn durskeyl_end(
 ) -> u32
     requires { IfSome pieces.old.inside.value IsUnderWay }
     ensures told { (s : DurskeylSettings) (got : List ℕ) → Holds pieces.old.inside.value s got → length got < 2 ^ 64
-        → Told result s got }
+        → ¬ (result ≡ 7) → Told result s got }
+    ensures too_long { (s : DurskeylSettings) (got : List ℕ) → Holds pieces.old.inside.value s got → length got < 2 ^ 64
+        → result ≡ 7 → IsTooLong (settings_in s) (cap_of pieces.old.inside.value) got }
     ensures begun { (result ≡ 6) ↔ (pieces.old.inside.value ≡ None) }
     ensures stays { 0 < answer_of pieces.old.inside.value → result ≡ answer_of pieces.old.inside.value }
     ensures empty { pieces.new.inside.value ≡ None }
-    ensures few { result ≤ 6 }
+    ensures few { result ≤ 7 }
     ensures kind { fault.new.kind ≡ result }
     ensures text { IsEnded fault.new }
 {

@@ -1,27 +1,23 @@
-//! `wasm-check [--features LIST] [--limits LIST] [--pieces N] FILE...` says of each file whether it is a valid WebAssembly module.
+//! `wasm-check [OPTIONS] FILE...` says of each file whether it is a valid WebAssembly module.
 #![tactic(auto)]
 
+use std::io::IsTerminal;
 use std::process::ExitCode;
-use std::{env, io};
-use wasm_check_program::run;
-
-/// The words of the command line.
-fn words(rt: &HostRuntime) -> io::Result<Vec<String>> {
-    Ok(env::args(rt)?.collect(rt.alloc())?)
-}
+use wasm_check_program::{run_at, words};
 
 fn main(rt: HostRuntime) -> ExitCode {
-    let status = match words(&rt) {
-        Ok(words) => run(&rt, words.as_slice(), &mut rt.stdout(), &mut rt.stderr()),
-        Err(error) => {
-            let fault = if error.kind() == io::ErrorKind::OutOfMemory {
-                "out of memory"
-            } else {
-                "a word of the command line is not UTF-8"
-            };
-            let _ = eprintln!(rt; "wasm-check: {fault}");
-            2
-        }
+    let Ok(words) = words(&rt) else {
+        let _ = eprintln!(rt; "wasm-check: out of memory");
+        return ExitCode::from(2);
     };
+    let mut err = rt.stderr();
+    let at_terminal = err.is_terminal();
+    let status = run_at(
+        &rt,
+        words.as_slice(),
+        at_terminal,
+        &mut rt.stdout(),
+        &mut err,
+    );
     ExitCode::from(status)
 }

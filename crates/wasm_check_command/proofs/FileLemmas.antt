@@ -11,7 +11,7 @@ use Rattle.clap.specs.Matches.{found_of, matched_of, raw_values, first_value}
 use Rattle.clap.proofs.WalkLemmas.{raw_values-rows, first_value-rows}
 use Rattle.clap.specs.declared.parser.matches.ArgMatches.{ArgMatches}
 use Rattle.wasm_check_command.specs.Words.{wasm_check, IsHelp, AsksForHelp, AsksForTable, files_of, matches_on, refusals_of}
-use Rattle.wasm_check_command.specs.declared.command.Fault.{Fault}
+use Rattle.wasm_check_faults.specs.declared.faults.Fault.{Fault}
 use Rattle.wasm_check_command.specs.declared.judging.Status.{Status}
 use Rattle.wasm_check_command.specs.declared.judging.Status.TheVariants.{AllValid, SomeInvalid}
 use Rattle.wasm_types.specs.settings.Settings.{Settings}
@@ -21,7 +21,7 @@ use Rattle.wasm_check_command.specs.declared.judging.Chosen.{Chosen}
 use Rattle.wasm_check_command.specs.Files.{texts, lists_in, code_of, code_of_ended, ReportsBy, ReportsEnd, StopsBy, Reports, HasNoStatus, IsUnshown, EndsRun, EndsBy, GoesOn, StopsFiles, StopsGoingBy}
 use Rattle.wasm_check_command.specs.declared.files.Ended.{Ended}
 use Rattle.wasm_check_lines.specs.declared.forms.Form.{Form}
-use Rattle.wasm_check_command.specs.declared.command.Fault.TheVariants as faults
+use Rattle.wasm_check_faults.specs.declared.faults.Fault.TheVariants as faults
 use Rattle.std.specs.Io.KnownBytes.{Keeps}
 use Rattle.clap.specs.Kinds.{HasKind, IsAmong}
 use Rattle.clap.specs.Values.{kind_of}

@@ -9,14 +9,14 @@ use Rattle.std.proofs.Math.Seq.{take-suc, take-append_seam, get_or-append_seam}
 use Rattle.std.proofs.lemmas.List.{length-map, length-take, length-take-le, length_push, map-append, map-id, take-map, take-take, take_all, take_min, get_or-take}
 use Rattle.std.proofs.lemmas.List.Elements.{Contains-get_or, Contains-append_left, Contains-append_right}
 use Rattle.std.proofs.lemmas.Option.{slice_get-map, slice_get_read, slice_get_within, get_or_from_slice_get}
-use Rattle.wasm_check_command.specs.declared.error.CheckError.{CheckError}
-use Rattle.wasm_check_command.specs.declared.error.CheckError.TheVariants.{Read, TooLong, OutOfMemory, Write}
+use Rattle.wasm_check_faults.specs.declared.error.CheckError.{CheckError}
+use Rattle.wasm_check_faults.specs.declared.error.CheckError.TheVariants.{Read, TooLong, OutOfMemory, Write}
 use Rattle.wasm_check_command.specs.declared.judging.Input.{Input}
 use Rattle.wasm_check_command.specs.declared.judging.Status.{Status}
 use Rattle.wasm_check_command.specs.declared.judging.Status.TheVariants.{AllValid, SomeInvalid}
-use Rattle.wasm_check_command.specs.declared.command.Fault.{Fault}
+use Rattle.wasm_check_faults.specs.declared.faults.Fault.{Fault}
 use Rattle.wasm_check_command.specs.declared.files.Ended.{Ended}
-use Rattle.wasm_check_command.specs.declared.command.Fault.TheVariants as faults
+use Rattle.wasm_check_faults.specs.declared.faults.Fault.TheVariants as faults
 use Rattle.wasm_types.specs.settings.Settings.{Settings}
 use Rattle.wasm_check_command.specs.Settings.{settings_by}
 use Rattle.wasm_check_command.specs.Manners.{Manner}

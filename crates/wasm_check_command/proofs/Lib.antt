@@ -1,10 +1,5 @@
-pub mod InLine
 pub mod WordLemmas
 pub mod LineLemmas
 pub mod ReportLemmas
 pub mod FileReports
 pub mod FileLemmas
-pub mod ListLemmas
-pub mod FeatureLemmas
-pub mod RowsOfLists
-pub mod LimitLemmas

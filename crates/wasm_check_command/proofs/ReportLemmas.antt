@@ -4,8 +4,8 @@ use Rattle.std.proofs.Common.{subst, length, take, map, slice_get, get_or, appen
 use Rattle.std.specs.Io.KnownBytes.{Appends, Keeps}
 use Rattle.std.proofs.KnownBytes.{Appends-nil, Appends-trans, Appends-kept}
 use Rattle.std.proofs.lemmas.List.Elements.{All-append, All-cons, All-nil, Contains-append_left, Contains-append_right}
-use Rattle.wasm_check_command.specs.declared.error.CheckError.{CheckError}
-use Rattle.wasm_check_command.specs.declared.error.CheckError.TheVariants.{Read, TooLong, OutOfMemory, Write}
+use Rattle.wasm_check_faults.specs.declared.error.CheckError.{CheckError}
+use Rattle.wasm_check_faults.specs.declared.error.CheckError.TheVariants.{Read, TooLong, OutOfMemory, Write}
 use Rattle.wasm_check_command.specs.declared.judging.Status.{Status}
 use Rattle.wasm_check_command.specs.declared.judging.Status.TheVariants.{AllValid, SomeInvalid}
 use Rattle.wasm_check_command.specs.Modes.{Ruling}

@@ -1,33 +1,23 @@
 -- What the program does with the files that it is given.
-use Rattle.std.specs.Prelude.{◌≡◌, ℕ, Bool, IsTrue, true, false, ◌<◌, ◌≤◌, ◌⊎◌, codes, length, List, [], ◌∷◌, ◌++◌, option_and_then, map, take, Contains, slice_get, option_map, Option, Some, None, Result, Ok, Err}
+use Rattle.std.specs.Prelude.{◌≡◌, ℕ, Bool, IsTrue, true, false, ◌<◌, ◌≤◌, ◌⊎◌, length, List, [], ◌∷◌, map, take, Contains, slice_get, option_map, Option, Some, None, Result, Ok, Err}
 use Rattle.std.specs.Borrow.{Bor}
 use Rattle.std.specs.Io.KnownBytes.{Appends, Keeps}
 use Rattle.clap.specs.declared.error.kind.ErrorKind.{ErrorKind}
-use Rattle.wasm_check_command.specs.declared.error.CheckError.{CheckError}
-use Rattle.wasm_check_command.specs.declared.error.CheckError.TheVariants.{Read, TooLong, OutOfMemory, Write}
+use Rattle.wasm_check_faults.specs.declared.error.CheckError.{CheckError}
+use Rattle.wasm_check_faults.specs.declared.error.CheckError.TheVariants.{Read, TooLong, OutOfMemory, Write}
 use Rattle.wasm_check_command.specs.declared.judging.Mode.{Mode}
 use Rattle.wasm_check_command.specs.declared.judging.Status.{Status}
 use Rattle.wasm_check_command.specs.declared.judging.Status.TheVariants.{AllValid, SomeInvalid}
-use Rattle.wasm_check_command.specs.declared.command.Fault.{Fault}
+use Rattle.wasm_check_faults.specs.declared.faults.Fault.{Fault}
 use Rattle.wasm_check_command.specs.declared.command.Options.{Options}
 use Rattle.wasm_check_command.specs.declared.files.Ended.{Ended}
-use Rattle.wasm_check_command.specs.declared.command.Fault.TheVariants as faults
-use Rattle.wasm_check_command.specs.declared.reason.Reason.{Reason}
-use Rattle.wasm_check_command.specs.Reasons.{reason_text}
-use Rattle.wasm_check_lines.specs.Shown.{shown}
+use Rattle.wasm_check_faults.specs.declared.faults.Fault.TheVariants as faults
 use Rattle.wasm_types.specs.settings.Settings.{Settings}
 use Rattle.wasm_check_command.specs.Words.{files_of, IsHelp, AsksForHelp, NamesNoFiles}
 use Rattle.wasm_check_command.specs.Settings.{Asked, IsGiven, IsUnknownIn, IsWrongIn, asked_by, manner_by, features_by, mode_by}
-use Rattle.wasm_check_command.specs.LimitLists.{limit_name, limit_of, field_of}
-use Rattle.wasm_check_command.specs.FeatureLists.{meant_by}
 use Rattle.wasm_check_command.specs.Lines.{BeginsLineOf}
-use Rattle.wasm_check_command.specs.declared.limits.Field.{Field}
-use Rattle.wasm_check_lines.specs.FeatureWords.{word_for}
 use Rattle.wasm_check_lines.specs.declared.forms.Form.{Form}
 use Rattle.wasm_check_lines.specs.declared.forms.Form.TheVariants.{Lines, Json, Quiet}
-use Rattle.wasm_types.specs.settings.Limits.{ceilings}
-use Rattle.std.specs.Fmt.{decimal}
-use Rattle.wasm_check_command.specs.declared.limits.Wrong.TheVariants.{Unknown, BadValue}
 use Rattle.wasm_check_command.specs.Modes.{Ruling, ruled}
 use Rattle.wasm_check_command.specs.Opened.{kept_open}
 use Rattle.wasm_check_command.specs.Verdict.{IsJudged, FailsAt}
@@ -361,40 +351,6 @@ HasNoStatus accepts words old new = ReportsWords words old new
 -- Where clap's answer was not shown as help: nothing was written, or it is the help, of which some was.
 abbrev pub IsUnshown : ErrorKind → Option (List ℕ) → Option (List ℕ) → Type 0
 IsUnshown kind old new = Keeps old new ⊎ (IsHelp kind × Grows old new)
-
--- what is written of a file at which the judging stopped
-abbrev pub stopped_text : CheckError → List ℕ → Reason → List ℕ
-stopped_text (Read i) name reason = codes "wasm-check: " ++ shown name ++ (codes ": cannot read" ++ reason_text reason)
-stopped_text (TooLong i) name reason = codes "wasm-check: " ++ shown name ++ codes ": too long"
-stopped_text (OutOfMemory i) name reason = codes "wasm-check: " ++ shown name ++ codes ": out of memory"
-stopped_text Write name reason = codes "wasm-check: cannot write"
-
--- what is written of a file that could not be opened
-abbrev pub unopened_text : List ℕ → Reason → List ℕ
-unopened_text name reason = codes "wasm-check: " ++ shown name ++ (codes ": cannot open" ++ reason_text reason)
-
--- which word is meant, if one is
-abbrev pub meant_text : Option (List ℕ) → List ℕ
-meant_text None = []
-meant_text (Some word) = codes " (did you mean `" ++ word ++ codes "`?)"
-
--- the most that a limit may be, if it is one
-abbrev pub ceiling_text : Option Field → List ℕ
-ceiling_text None = []
-ceiling_text (Some f) = codes " (at most " ++ decimal (limit_of f ceilings) ++ codes ")"
-
--- what a fault writes
-abbrev pub fault_text : Fault → List ℕ
-fault_text (faults.CannotOpen name reason) = unopened_text name.now reason
-fault_text (faults.Stopped error name reason) = stopped_text error name.now reason
-fault_text (faults.CannotHold reason) = unopened_text (codes "/dev/null") reason
-fault_text (faults.UnknownFeature word) =
-    codes "wasm-check: unknown feature `" ++ shown word.now ++ codes "`" ++ meant_text (option_and_then word_for (meant_by word.now))
-fault_text (faults.WrongPieces word) = codes "wasm-check: bad piece size `" ++ shown word.now ++ codes "`"
-fault_text (faults.WrongLimit Unknown word) = codes "wasm-check: unknown limit `" ++ shown (limit_name word.now) ++ codes "`"
-fault_text (faults.WrongLimit BadValue word) =
-    codes "wasm-check: bad limit `" ++ shown word.now ++ codes "`" ++ ceiling_text (field_of (limit_name word.now))
-fault_text faults.OutOfMemory = codes "wasm-check: out of memory"
 
 -- how a run over the files of these words ends, by its status
 abbrev pub EndsRun : (Settings → List ℕ → Type 0) → List (List ℕ) → Option (List ℕ) → Option (List ℕ) → ℕ → Type 0

@@ -1,7 +1,9 @@
 -- What the line of an input says. Here and in the files behind this one a `Ruling` says which bytes are valid, and how it is written.
-use Rattle.std.specs.Prelude.{◌≡◌, ℕ, ◌⊎◌, IsTrue, List, [], ◌++◌, Option}
+use Rattle.std.specs.Prelude.{◌≡◌, ℕ, ◌⊎◌, IsTrue, List, [], ◌++◌, Option, None}
 use Rattle.wasm_types.specs.decoding.ErrorValue.{ErrorValue}
-use Rattle.wasm_check_lines.specs.Forms.{Notes, valid_text, refused_text}
+use Rattle.wasm_types.specs.settings.declared.Limits.{Limits}
+use Rattle.wasm_check_lines.specs.declared.notes.Explanation.{Explanation}
+use Rattle.wasm_check_lines.specs.Forms.{valid_text, refused_text}
 use Rattle.wasm_check_command.specs.Modes.{Ruling, AreLeft}
 use Rattle.wasm_check_command.specs.Manners.{Manner}
 
@@ -11,14 +13,14 @@ pub record HasBytes (ruling : Ruling) (said : Option (List ℕ)) (bytes : List �
   pub within : ruling.fits bytes
 
 -- there is an explanation only if one is asked for
-abbrev pub IsExplained : Manner → Notes → Type 0
-IsExplained manner notes = IsTrue manner.explains ⊎ (notes ≡ [])
+abbrev pub IsExplained : Manner → Option Explanation → Type 0
+IsExplained manner x = IsTrue manner.explains ⊎ (x ≡ None)
 
 -- The text says of these bytes whether they spell a valid module; where they do not, it tells an error, and maybe an explanation.
 abbrev pub IsLine : Ruling → List ℕ → List ℕ → List ℕ → Type 0
 IsLine ruling name bytes line = (ruling.accepts bytes × (line ≡ valid_text ruling.manner.form name))
-    ⊎ (¬ ruling.accepts bytes × ((e : ErrorValue) × (notes : Notes) × IsExplained ruling.manner notes
-    × (line ≡ refused_text ruling.manner.form name e (ruling.seen bytes) notes)))
+    ⊎ (¬ ruling.accepts bytes × ((e : ErrorValue) × (limits : Limits) × (x : Option Explanation) × IsExplained ruling.manner x
+    × (line ≡ refused_text ruling.manner.form ruling.manner.explains name limits e (ruling.seen bytes) x)))
 
 -- this begins the line of these bytes
 abbrev pub BeginsLine : Ruling → List ℕ → List ℕ → List ℕ → Type 0

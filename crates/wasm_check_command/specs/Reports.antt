@@ -4,8 +4,8 @@ use Rattle.std.specs.Io.KnownBytes.{Appends}
 use Rattle.wasm_check_command.specs.declared.judging.Input.{Input}
 use Rattle.wasm_check_command.specs.declared.judging.Status.{Status}
 use Rattle.wasm_check_command.specs.declared.judging.Status.TheVariants.{AllValid, SomeInvalid}
-use Rattle.wasm_check_command.specs.declared.error.CheckError.{CheckError}
-use Rattle.wasm_check_command.specs.declared.error.CheckError.TheVariants.{Read, TooLong, OutOfMemory, Write}
+use Rattle.wasm_check_faults.specs.declared.error.CheckError.{CheckError}
+use Rattle.wasm_check_faults.specs.declared.error.CheckError.TheVariants.{Read, TooLong, OutOfMemory, Write}
 use Rattle.wasm_check_command.specs.Lines.{HasBytes, IsLine, BeginsLineOf}
 use Rattle.wasm_check_command.specs.Modes.{Ruling, IsTooLong}
 

@@ -8,14 +8,14 @@ use Rattle.std.specs.Int.RustNames.{bit_or}
 use Rattle.wasm_check_lines.specs.declared.forms.Form.{Form}
 use Rattle.wasm_check_lines.specs.declared.forms.Form.TheVariants.{Lines, Json, Quiet}
 use Rattle.wasm_types.specs.settings.Sets.{bits_of, default_features}
-use Rattle.wasm_check_command.specs.Lists.{Place, IsWordAt, place_of}
+use Rattle.wasm_check_faults.specs.Lists.{Place, IsWordAt, place_of}
 use Rattle.wasm_check_command.specs.Manners.{Manner}
-use Rattle.wasm_check_command.specs.FeatureLists.{features_through}
+use Rattle.wasm_check_faults.specs.FeatureLists.{features_through}
 use Rattle.wasm_check_command.specs.declared.judging.Chosen.{Chosen}
 use Rattle.wasm_check_command.specs.declared.judging.Mode.{Mode}
 use Rattle.wasm_check_command.specs.declared.judging.Mode.TheVariants.{Whole, Pieces}
-use Rattle.wasm_check_command.specs.declared.limits.Wrong.{Wrong}
-use Rattle.wasm_check_command.specs.LimitLists.{ListFault, limits_through, number_of}
+use Rattle.wasm_check_faults.specs.declared.limits.Wrong.{Wrong}
+use Rattle.wasm_check_faults.specs.LimitLists.{ListFault, limits_through, number_of}
 use Rattle.wasm_check_command.specs.Words.{features_lists, limits_lists, pieces_number, has_flag}
 
 -- the features by the lists of `--features`, and by default if there is none

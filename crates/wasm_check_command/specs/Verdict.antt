@@ -1,8 +1,8 @@
 -- What is written of one input.
 use Rattle.std.specs.Prelude.{◌≡◌, ◌↔◌, ℕ, Bool, IsTrue, List, ◌++◌, Option}
 use Rattle.std.specs.Io.KnownBytes.{Appends, Keeps}
-use Rattle.wasm_check_command.specs.declared.error.CheckError.{CheckError}
-use Rattle.wasm_check_command.specs.declared.error.CheckError.TheVariants.{Read, TooLong, OutOfMemory, Write}
+use Rattle.wasm_check_faults.specs.declared.error.CheckError.{CheckError}
+use Rattle.wasm_check_faults.specs.declared.error.CheckError.TheVariants.{Read, TooLong, OutOfMemory, Write}
 use Rattle.wasm_check_command.specs.Lines.{HasBytes, IsLine, BeginsLine, BeginsLineOf}
 use Rattle.wasm_check_command.specs.Modes.{Ruling, IsTooLong}
 

@@ -7,32 +7,28 @@ ghost use Rattle.clap.specs.declared.error.kind.ErrorKind.TheVariants.{OutOfMemo
 ghost use Rattle.wasm_check_command.specs.Words.{IsHelp, matches_on, refusals_of, file_rule, flag_rule, list_rule, option_rule, with_forms, with_stops};
 ghost use Rattle.wasm_check_command.specs.Words.{with_values, wasm_check, is_set, has_flag};
 ghost use Rattle.wasm_check_command.specs.Commands.{AreRead};
-ghost use Rattle.wasm_check_command.specs.LineLaws.{FaultsStayInLine};
 ghost use Rattle.wasm_types.specs.settings.Limits.{IsWithinCeilings};
 ghost use Rattle.wasm_check_command.specs.Modes.{CanJudge, HasPieces, manner_of, ruling_of};
 ghost use Rattle.wasm_check_command.specs.Settings.{IsGiven, asked_by, features_by, form_by, limits_by, manner_by, mode_by, pieces_of, settings_of, with_vectors};
-ghost use Rattle.std.specs.Fmt.{WritesOnOk};
-ghost use Rattle.wasm_check_command.specs.Files.{texts, lists_in, unopened_text, code_of, code_of_ended, Reports, Grows, ShowsHelp, HasNoStatus, IsUnshown, EndsRun};
+ghost use Rattle.wasm_check_command.specs.Files.{texts, lists_in, code_of, code_of_ended, Reports, Grows, ShowsHelp, HasNoStatus, IsUnshown, EndsRun};
 ghost use Rattle.wasm_check_command.specs.Files.{asked_of, RefusesPieces, RefusesFeatures, RefusesLimits, StopsEarly, ReportsEnd, StopsBy};
 ghost use Rattle.wasm_check_command.specs.Files.{EndsBy, StopsFiles, StopsGoingBy};
 
-use crate::error::CheckError;
-use crate::faults::{write_bad_limit, write_unknown_feature, write_unknown_limit};
-use crate::features::find_features;
 use crate::files::{Ended, judge_files, name_at};
 use crate::going::judge_going;
 use crate::judging::{Chosen, Judge, Mode, Status, write_text};
-use crate::limits::{Wrong, default_limits, find_limits, number_in};
-use crate::reason::Reason;
 use crate::tables::table_asked;
+use crate::telling::report;
 use bitflags::Flags;
 use clap::error::ErrorKind;
 use clap::{Arg, ArgAction, ArgMatches, Command};
 use std::alloc::{AllocError, Global};
 use std::convert::AsStr;
-use std::fmt;
 use std::io::{Input, Write};
 use std::rt::Files;
+use wasm_check_faults::{
+    Below, CheckError, Fault, Reason, default_limits, find_features, find_limits, number_in,
+};
 use wasm_check_lines::{Form, Shown};
 use wasm_types::{Limits, WasmFeatures};
 
@@ -59,81 +55,8 @@ struct Options<'m, 'a> {
     explains: bool,
     /// Whether `--keep-going` is there.
     goes_on: bool,
-}
-
-/// Why a run came to no status of its files.
-#[derive(Debug, Drop)]
-pub(crate) enum Fault<'a> {
-    /// This is no number of bytes for `--pieces`.
-    WrongPieces(&'a str),
-    /// The list of `--features` has this word, which is unknown.
-    UnknownFeature(&'a str),
-    /// The list of `--limits` has this word, with which this is wrong.
-    WrongLimit(Wrong, &'a str),
-    /// This file could not be opened, for this reason.
-    CannotOpen {
-        name: &'a str,
-        reason: Reason,
-    },
-    /// The judging stopped, at the file of this name where the error has a place; and where a read failed, for this reason.
-    Stopped {
-        error: CheckError,
-        name: &'a str,
-        reason: Reason,
-    },
-    /// Standard input is asked for, and cannot be held: another file may be read in its place.
-    CannotHold(Reason),
-    /// Memory ran out outside a file.
-    OutOfMemory,
-}
-
-impl fmt::Display for Fault<'_> {
-    ghost use Rattle.std.specs.Prelude.{Some};
-    ghost use Rattle.wasm_check_command.specs.Files.{fault_text};
-
-    ghost output = { λ f. Some (fault_text f) };
-
-    fn fmt<W: fmt::Write>(&self, f: &mut fmt::Formatter<W>) -> fmt::Result {
-        match self {
-            Fault::WrongPieces(word) => {
-                let word = Shown(*word);
-                write!(f, "wasm-check: bad piece size `{word}`")
-            }
-            Fault::UnknownFeature(word) => write_unknown_feature(f, *word),
-            Fault::WrongLimit(wrong, word) => match wrong {
-                Wrong::Unknown => write_unknown_limit(f, *word),
-                Wrong::BadValue => write_bad_limit(f, *word),
-            },
-            Fault::CannotHold(reason) => write_unopened(f, "/dev/null", *reason),
-            Fault::CannotOpen { name, reason } => write_unopened(f, *name, *reason),
-            Fault::Stopped {
-                error,
-                name,
-                reason,
-            } => {
-                let name = Shown(*name);
-                match error {
-                    CheckError::Read(_) => write!(f, "wasm-check: {name}: cannot read{reason}"),
-                    CheckError::TooLong(_) => write!(f, "wasm-check: {name}: too long"),
-                    CheckError::OutOfMemory(_) => write!(f, "wasm-check: {name}: out of memory"),
-                    CheckError::Write => write!(f, "wasm-check: cannot write"),
-                }
-            }
-            Fault::OutOfMemory => write!(f, "wasm-check: out of memory"),
-        }
-    }
-}
-
-// What is told of a file that could not be opened.
-fn write_unopened<W: fmt::Write>(
-    f: &mut fmt::Formatter<W>,
-    name: &str,
-    reason: Reason,
-) -> fmt::Result
-    ensures { WritesOnOk W.write_str_gives f.old result (unopened_text name.now reason) f.new }
-{
-    let name = Shown(name);
-    write!(f, "wasm-check: {name}: cannot open{reason}")
+    /// Whether standard error is a person's terminal.
+    at_terminal: bool,
 }
 
 /// The files, of which there is at least one.
@@ -297,7 +220,7 @@ fn join_limits<'a>(lists: &[&'a str]) -> Result<Limits, Fault<'a>>
 }
 
 /// The features by the lists of `--features`, or those by default.
-#[tactic(auto, unfolding(crate::specs::Lists::through_lists))]
+#[tactic(auto, unfolding(wasm_check_faults::specs::Lists::through_lists))]
 fn read_features<'a>(lists: Option<&[&'a str]>) -> Result<WasmFeatures, Fault<'a>>
     ensures ok { IfOk result (λ f. features_by (lists_in lists.entry) ≡ Ok f.0) }
     ensures err { IfErr result (RefusesFeatures (lists_in lists.entry)) }
@@ -309,7 +232,7 @@ fn read_features<'a>(lists: Option<&[&'a str]>) -> Result<WasmFeatures, Fault<'a
 }
 
 /// The limits by the lists of `--limits`, or those by default.
-#[tactic(auto, unfolding(crate::specs::Lists::through_lists))]
+#[tactic(auto, unfolding(wasm_check_faults::specs::Lists::through_lists))]
 fn read_limits<'a>(lists: Option<&[&'a str]>) -> Result<Limits, Fault<'a>>
     ensures ok { IfOk result (λ l. limits_by (lists_in lists.entry) ≡ Ok l) }
     ensures within { IfOk result IsWithinCeilings }
@@ -395,7 +318,17 @@ fn read_options<'a>(options: &Options<'_, 'a>) -> Result<Chosen, Fault<'a>>
         mode,
         form: options.form,
         explains: options.explains,
+        below: below_of(options.form, options.at_terminal),
     })
+}
+
+/// What is told below the line of a fault if verdicts have this form.
+fn below_of(form: Form, at_terminal: bool) -> Below {
+    match form {
+        Form::Json => Below::Object,
+        _ if at_terminal => Below::Hint,
+        _ => Below::Nothing,
+    }
 }
 
 /// Judges files as the options ask, and stops at the first that comes to no verdict or goes on.
@@ -451,28 +384,6 @@ fn judge_by_options<'a, J: Judge, F: Files + Input, W: Write, E: Write>(
     judge_chosen(judge, alloc, rt, options.goes_on, chosen, names, out, err)
 }
 
-/// Tells a fault in one line, which is written whole if memory allows.
-pub(crate) fn tell<E: Write>(alloc: Global, fault: &Fault<'_>, err: &mut E) {
-    // The status tells the fault where its line can't be written.
-    match format!(in alloc; "{fault}\n") {
-        Ok(line) => {
-            let _ = write_text(line.as_bytes(), err);
-        }
-        Err(_) => {
-            let _ = writeln!(err, "{fault}");
-        }
-    }
-    let _ = err.flush();
-}
-
-/// Says why there is no status of the files.
-fn report<E: Write>(alloc: Global, fault: &Fault<'_>, err: &mut E) -> u8
-    ensures { result ≡ 2 }
-{
-    tell(alloc, fault, err);
-    2
-}
-
 /// These words as they are shown.
 fn shown_words<S: AsStr>(alloc: Global, words: &[S]) -> Result<Vec<String>, AllocError> {
     let mut shown = Vec::new(alloc);
@@ -502,11 +413,11 @@ fn tell_usage<S: AsStr, E: Write>(alloc: Global, words: &[S], err: &mut E) -> u8
     ensures { result ≡ 2 }
 {
     let Ok(shown) = shown_words(alloc, words) else {
-        return report(alloc, &Fault::OutOfMemory, err);
+        return report(alloc, &Fault::OutOfMemory, Below::Nothing, err);
     };
     if let Err(answer) = parse(alloc, shown.as_slice()) {
         let Ok(text) = format!(in alloc; "{answer}") else {
-            return report(alloc, &Fault::OutOfMemory, err);
+            return report(alloc, &Fault::OutOfMemory, Below::Nothing, err);
         };
         let _ = write_text(text.as_bytes(), err);
         let _ = err.flush();
@@ -530,13 +441,13 @@ fn show<S: AsStr, W: Write, E: Write>(
     ensures quiet { result < 2 → Keeps (E.contents err.old) (E.contents err.new) }
 {
     if answer.kind() == ErrorKind::OutOfMemory {
-        return report(alloc, &Fault::OutOfMemory, err);
+        return report(alloc, &Fault::OutOfMemory, Below::Nothing, err);
     }
     if answer.use_stderr() {
         return tell_usage(alloc, words, err);
     }
     let Ok(text) = help_text(alloc, words) else {
-        return report(alloc, &Fault::OutOfMemory, err);
+        return report(alloc, &Fault::OutOfMemory, Below::Nothing, err);
     };
     show_text(alloc, text.as_str(), out, err)
 }
@@ -553,7 +464,7 @@ fn show_text<W: Write, E: Write>(alloc: Global, text: &str, out: &mut W, err: &m
             name: "",
             reason: Reason::Unknown,
         };
-        return report(alloc, &fault, err);
+        return report(alloc, &fault, Below::Nothing, err);
     }
     0
 }
@@ -583,13 +494,18 @@ fn code_of_ended(ended: Ended) -> u8
 }
 
 /// The exit status of what was judged, and a line for a fault.
-fn conclude<E: Write>(alloc: Global, judged: &Result<Ended, Fault<'_>>, err: &mut E) -> u8
+fn conclude<E: Write>(
+    alloc: Global,
+    judged: &Result<Ended, Fault<'_>>,
+    below: Below,
+    err: &mut E,
+) -> u8
     ensures code { result ≡ code_of judged.now }
     ensures quiet { result < 2 → Keeps (E.contents err.old) (E.contents err.new) }
 {
     match judged {
         Ok(ended) => code_of_ended(*ended),
-        Err(fault) => report(alloc, fault, err),
+        Err(fault) => report(alloc, fault, below, err),
     }
 }
 
@@ -609,7 +525,7 @@ fn has_flag(matches: &ArgMatches<'_>, name: &str) -> bool
 }
 
 /// What the options ask for, as `clap` found them.
-fn options_of<'m, 'a>(matches: &'m ArgMatches<'a>) -> Options<'m, 'a>
+fn options_of<'m, 'a>(matches: &'m ArgMatches<'a>, at_terminal: bool) -> Options<'m, 'a>
     ensures { (words : List (List ℕ)) → rows_of (found_of matches.now) ≡ matches_on words → asked_of result ≡ asked_by words }
 {
     let features = lists_of(matches, "features");
@@ -628,6 +544,7 @@ fn options_of<'m, 'a>(matches: &'m ArgMatches<'a>) -> Options<'m, 'a>
         form: form_by(quiet, json),
         explains,
         goes_on,
+        at_terminal,
     }
 }
 
@@ -637,6 +554,7 @@ fn run_matches<'a, J, F, W, E>(
     rt: &F,
     alloc: Global,
     matches: &ArgMatches<'a>,
+    at_terminal: bool,
     out: &mut W,
     err: &mut E,
 ) -> u8
@@ -655,9 +573,9 @@ where
     if names.is_empty() {
         return 2;
     }
-    let options = options_of(matches);
+    let options = options_of(matches, at_terminal);
     let judged = judge_by_options(judge, alloc, rt, &options, names, out, err);
-    conclude(alloc, &judged, err)
+    conclude(alloc, &judged, below_of(options.form, at_terminal), err)
 }
 
 /// Runs the program on these words, of which the first is its own name, and gives its exit status:
@@ -665,8 +583,17 @@ where
 /// the words name no files by `clap`'s reading or have a list that is refused, and then nothing is written to `out`, if a fault stopped the
 /// judging or the help, or if a file came to no verdict and the judging went on. The files are judged by the features and limits that the
 /// words ask for. All files are opened before the first is judged, except with `--keep-going`; those past the first hundred are then closed,
-/// and opened again in their turn, and so are all if the system does not let so many be open. The file `-` is standard input.
-pub fn run_by<'a, J, F, S, W, E>(judge: &J, rt: &F, words: &'a [S], out: &mut W, err: &mut E) -> u8
+/// and opened again in their turn, and so are all if the system does not let so many be open. The file `-` is standard input. A fault has one
+/// line on `err`. If that is a person's terminal, as `at_terminal` says, a second line tells what may help; and with `--json` it is the fault as an
+/// object.
+pub fn run_by<'a, J, F, S, W, E>(
+    judge: &J,
+    rt: &F,
+    words: &'a [S],
+    at_terminal: bool,
+    out: &mut W,
+    err: &mut E,
+) -> u8
 where
     J: Judge,
     F: Files + Input + AllocGlobal,
@@ -687,7 +614,7 @@ where
         return show_text(alloc, table, out, err);
     }
     match parse(alloc, words) {
-        Ok(matches) => run_matches(judge, rt, alloc, &matches, out, err),
+        Ok(matches) => run_matches(judge, rt, alloc, &matches, at_terminal, out, err),
         Err(answer) => show(alloc, words, &answer, out, err),
     }
 }
@@ -695,10 +622,4 @@ where
 /// What `clap` answers to worked command lines, and which files they name.
 pub fn reads_worked_words()
     ensures { AreRead }
-{}
-
-/// What is told of a fault stays in its line.
-#[tactic(auto, using(crate::proofs::InLine::faults_stay))]
-pub fn faults_stay_in_line()
-    ensures { FaultsStayInLine }
 {}

@@ -5,14 +5,12 @@ ghost use Rattle.wasm_check_command.specs.Verdict.{IsJudged};
 ghost use Rattle.wasm_check_command.specs.Opened.{is_stdin, names_stdin, kept_open, said_by};
 ghost use Rattle.wasm_check_command.specs.Files.{texts, joined, CannotOpen, FailsOpening, JudgesFile, FailsFile, FailsAgain, EndsFiles, StopsFiles, is_enough};
 
-use crate::command::Fault;
-use crate::error::CheckError;
 use crate::judging::{Chosen, Input, Judge, MAX_BYTES, Status, judge_reader};
-use crate::reason::Reason;
 use std::alloc::Global;
 use std::fs::{File, OpenFile};
 use std::io::{self, Input as Standard, Read, Write};
 use std::rt::Files;
+use wasm_check_faults::{CheckError, Fault, Reason};
 use wasm_check_lines::Form;
 
 /// How many files are kept open until their turn, if the system lets so many be open.
@@ -109,7 +107,7 @@ pub(crate) fn open_named<'a, F: Files + Standard>(
         Ok(reader) => Ok(reader),
         Err(error) => Err(Fault::CannotOpen {
             name,
-            reason: Reason::of(&error),
+            reason: Reason::of_opening(name, &error),
         }),
     }
 }

@@ -4,14 +4,13 @@ ghost use Rattle.std.specs.Io.KnownBytes.{Keeps};
 ghost use Rattle.wasm_check_command.specs.Modes.{CanJudge, ruling_of};
 ghost use Rattle.wasm_check_command.specs.Files.{texts, is_unwritten, EndsBy, GoesSoFar, JudgesFile, LosesFile, StopsGoingBy};
 
-use crate::command::{Fault, tell};
-use crate::error::CheckError;
 use crate::files::{Ended, hold_streams, is_enough, joined, judge_opened, name_at, open, unheld};
 use crate::judging::{Chosen, Input, Judge, Status};
-use crate::reason::Reason;
+use crate::telling::tell;
 use std::alloc::Global;
 use std::io::{Input as Standard, Write};
 use std::rt::Files;
+use wasm_check_faults::{CheckError, Fault, Reason};
 
 /// Opens a file, judges it, writes its line, and says whether it is a valid module.
 fn judge_one<'a, J: Judge, F: Files + Standard, W: Write>(
@@ -35,7 +34,7 @@ fn judge_one<'a, J: Judge, F: Files + Standard, W: Write>(
         Err(error) => {
             return Err(Fault::CannotOpen {
                 name,
-                reason: Reason::of(&error),
+                reason: Reason::of_opening(name, &error),
             });
         }
     };
@@ -102,7 +101,7 @@ fn judge_next<'a, J: Judge, F: Files + Standard, W: Write, E: Write>(
             if is_unwritten(&fault) {
                 return Err(fault);
             }
-            tell(alloc, &fault, err);
+            tell(alloc, &fault, chosen.below, err);
             Ok(Ended {
                 status: before.status,
                 lost: true,

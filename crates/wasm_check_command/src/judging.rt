@@ -9,17 +9,16 @@ ghost use Rattle.wasm_check_command.specs.Lines.{IsExplained};
 ghost use Rattle.wasm_check_command.specs.Modes.{AreLeft, CanJudge, FailsJudging, HasPieces, HasValid, IsShort, ReadsWithin, manner_of, ruled, ruling_by, ruling_of};
 ghost use Rattle.wasm_check_command.specs.Faults.{FailsReading};
 ghost use Rattle.wasm_check_command.specs.Verdict.{WritesFront, IsVerdict, WritesLine, IsJudged, FailsWriting, FailsAt};
-ghost use Rattle.wasm_check_command.specs.declared.error.CheckError.TheVariants.{Write as TheWrite};
+ghost use Rattle.wasm_check_faults.specs.declared.error.CheckError.TheVariants.{Write as TheWrite};
 ghost use Rattle.wasm_check_command.specs.declared.judging.Mode.TheVariants.{Whole as whole};
 ghost use Rattle.wasm_check_command.specs.Reports.{sources_of, IsReported, Stops};
 
-use crate::error::CheckError;
 use crate::pieces::judge_in_pieces;
-use crate::reason::Reason;
 use crate::steady::read_steadily;
 use std::alloc::{AllocError, Global};
 use std::io::{self, Read, Write};
-use wasm_check_lines::{Form, refused_text, valid_text};
+use wasm_check_faults::{Below, CheckError, Reason};
+use wasm_check_lines::{Explanation, Form, Refusal, refused_text, valid_text};
 use wasm_types::{Error, ErrorKind, Limits, WasmFeatures};
 
 /// The most bytes that an input may have.
@@ -90,8 +89,8 @@ pub trait Judge {
         ensures ok { OnOk result (HasValid (accepts (settings_by features.0 limits)) (R.remaining reader.old)) }
         ensures err { IfErr result (FailsJudging (accepts (settings_by features.0 limits)) (R.remaining reader.old)) };
 
-    /// What a person needs to find the fault in these bytes, which were refused by this error under these features and limits: a text for
-    /// each line, or none.
+    /// What is known of the place of the fault in these bytes, which were refused by this error under these features and limits, if something
+    /// is.
     ///
     /// # Errors
     ///
@@ -103,11 +102,11 @@ pub trait Judge {
         limits: Limits,
         bytes: &[u8],
         error: &Error,
-    ) -> Result<Vec<String>, AllocError>
+    ) -> Result<Option<Explanation>, AllocError>
         requires within { IsWithinCeilings limits }
     {
-        let _given = (features, limits, bytes.len(), error.offset());
-        Ok(Vec::new(alloc))
+        let _given = (alloc, features, limits, bytes.len(), error.offset());
+        Ok(None)
     }
 }
 
@@ -124,6 +123,8 @@ pub(crate) struct Chosen {
     pub(crate) form: Form,
     /// Whether refusals are explained.
     pub(crate) explains: bool,
+    /// What is told below the line of a fault.
+    pub(crate) below: Below,
 }
 
 /// What is to be judged: a name, and what gives the bytes.
@@ -211,19 +212,19 @@ pub(crate) fn read_whole<R: Read>(
     unreachable!()
 }
 
-/// What is told of a refusal below its line, if that is asked for.
+/// What is known of the place of a fault, if that is asked for.
 fn explanation<J: Judge>(
     judge: &J,
     alloc: Global,
     chosen: Chosen,
     bytes: &[u8],
     error: &Error,
-) -> Result<Vec<String>, AllocError>
+) -> Result<Option<Explanation>, AllocError>
     requires within { IsWithinCeilings chosen.limits }
-    ensures { IfOk result (λ notes. IsExplained (manner_of chosen) notes.items) }
+    ensures { IfOk result (IsExplained (manner_of chosen)) }
 {
     if !chosen.explains {
-        return Ok(Vec::new(alloc));
+        return Ok(None);
     }
     judge.explain(alloc, chosen.features, chosen.limits, bytes, error)
 }
@@ -250,8 +251,14 @@ fn verdict_line<J: Judge>(
             if error.kind() == ErrorKind::OutOfMemory {
                 return Err(AllocError);
             }
-            let notes = explanation(judge, alloc, chosen, bytes, &error)?;
-            let line = refused_text(alloc, chosen.form, name, &error, bytes, notes.as_slice())?;
+            let explained = explanation(judge, alloc, chosen, bytes, &error)?;
+            let refusal = Refusal {
+                error: &error,
+                limits: chosen.limits,
+                front: bytes,
+            };
+            let (form, explains) = (chosen.form, chosen.explains);
+            let line = refused_text(alloc, form, explains, name, refusal, explained.as_ref())?;
             Ok((false, line))
         }
     }
@@ -442,6 +449,7 @@ pub fn check_by<J: Judge, R: Read + Drop, W: Write>(
         mode,
         form: Form::Lines,
         explains: false,
+        below: Below::Nothing,
     };
     let judged = judge_all(judge, alloc, inputs, chosen, out);
     if out.flush().is_err() {

@@ -1,5 +1,5 @@
 //! An input in pieces: it is judged while it is read, and of what came nothing is kept but the part of the module that it is in.
-ghost use Rattle.std.specs.Prelude.{◌≡◌, ◌≤◌, [], IfOk, IfErr, string_bytes};
+ghost use Rattle.std.specs.Prelude.{◌≡◌, ◌≤◌, [], None, IfOk, IfErr, string_bytes};
 ghost use Rattle.wasm_types.specs.settings.Limits.{IsWithinCeilings};
 ghost use Rattle.wasm_check_command.specs.Settings.{settings_of};
 ghost use Rattle.wasm_check_lines.specs.Forms.{refused_text};
@@ -8,13 +8,12 @@ ghost use Rattle.wasm_check_command.specs.Modes.{manner_of, ruled};
 ghost use Rattle.wasm_check_command.specs.Verdict.{IsVerdictOf, IsJudged, FailsAt};
 ghost use Rattle.wasm_check_command.specs.declared.judging.Mode.TheVariants.{Pieces as pieces};
 
-use crate::error::CheckError;
 use crate::judging::{Chosen, Judge, Unjudged, Unread, without_reason, write_text};
-use crate::reason::Reason;
 use crate::steady::read_steadily;
 use std::alloc::{AllocError, Global};
 use std::io::{self, Read, Write};
-use wasm_check_lines::{refused_text, valid_text};
+use wasm_check_faults::{CheckError, Reason};
+use wasm_check_lines::{Refusal, refused_text, valid_text};
 use wasm_types::{Error, ErrorKind};
 
 /// A reader, and why a read through it failed.
@@ -45,17 +44,15 @@ fn unexplained(
     name: &str,
     error: &Error,
 ) -> Result<String, AllocError>
-    ensures { IfOk result (λ line. string_bytes line ≡ refused_text chosen.form name.now error.now [] []) }
+    ensures { IfOk result (λ line. string_bytes line
+        ≡ refused_text chosen.form chosen.explains name.now chosen.limits error.now [] None) }
 {
-    let notes = Vec::new(alloc);
-    refused_text(
-        alloc,
-        chosen.form,
-        name,
+    let refusal = Refusal {
         error,
-        "".as_bytes(),
-        notes.as_slice(),
-    )
+        limits: chosen.limits,
+        front: "".as_bytes(),
+    };
+    refused_text(alloc, chosen.form, chosen.explains, name, refusal, None)
 }
 
 /// The line of an input that is judged in pieces of at most this many bytes, and whether it is a valid module.

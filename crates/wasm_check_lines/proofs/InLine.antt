@@ -10,14 +10,23 @@ use Rattle.std.proofs.lemmas.Str.{inside_one}
 use Rattle.std.proofs.lemmas.List.Elements.{All-weaker, All-append, All-cons, All-nil, All-from_get_or}
 use Rattle.wasm_check_lines.specs.Shown.{shown, shown_char, is_unshown, escape}
 use Rattle.wasm_check_lines.specs.LineLaws.{StaysInLine, IsOneLine, LinesEndOnce}
-use Rattle.std.specs.Prelude.{Option, Some, None, string_bytes}
+use Rattle.std.specs.Prelude.{IfSome, Option, Some, None, String, string_bytes}
 use Rattle.wasm_types.specs.decoding.ErrorValue.{ErrorValue}
 use Rattle.wasm_types.specs.decoding.declared.error.ErrorKind.{ErrorKind}
 use Rattle.wasm_types.specs.decoding.declared.error.ErrorKind.TheVariants.{EndOfData, MissingFeature, OutOfMemory, Failed, Other}
 use Rattle.wasm_check_lines.specs.Json.{json_text, json_char, json_escape, zeros}
 use Rattle.wasm_check_lines.specs.FeatureWords.{worded, first_word, word_for, words_from_0, words_from_7, words_from_14, words_from_21}
-use Rattle.wasm_check_lines.specs.Hints.{is_text, text_hint, feature_hint, kind_hint, hint_of, vectors_message}
-use Rattle.wasm_check_lines.specs.Forms.{Notes, valid_line, invalid_line, note_line, valid_object, invalid_object, kind_word, feature_member, feature_of_kind, next_item, notes_member}
+use Rattle.wasm_types.specs.settings.Features.{mask, ComponentModel}
+use Rattle.wasm_types.specs.settings.declared.Limits.{Limits}
+use Rattle.wasm_check_lines.specs.Causes.{Cause, Vectors, Limit, Feature, Another, allowing, begins, cause_of, content_fronts, entity_fronts, feature_cause, feature_word, kind_feature, limit_cause, limit_word, memories_message, message_feature, segment_fronts, single_limit, tables_message, type_fronts, vectors_message, worded_by}
+use Rattle.wasm_check_lines.specs.Hints.{feature_hint, is_text, limit_hint, text_hint, hint_for, hint_of}
+use Rattle.wasm_check_lines.specs.Forms.{valid_line, invalid_line, hint_line, valid_object, invalid_object, error_word, kind_word, cause_member, help_members, hint_member, refusal_object}
+use Rattle.wasm_check_lines.specs.Explanations.{array_text, explanation_member, member_text, next_item, note_line, value_text}
+use Rattle.wasm_check_lines.specs.declared.notes.Explanation.{Explanation}
+use Rattle.wasm_check_lines.specs.declared.notes.Member.{Member}
+use Rattle.wasm_check_lines.specs.declared.notes.Value.{Value}
+use Rattle.wasm_check_lines.specs.declared.notes.Value.TheVariants.{Number, Text, Texts}
+use Rattle.std.specs.declared.alloc.Global.{Global}
 
 -- both halves of a conjunction
 first_holds : (a b : Bool) → (a && b) ≡ true → a ≡ true
@@ -103,7 +112,7 @@ json_chars_stay : (cs : List ℕ) → StaysInLine (flat_map json_char cs)
 json_chars_stay [] = nothing
 json_chars_stay (c ∷ cs) = both (json_char c) (flat_map json_char cs) (json_char_stays c) (json_chars_stay cs)
 
-json_stays : (text : List ℕ) → StaysInLine (json_text text)
+pub json_stays : (text : List ℕ) → StaysInLine (json_text text)
 unfolding json_text
 json_stays text = json_chars_stay (chars text)
 
@@ -138,23 +147,99 @@ pub word_stays : (bits : ℕ) → stays_if (word_for bits)
 word_stays bits = first_stays _ _ (worded_stays words_from_0 bits refl)
     (first_stays _ _ (worded_stays words_from_7 bits refl) (first_stays _ _ (worded_stays words_from_14 bits refl) (worded_stays words_from_21 bits refl)))
 
-feature_hint_stays : (word : Option (List ℕ)) → stays_if word → StaysInLine (feature_hint word)
-feature_hint_stays None h = nothing
-feature_hint_stays (Some word) h = both (codes " (--features " ++ word) (codes " allows it)")
-    (both (codes " (--features ") word (literal (codes " (--features ") refl) h) (literal (codes " allows it)") refl)
+-- a word that a message tells
+worded_by_stays : (rows : List (List ℕ × List ℕ)) (message : List ℕ) → list_all (λ row. list_all (λ b. nat_le 32 b) row.1) rows ≡ true
+    → stays_if (worded_by rows message)
+worded_by_stays [] message e = tt
+worded_by_stays (row ∷ rows) message e = here (begins row.0 message) (first_holds (list_all (λ b. nat_le 32 b) row.1) _ e)
+    (worded_by_stays rows message (rest_holds (list_all (λ b. nat_le 32 b) row.1) _ e))
+  where
+    here : (b : Bool) → list_all (λ b. nat_le 32 b) row.1 ≡ true → stays_if (worded_by rows message) → stays_if (cond b (Some row.1) (worded_by rows message))
+    here true p q = literal row.1 p
+    here false p q = q
 
-text_hint_stays : (front : List ℕ) → StaysInLine (text_hint front)
-text_hint_stays front = chosen (is_text front) _ _ (literal (codes " (this is the text format; wasm-check judges the binary format)") refl) nothing
+-- either of two
+either_stays : (b : Bool) (x y : Option (List ℕ)) → stays_if x → stays_if y → stays_if (cond b x y)
+either_stays true x y p q = p
+either_stays false x y p q = q
 
-kind_hint_stays : (k : ErrorKind) (front : List ℕ) → StaysInLine (kind_hint k front)
-kind_hint_stays (MissingFeature f) front = feature_hint_stays (word_for f.0) (word_stays f.0)
-kind_hint_stays (EndOfData n) front = text_hint_stays front
-kind_hint_stays OutOfMemory front = nothing
-kind_hint_stays Failed front = nothing
-kind_hint_stays Other front = text_hint_stays front
+single_stays : (l : Limits) (message : List ℕ) → stays_if (single_limit l message)
+single_stays l message = either_stays (begins tables_message message && nat_le l.tables 1) _ _ (literal (codes "tables") refl)
+    (either_stays (begins memories_message message && nat_le l.memories 1) _ _ (literal (codes "memories") refl) tt)
 
-hint_stays : (e : ErrorValue) (front : List ℕ) → StaysInLine (hint_of e front)
-hint_stays e front = chosen (bytes_eq e.message vectors_message) _ _ (literal (codes " (--vectors judges operators on vectors)") refl) (kind_hint_stays e.kind front)
+limit_stays : (l : Limits) (message : List ℕ) → stays_if (limit_word l message)
+unfolding limit_word
+limit_stays l message = first_stays _ _ (worded_by_stays type_fronts message refl) (first_stays _ _ (worded_by_stays entity_fronts message refl)
+    (first_stays _ _ (worded_by_stays segment_fronts message refl) (first_stays _ _ (worded_by_stays content_fronts message refl) (single_stays l message))))
+
+allowing_stays : (bits : ℕ) → stays_if (allowing bits)
+allowing_stays bits = either_stays (bits == mask ComponentModel) _ _ tt (word_stays bits)
+
+kind_feature_stays : (k : ErrorKind) → stays_if (kind_feature k)
+kind_feature_stays (EndOfData n) = tt
+kind_feature_stays (MissingFeature f) = allowing_stays f.0
+kind_feature_stays OutOfMemory = tt
+kind_feature_stays Failed = tt
+kind_feature_stays Other = tt
+
+message_feature_stays : (message : List ℕ) → stays_if (message_feature message)
+message_feature_stays message = either_stays (begins tables_message message) _ _ (literal (codes "reference-types") refl)
+    (either_stays (begins memories_message message) _ _ (literal (codes "multi-memory") refl)
+    (either_stays (begins (codes "data count section requires the bulk-memory proposal") message) _ _ (literal (codes "bulk-memory") refl) tt))
+
+feature_stays : (e : ErrorValue) → stays_if (feature_word e)
+unfolding feature_word
+feature_stays e = first_stays _ _ (kind_feature_stays e.kind) (message_feature_stays e.message)
+
+-- a cause
+abbrev pub cause_stays : Cause → Type 0
+cause_stays Vectors = Unit {0}
+cause_stays (Limit word) = StaysInLine word
+cause_stays (Feature word) = StaysInLine word
+cause_stays Another = Unit {0}
+
+feature_cause_stays : (o : Option (List ℕ)) → stays_if o → cause_stays (feature_cause o)
+feature_cause_stays None h = tt
+feature_cause_stays (Some word) h = h
+
+limit_cause_stays : (o q : Option (List ℕ)) → stays_if o → stays_if q → cause_stays (limit_cause o q)
+limit_cause_stays None q h i = feature_cause_stays q i
+limit_cause_stays (Some word) q h i = h
+
+this_cause : (b : Bool) (c d : Cause) → cause_stays c → cause_stays d → cause_stays (cond b c d)
+this_cause true c d p q = p
+this_cause false c d p q = q
+
+told_cause_stays : (l : Limits) (e : ErrorValue) → cause_stays (cause_of l e)
+unfolding cause_of
+told_cause_stays l e = this_cause (bytes_eq e.message vectors_message) _ _ tt
+    (limit_cause_stays _ _ (limit_stays l e.message) (feature_stays e))
+
+between : (a word b : List ℕ) → list_all (λ b. nat_le 32 b) a ≡ true → StaysInLine word → list_all (λ b. nat_le 32 b) b ≡ true → StaysInLine (a ++ word ++ b)
+between a word b p h q = both (a ++ word) b (both a word (literal a p) h) (literal b q)
+
+between_texts : (a text b : List ℕ) → StaysInLine a → StaysInLine text → list_all (λ b. nat_le 32 b) b ≡ true → StaysInLine (a ++ text ++ b)
+between_texts a text b p h q = both (a ++ text) b (both a text p h) (literal b q)
+
+text_hint_stays : (front : List ℕ) → stays_if (text_hint front)
+text_hint_stays front = either_stays (is_text front) _ _ (literal (codes "this is the text format; wasm-check judges the binary format") refl) tt
+
+limit_hint_stays : (word : List ℕ) → StaysInLine word → StaysInLine (limit_hint word)
+unfolding limit_hint
+limit_hint_stays word h = between (codes "--limits ") word (codes "=N sets this limit") refl h refl
+
+feature_hint_stays : (word : List ℕ) → StaysInLine word → StaysInLine (feature_hint word)
+unfolding feature_hint
+feature_hint_stays word h = between (codes "--features ") word (codes " allows it") refl h refl
+
+hint_for_stays : (c : Cause) (front : List ℕ) → cause_stays c → stays_if (hint_for c front)
+hint_for_stays Vectors front h = literal (codes "--vectors judges operators on vectors") refl
+hint_for_stays (Limit word) front h = limit_hint_stays word h
+hint_for_stays (Feature word) front h = feature_hint_stays word h
+hint_for_stays Another front h = text_hint_stays front
+
+pub hint_stays : (l : Limits) (e : ErrorValue) (front : List ℕ) → stays_if (hint_of l e front)
+hint_stays l e front = hint_for_stays (cause_of l e) front (told_cause_stays l e)
 
 -- ---- the lines
 
@@ -165,11 +250,19 @@ valid_ends name = record {
   ended = sym (append_assoc (shown name) (codes ": valid") (10 ∷ []));
 }
 
-invalid_ends : (name : List ℕ) (e : ErrorValue) (front : List ℕ) → IsOneLine (invalid_line name e front)
-invalid_ends name e front = record {
-  front = shown name ++ codes ": invalid at 0x" ++ digits 16 false e.offset ++ codes ": " ++ shown e.message ++ hint_of e front;
-  inside = both _ _ (both _ _ (both _ _ (both _ _ (both _ _ (shown_stays name) (literal (codes ": invalid at 0x") refl)) (digits_stay 16 e.offset))
-      (literal (codes ": ") refl)) (shown_stays e.message)) (hint_stays e front);
+invalid_ends : (name : List ℕ) (e : ErrorValue) → IsOneLine (invalid_line name e)
+invalid_ends name e = record {
+  front = shown name ++ codes ": invalid at 0x" ++ digits 16 false e.offset ++ codes ": " ++ shown e.message;
+  inside = both _ _ (both _ _ (both _ _ (both _ _ (shown_stays name) (literal (codes ": invalid at 0x") refl)) (digits_stay 16 e.offset))
+      (literal (codes ": ") refl)) (shown_stays e.message);
+  ended = refl;
+}
+
+hint_line_ends : (o : Option (List ℕ)) → stays_if o → IfSome o (λ h. IsOneLine (hint_line (Some h)))
+hint_line_ends None h = tt
+hint_line_ends (Some hint) h = record {
+  front = codes "  " ++ hint;
+  inside = both (codes "  ") hint (literal (codes "  ") refl) h;
   ended = refl;
 }
 
@@ -188,70 +281,99 @@ object_ends name = record {
   ended = sym (append_assoc (codes "{\"file\":\"" ++ json_text name) (codes "\",\"valid\":true}") (10 ∷ []));
 }
 
-kind_stays : (k : ErrorKind) → StaysInLine (kind_word k)
-kind_stays (EndOfData n) = literal (codes "end-of-data") refl
-kind_stays (MissingFeature f) = literal (codes "missing-feature") refl
-kind_stays OutOfMemory = literal (codes "out-of-memory") refl
-kind_stays Failed = literal (codes "failed") refl
-kind_stays Other = literal (codes "other") refl
+error_stays : (k : ErrorKind) → StaysInLine (error_word k)
+error_stays (EndOfData n) = literal (codes "end-of-data") refl
+error_stays (MissingFeature f) = literal (codes "missing-feature") refl
+error_stays OutOfMemory = literal (codes "out-of-memory") refl
+error_stays Failed = literal (codes "failed") refl
+error_stays Other = literal (codes "other") refl
 
-member_stays : (word : Option (List ℕ)) → stays_if word → StaysInLine (feature_member word)
-member_stays None h = nothing
-member_stays (Some word) h = both (codes ",\"feature\":\"" ++ word) (codes "\"")
-    (both (codes ",\"feature\":\"") word (literal (codes ",\"feature\":\"") refl) h) (literal (codes "\"") refl)
+kind_stays : (c : Cause) (k : ErrorKind) → StaysInLine (kind_word c k)
+kind_stays Vectors k = literal (codes "vectors") refl
+kind_stays (Limit word) k = literal (codes "limit") refl
+kind_stays (Feature word) k = literal (codes "missing-feature") refl
+kind_stays Another k = error_stays k
 
-feature_stays : (k : ErrorKind) → stays_if (feature_of_kind k)
-feature_stays (EndOfData n) = tt
-feature_stays (MissingFeature f) = word_stays f.0
-feature_stays OutOfMemory = tt
-feature_stays Failed = tt
-feature_stays Other = tt
+member_stays : (c : Cause) → cause_stays c → StaysInLine (cause_member c)
+member_stays Vectors h = nothing
+member_stays (Limit word) h = between (codes ",\"limit\":\"") word (codes "\"") refl h refl
+member_stays (Feature word) h = between (codes ",\"feature\":\"") word (codes "\"") refl h refl
+member_stays Another h = nothing
+
+hint_member_stays : (o : Option (List ℕ)) → stays_if o → StaysInLine (hint_member o)
+hint_member_stays None h = nothing
+hint_member_stays (Some hint) h = between (codes ",\"hint\":\"") hint (codes "\"") refl h refl
 
 item_stays : (text : List ℕ) → StaysInLine (next_item text)
 item_stays text = both (codes ",\"" ++ json_text text) (codes "\"") (both (codes ",\"") (json_text text) (literal (codes ",\"") refl) (json_stays text)) (literal (codes "\"") refl)
 
-items_stay : (notes : Notes) → StaysInLine (flat_map (λ n. next_item (string_bytes n)) notes)
+items_stay : (texts : List (String Global)) → StaysInLine (flat_map (λ n. next_item (string_bytes n)) texts)
 items_stay [] = nothing
-items_stay (note ∷ notes) = both (next_item (string_bytes note)) (flat_map (λ n. next_item (string_bytes n)) notes) (item_stays (string_bytes note)) (items_stay notes)
+items_stay (text ∷ texts) = both (next_item (string_bytes text)) (flat_map (λ n. next_item (string_bytes n)) texts) (item_stays (string_bytes text)) (items_stay texts)
 
-notes_stay : (notes : Notes) → StaysInLine (notes_member notes)
-notes_stay [] = nothing
-notes_stay (note ∷ notes) =
-    let a = codes ",\"explanation\":[\"" ++ json_text (string_bytes note) in
-    let b = flat_map (λ n. next_item (string_bytes n)) notes in
-    both (a ++ codes "\"" ++ b) (codes "]") (both (a ++ codes "\"") b (both a (codes "\"")
-    (both (codes ",\"explanation\":[\"") (json_text (string_bytes note)) (literal (codes ",\"explanation\":[\"") refl) (json_stays (string_bytes note)))
-    (literal (codes "\"") refl)) (items_stay notes)) (literal (codes "]") refl)
+array_stays : (texts : List (String Global)) → StaysInLine (array_text texts)
+array_stays [] = literal (codes "[]") refl
+array_stays (text ∷ texts) = let rest = flat_map (λ n. next_item (string_bytes n)) texts in
+    between_texts (codes "[\"" ++ json_text (string_bytes text) ++ codes "\"") rest (codes "]")
+    (between (codes "[\"") (json_text (string_bytes text)) (codes "\"") refl (json_stays (string_bytes text)) refl) (items_stay texts) refl
+
+value_stays : (v : Value) → StaysInLine (value_text v)
+value_stays (Number n) = digits_stay 10 n
+value_stays (Text text) = between (codes "\"") (json_text (string_bytes text)) (codes "\"") refl (json_stays (string_bytes text)) refl
+value_stays (Texts texts) = array_stays texts.items
+
+told_member_stays : (m : Member) → StaysInLine (member_text m)
+told_member_stays m = both (codes ",\"" ++ json_text m.name.now ++ codes "\":") (value_text m.value)
+    (between (codes ",\"") (json_text m.name.now) (codes "\":") refl (json_stays m.name.now) refl) (value_stays m.value)
+
+told_members_stay : (ms : List Member) → StaysInLine (flat_map member_text ms)
+told_members_stay [] = nothing
+told_members_stay (m ∷ ms) = both (member_text m) (flat_map member_text ms) (told_member_stays m) (told_members_stay ms)
+
+explanation_stays : (o : Option Explanation) → StaysInLine (explanation_member o)
+explanation_stays None = nothing
+explanation_stays (Some x) = between_texts (codes ",\"explanation\":{\"rules\":\"" ++ json_text x.chapter.now ++ codes "\"") (flat_map member_text x.members.items) (codes "}")
+    (between (codes ",\"explanation\":{\"rules\":\"") (json_text x.chapter.now) (codes "\"") refl (json_stays x.chapter.now) refl)
+    (told_members_stay x.members.items) refl
 
 decimal_stays : (n : ℕ) → StaysInLine (decimal n)
 decimal_stays n = digits_stay 10 n
 
-refusal_ends : (name : List ℕ) (e : ErrorValue) (notes : Notes) → IsOneLine (invalid_object name e notes)
-refusal_ends name e notes =
+members_stay : (c : Cause) (front : List ℕ) (x : Option Explanation) → cause_stays c → StaysInLine (help_members c front x)
+members_stay c front x h = both (cause_member c ++ hint_member (hint_for c front)) (explanation_member x)
+    (both (cause_member c) (hint_member (hint_for c front)) (member_stays c h) (hint_member_stays (hint_for c front) (hint_for_stays c front h))) (explanation_stays x)
+
+object_told : (name : List ℕ) (offset : ℕ) (kind message members : List ℕ) → StaysInLine kind → StaysInLine members
+    → IsOneLine (refusal_object name offset kind message members)
+object_told name offset kind message members in_kind in_members =
     let a = codes "{\"file\":\"" ++ json_text name in
     let b = a ++ codes "\",\"valid\":false,\"offset\":" in
-    let d = b ++ decimal e.offset ++ codes ",\"kind\":\"" in
-    let f = d ++ kind_word e.kind ++ codes "\",\"message\":\"" in
-    let g = f ++ json_text e.message ++ codes "\"" in
-    let h = g ++ feature_member (feature_of_kind e.kind) ++ notes_member notes in
+    let d = b ++ decimal offset ++ codes ",\"kind\":\"" in
+    let f = d ++ kind ++ codes "\",\"message\":\"" in
+    let g = f ++ json_text message ++ codes "\"" in
+    let h = g ++ members in
     let in_a : StaysInLine a = both (codes "{\"file\":\"") (json_text name) (literal (codes "{\"file\":\"") refl) (json_stays name) in
     let in_b : StaysInLine b = both a (codes "\",\"valid\":false,\"offset\":") in_a (literal (codes "\",\"valid\":false,\"offset\":") refl) in
-    let in_d : StaysInLine d = both (b ++ decimal e.offset) (codes ",\"kind\":\"") (both b (decimal e.offset) in_b (decimal_stays e.offset)) (literal (codes ",\"kind\":\"") refl) in
-    let in_f : StaysInLine f = both (d ++ kind_word e.kind) (codes "\",\"message\":\"") (both d (kind_word e.kind) in_d (kind_stays e.kind)) (literal (codes "\",\"message\":\"") refl) in
-    let in_g : StaysInLine g = both (f ++ json_text e.message) (codes "\"") (both f (json_text e.message) in_f (json_stays e.message)) (literal (codes "\"") refl) in
-    let in_h : StaysInLine h = both (g ++ feature_member (feature_of_kind e.kind)) (notes_member notes)
-    (both g (feature_member (feature_of_kind e.kind)) in_g (member_stays (feature_of_kind e.kind) (feature_stays e.kind))) (notes_stay notes) in
+    let in_d : StaysInLine d = both (b ++ decimal offset) (codes ",\"kind\":\"") (both b (decimal offset) in_b (decimal_stays offset)) (literal (codes ",\"kind\":\"") refl) in
+    let in_f : StaysInLine f = both (d ++ kind) (codes "\",\"message\":\"") (both d kind in_d in_kind) (literal (codes "\",\"message\":\"") refl) in
+    let in_g : StaysInLine g = both (f ++ json_text message) (codes "\"") (both f (json_text message) in_f (json_stays message)) (literal (codes "\"") refl) in
+    let in_h : StaysInLine h = both g members in_g in_members in
     record {
       front = h ++ codes "}";
       inside = both h (codes "}") in_h (literal (codes "}") refl);
       ended = sym (append_assoc h (codes "}") (10 ∷ []));
     }
 
+refusal_ends : (name : List ℕ) (l : Limits) (e : ErrorValue) (front : List ℕ) (x : Option Explanation) → IsOneLine (invalid_object name l e front x)
+refusal_ends name l e front x = object_told name e.offset (kind_word (cause_of l e) e.kind) e.message (help_members (cause_of l e) front x)
+    (kind_stays (cause_of l e) e.kind) (members_stay (cause_of l e) front x (told_cause_stays l e))
+
 pub lines_end_once : LinesEndOnce
 lines_end_once = record {
   text = shown_stays;
   valid = valid_ends;
   invalid = invalid_ends;
+  hint = λ l e front. hint_line_ends (hint_of l e front) (hint_stays l e front);
   note = λ text. (shown text ++ codes "\n", note_ends text, refl);
   valid_json = object_ends;
   invalid_json = refusal_ends;

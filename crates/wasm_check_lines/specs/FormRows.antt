@@ -1,24 +1,42 @@
 -- Worked lines.
-use Rattle.std.specs.Prelude.{◌≡◌, ℕ, [], List, codes}
+use Rattle.std.specs.Prelude.{◌≡◌, ℕ, [], List, Option, codes}
 use Rattle.wasm_types.specs.decoding.ErrorValue.{ErrorValue}
-use Rattle.wasm_types.specs.decoding.declared.error.ErrorKind.TheVariants.{Other}
-use Rattle.wasm_check_lines.specs.Hints.{is_text}
+use Rattle.wasm_types.specs.decoding.declared.error.ErrorKind.TheVariants.{Other, MissingFeature}
+use Rattle.wasm_types.specs.settings.Limits.{default_limits}
+use Rattle.wasm_check_lines.specs.Causes.{Cause, Vectors, Limit, Feature, Another, cause_of, kind_feature}
+use Rattle.wasm_check_lines.specs.Hints.{is_text, hint_for, hint_of}
+use Rattle.wasm_check_lines.specs.Explanations.{note_line}
 use Rattle.wasm_check_lines.specs.FeatureWords.{word_for}
-use Rattle.wasm_check_lines.specs.Forms.{valid_line, invalid_line, note_line, valid_object, invalid_object}
+use Rattle.wasm_check_lines.specs.Forms.{valid_line, invalid_line, hint_line, valid_object, invalid_object}
 use Rattle.std.specs.Prelude.{true, false, Some, None}
 
 -- an error of content
 abbrev pub other_at : ℕ → List ℕ → ErrorValue
 other_at offset message = record { kind = Other; offset = offset; message = message }
 
+-- the cause of an error of content under the limits by default, and what a person can do about it
+abbrev pub told_of : List ℕ → Cause × Option (List ℕ)
+told_of message = (cause_of default_limits (other_at 0 message), hint_of default_limits (other_at 0 message) [])
+
 pub record FormRows : Type 0 where
   pub named : valid_line (codes "a\n") ≡ codes "a\\u{a}: valid\n"
-  pub refused : invalid_line (codes "a") (other_at 37 (codes "duplicate export name `\nv: valid\n` already defined")) []
+  pub refused : invalid_line (codes "a") (other_at 37 (codes "duplicate export name `\nv: valid\n` already defined"))
       ≡ codes "a: invalid at 0x25: duplicate export name `\\u{a}v: valid\\u{a}` already defined\n"
-  pub vectors : invalid_line (codes "a") (other_at 24 (codes "unexpected SIMD opcode: 0xfd")) []
-      ≡ codes "a: invalid at 0x18: unexpected SIMD opcode: 0xfd (--vectors judges operators on vectors)\n"
-  pub text : invalid_line (codes "a") (other_at 0 (codes "x")) (codes " \n(module)")
-      ≡ codes "a: invalid at 0x0: x (this is the text format; wasm-check judges the binary format)\n"
+  pub vectors : told_of (codes "unexpected SIMD opcode: 0xfd") ≡ (Vectors, Some (codes "--vectors judges operators on vectors"))
+  pub locals : told_of (codes "too many locals: locals exceed maximum") ≡ (Limit (codes "locals"), Some (codes "--limits locals=N sets this limit"))
+  pub count : cause_of default_limits (other_at 0 (codes "multiple types")) ≡ Limit (codes "types")
+  pub named_alike : cause_of default_limits (other_at 0 (codes "duplicate export name `too many locals: ` already defined")) ≡ Another
+  pub tables : cause_of default_limits (other_at 0 (codes "multiple tables")) ≡ Feature (codes "reference-types")
+  pub one_table : cause_of (record default_limits { tables = 1 }) (other_at 0 (codes "multiple tables")) ≡ Limit (codes "tables")
+  pub memories : told_of (codes "multiple memories") ≡ (Feature (codes "multi-memory"), Some (codes "--features multi-memory allows it"))
+  pub one_memory : cause_of (record default_limits { memories = 1 }) (other_at 0 (codes "multiple memories")) ≡ Limit (codes "memories")
+  pub data_count : cause_of default_limits (other_at 0 (codes "data count section requires the bulk-memory proposal")) ≡ Feature (codes "bulk-memory")
+  pub lacks : kind_feature (MissingFeature (record { 0 = 0x80000 })) ≡ Some (codes "gc")
+  pub component_model : kind_feature (MissingFeature (record { 0 = 0x10000 })) ≡ None
+  pub text : hint_for Another (codes " \n(module)") ≡ Some (codes "this is the text format; wasm-check judges the binary format")
+  pub other : told_of (codes "x") ≡ (Another, None)
+  pub hint : hint_line (Some (codes "x")) ≡ codes "  x\n"
+  pub no_hint : hint_line None ≡ []
   pub spaced : is_text (codes "\t\r\n (module $m)") ≡ true
   pub cut : is_text (codes "(modul") ≡ false
   pub component : is_text (codes "(component)") ≡ false
@@ -31,5 +49,7 @@ pub record FormRows : Type 0 where
   pub switch : word_for 0x10000000 ≡ None
   pub note : note_line (codes "b\n") ≡ codes "  b\\u{a}\n"
   pub valid_json : valid_object (codes "a\"\\\n") ≡ codes "{\"file\":\"a\\\"\\\\\\u000a\",\"valid\":true}\n"
-  pub invalid_json : invalid_object (codes "a") (other_at 255 (codes "m")) []
+  pub invalid_json : invalid_object (codes "a") default_limits (other_at 255 (codes "m")) [] None
       ≡ codes "{\"file\":\"a\",\"valid\":false,\"offset\":255,\"kind\":\"other\",\"message\":\"m\"}\n"
+  pub limit_json : invalid_object (codes "a") default_limits (other_at 1 (codes "struct fields size is out of bounds")) [] None
+      ≡ codes "{\"file\":\"a\",\"valid\":false,\"offset\":1,\"kind\":\"limit\",\"message\":\"struct fields size is out of bounds\",\"limit\":\"fields\",\"hint\":\"--limits fields=N sets this limit\"}\n"

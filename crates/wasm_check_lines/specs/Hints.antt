@@ -1,9 +1,8 @@
--- What a person can do about a refusal, as the error and the first bytes tell it.
+-- What a person can do about a refusal, as its cause and the first bytes of the input tell it.
 use Rattle.std.specs.Prelude.{ℕ, Bool, false, ◌==◌, ◌||◌, List, [], ◌∷◌, ◌++◌, take, Option, Some, None, codes, bytes_eq, if◌then◌else◌}
 use Rattle.wasm_types.specs.decoding.ErrorValue.{ErrorValue}
-use Rattle.wasm_types.specs.decoding.declared.error.ErrorKind.{ErrorKind}
-use Rattle.wasm_types.specs.decoding.declared.error.ErrorKind.TheVariants.{EndOfData, MissingFeature, OutOfMemory, Failed, Other}
-use Rattle.wasm_check_lines.specs.FeatureWords.{word_for}
+use Rattle.wasm_types.specs.settings.declared.Limits.{Limits}
+use Rattle.wasm_check_lines.specs.Causes.{Cause, Vectors, Limit, Feature, Another, cause_of}
 
 -- a space of the text format: a space, a tab, a line feed or a carriage return (WebAssembly 3.0, 6.2.3)
 abbrev pub is_space : ℕ → Bool
@@ -14,27 +13,29 @@ unfoldable pub is_text : List ℕ → Bool
 is_text [] = false
 is_text (b ∷ bs) = if is_space b then is_text bs else bytes_eq (take 7 (b ∷ bs)) (codes "(module")
 
--- which word of `--features` allows it, if one does
-abbrev pub feature_hint : Option (List ℕ) → List ℕ
-feature_hint None = []
-feature_hint (Some word) = codes " (--features " ++ word ++ codes " allows it)"
+-- that these bytes are the text format, if they are
+abbrev pub text_hint : List ℕ → Option (List ℕ)
+text_hint front = if is_text front then Some (codes "this is the text format; wasm-check judges the binary format") else None
 
--- that these bytes are the text format
-abbrev pub text_hint : List ℕ → List ℕ
-text_hint front = if is_text front then codes " (this is the text format; wasm-check judges the binary format)" else []
+-- which option sets a limit, and which allows a feature
+unfoldable pub limit_hint : List ℕ → List ℕ
+limit_hint word = codes "--limits " ++ word ++ codes "=N sets this limit"
 
--- by the kind of the error
-abbrev pub kind_hint : ErrorKind → List ℕ → List ℕ
-kind_hint (MissingFeature features) front = feature_hint (word_for features.0)
-kind_hint (EndOfData needed) front = text_hint front
-kind_hint OutOfMemory front = []
-kind_hint Failed front = []
-kind_hint Other front = text_hint front
+unfoldable pub feature_hint : List ℕ → List ℕ
+feature_hint word = codes "--features " ++ word ++ codes " allows it"
 
--- what the library says of an operator on vectors while the switch for them is off
-abbrev pub vectors_message : List ℕ
-vectors_message = codes "unexpected SIMD opcode: 0xfd"
+-- what to do about a cause, in a module that begins with these bytes
+abbrev pub hint_for : Cause → List ℕ → Option (List ℕ)
+hint_for Vectors front = Some (codes "--vectors judges operators on vectors")
+hint_for (Limit word) front = Some (limit_hint word)
+hint_for (Feature word) front = Some (feature_hint word)
+hint_for Another front = text_hint front
 
--- what stands after the message, in its line
-abbrev pub hint_of : ErrorValue → List ℕ → List ℕ
-hint_of e front = if bytes_eq e.message vectors_message then codes " (--vectors judges operators on vectors)" else kind_hint e.kind front
+-- what to do about a refusal by this error under these limits
+abbrev pub hint_of : Limits → ErrorValue → List ℕ → Option (List ℕ)
+hint_of l e front = hint_for (cause_of l e) front
+
+-- a hint between two texts, or nothing
+abbrev pub framed : List ℕ → Option (List ℕ) → List ℕ → List ℕ
+framed before None after = []
+framed before (Some hint) after = before ++ hint ++ after

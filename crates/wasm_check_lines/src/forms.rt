@@ -1,16 +1,18 @@
 //! What is written of a file in each form.
-ghost use Rattle.std.specs.Prelude.{◌≡◌, ◌++◌, IfOk, string_bytes};
-ghost use Rattle.wasm_check_lines.specs.Forms.{note_lines, refusal_line, refusal_object, refused_text, valid_text};
-ghost use Rattle.wasm_check_lines.specs.Hints.{hint_of};
+ghost use Rattle.std.specs.Fmt.{WritesOnOk};
+ghost use Rattle.std.specs.Prelude.{◌≡◌, ◌++◌, IfOk, option_map, string_bytes};
+ghost use Rattle.wasm_check_lines.specs.Causes.{cause_seen};
+ghost use Rattle.wasm_check_lines.specs.Forms.{cause_member, error_word, help_members, kind_word, lines_below, refusal_line, refusal_object, refused_text, valid_text};
+ghost use Rattle.wasm_check_lines.specs.Hints.{hint_for};
 
-use crate::hints::Hint;
+use crate::causes::{Cause, cause_of};
+use crate::hints::write_hint;
 use crate::json::Quoted;
-use crate::notes::{NoteLines, NotesMember};
+use crate::notes::{Explanation, write_explanation, write_explanation_member};
 use crate::shown::Shown;
-use crate::words::word_for;
 use std::alloc::{AllocError, Global};
 use std::fmt;
-use wasm_types::{Error, ErrorKind};
+use wasm_types::{Error, ErrorKind, Limits};
 
 /// How verdicts are written.
 #[derive(Clone, Copy, Debug, PartialEq, Eq)]
@@ -44,93 +46,153 @@ pub fn valid_text(alloc: Global, form: Form, name: &str) -> Result<String, Alloc
     }
 }
 
-// The line of a file that was refused at this offset, for this reason.
-fn refusal_line(
+/// A refusal, as it is told.
+#[derive(Clone, Copy, Debug)]
+pub struct Refusal<'a> {
+    /// The error.
+    pub error: &'a Error,
+    /// The limits that held.
+    pub limits: Limits,
+    /// The first bytes of the input, as far as they are known.
+    pub front: &'a [u8],
+}
+
+// The lines below that of a refusal, if they are asked for.
+#[derive(Debug, Drop)]
+struct LinesBelow<'a> {
+    explains: bool,
+    cause: Cause,
+    front: &'a [u8],
+    explanation: Option<&'a Explanation>,
+}
+
+impl fmt::Display for LinesBelow<'_> {
+    ghost use Rattle.std.specs.Prelude.{Some, option_map};
+    ghost use Rattle.wasm_check_lines.specs.Causes.{cause_seen};
+    ghost use Rattle.wasm_check_lines.specs.Forms.{lines_below};
+    ghost use Rattle.wasm_check_lines.specs.Hints.{hint_for};
+
+    ghost output = { λ l. Some (lines_below l.explains (hint_for (cause_seen l.cause) l.front.now) (option_map (λ x. x.now) l.explanation)) };
+
+    fn fmt<W: fmt::Write>(&self, f: &mut fmt::Formatter<W>) -> fmt::Result {
+        if !self.explains {
+            return Ok(());
+        }
+        write_hint(f, "  ", self.cause, self.front, "\n")?;
+        write_explanation(f, self.explanation)
+    }
+}
+
+// The line of a file that was refused at this offset, with this message, and what comes below it.
+fn refusal_lines(
     alloc: Global,
     name: &str,
     offset: u64,
     message: &str,
-    hint: Hint<'_>,
-    notes: &[String],
+    below: LinesBelow<'_>,
 ) -> Result<String, AllocError>
-    ensures { IfOk result (λ line. string_bytes line
-        ≡ refusal_line name.now offset message.now (hint_of hint.entry.error.now hint.entry.front.now) ++ note_lines notes.now) }
+    ensures { IfOk result (λ line. string_bytes line ≡ refusal_line name.now offset message.now
+        ++ lines_below below.entry.explains (hint_for (cause_seen below.entry.cause) below.entry.front.now) (option_map (λ x. x.now) below.entry.explanation)) }
 {
     let name = Shown(name);
     let message = Shown(message);
-    let notes = NoteLines(notes);
-    format!(in alloc; "{name}: invalid at 0x{offset:x}: {message}{hint}\n{notes}")
+    format!(in alloc; "{name}: invalid at 0x{offset:x}: {message}\n{below}")
 }
 
-// The word of a kind.
+// The word of a refusal for this cause, by an error of this kind.
 #[derive(Debug, Drop)]
-struct KindWord(ErrorKind);
+struct KindWord {
+    cause: Cause,
+    kind: ErrorKind,
+}
 
 impl fmt::Display for KindWord {
     ghost use Rattle.std.specs.Prelude.{Some};
+    ghost use Rattle.wasm_check_lines.specs.Causes.{cause_seen};
     ghost use Rattle.wasm_check_lines.specs.Forms.{kind_word};
 
-    ghost output = { λ k. Some (kind_word k.0) };
+    ghost output = { λ k. Some (kind_word (cause_seen k.cause) k.kind) };
 
     fn fmt<W: fmt::Write>(&self, f: &mut fmt::Formatter<W>) -> fmt::Result {
-        match self.0 {
-            ErrorKind::EndOfData { needed_hint: _ } => f.write_str("end-of-data"),
-            ErrorKind::MissingFeature(_) => f.write_str("missing-feature"),
-            ErrorKind::OutOfMemory => f.write_str("out-of-memory"),
-            ErrorKind::Failed => f.write_str("failed"),
-            ErrorKind::Other => f.write_str("other"),
+        match self.cause {
+            Cause::Vectors => f.write_str("vectors"),
+            Cause::Limit(_) => f.write_str("limit"),
+            Cause::Feature(_) => f.write_str("missing-feature"),
+            Cause::Another => f.write_str(error_word(self.kind)),
         }
     }
 }
 
-// The member that has the word of the feature that would allow it.
+// The word of a kind of errors.
+fn error_word(kind: ErrorKind) -> &'static str
+    ensures { result.now ≡ error_word kind }
+{
+    match kind {
+        ErrorKind::EndOfData { needed_hint: _ } => "end-of-data",
+        ErrorKind::MissingFeature(_) => "missing-feature",
+        ErrorKind::OutOfMemory => "out-of-memory",
+        ErrorKind::Failed => "failed",
+        ErrorKind::Other => "other",
+    }
+}
+
+// The members that tell what a person can do, and those that explain.
 #[derive(Debug, Drop)]
-struct FeatureMember(ErrorKind);
+struct HelpMembers<'a> {
+    cause: Cause,
+    front: &'a [u8],
+    explanation: Option<&'a Explanation>,
+}
 
-impl fmt::Display for FeatureMember {
-    ghost use Rattle.std.specs.Prelude.{Some};
-    ghost use Rattle.wasm_check_lines.specs.Forms.{feature_member, feature_of_kind};
+impl fmt::Display for HelpMembers<'_> {
+    ghost use Rattle.std.specs.Prelude.{Some, option_map};
+    ghost use Rattle.wasm_check_lines.specs.Causes.{cause_seen};
+    ghost use Rattle.wasm_check_lines.specs.Forms.{help_members};
 
-    ghost output = { λ m. Some (feature_member (feature_of_kind m.0)) };
+    ghost output = { λ m. Some (help_members (cause_seen m.cause) m.front.now (option_map (λ x. x.now) m.explanation)) };
 
     fn fmt<W: fmt::Write>(&self, f: &mut fmt::Formatter<W>) -> fmt::Result {
-        match self.0 {
-            ErrorKind::MissingFeature(features) => match word_for(features) {
-                Some(word) => write!(f, ",\"feature\":\"{word}\""),
-                None => Ok(()),
-            },
-            ErrorKind::EndOfData { needed_hint: _ } => Ok(()),
-            ErrorKind::OutOfMemory => Ok(()),
-            ErrorKind::Failed => Ok(()),
-            ErrorKind::Other => Ok(()),
-        }
+        write_cause_member(f, self.cause)?;
+        write_hint(f, ",\"hint\":\"", self.cause, self.front, "\"")?;
+        write_explanation_member(f, self.explanation)
     }
 }
 
-// The object of a file that was refused at this offset, for this reason.
+// The member that has the word of a feature or of a limit.
+fn write_cause_member<W: fmt::Write>(f: &mut fmt::Formatter<W>, cause: Cause) -> fmt::Result
+    ensures { WritesOnOk W.write_str_gives f.old result (cause_member (cause_seen cause)) f.new }
+{
+    match cause {
+        Cause::Vectors => Ok(()),
+        Cause::Limit(word) => write!(f, ",\"limit\":\"{word}\""),
+        Cause::Feature(word) => write!(f, ",\"feature\":\"{word}\""),
+        Cause::Another => Ok(()),
+    }
+}
+
+// The object of a file that was refused at this offset for this cause, with this message and these members.
 fn refusal_object(
     alloc: Global,
     name: &str,
     offset: u64,
-    kind: ErrorKind,
+    kind: KindWord,
     message: &str,
-    notes: &[String],
+    members: HelpMembers<'_>,
 ) -> Result<String, AllocError>
-    ensures { IfOk result (λ line.
-        string_bytes line ≡ refusal_object name.now offset kind message.now notes.now) }
+    ensures { IfOk result (λ line. string_bytes line ≡ refusal_object name.now offset
+        (kind_word (cause_seen kind.cause) kind.kind) message.now
+        (help_members (cause_seen members.entry.cause) members.entry.front.now
+        (option_map (λ x. x.now) members.entry.explanation))) }
 {
     let name = Quoted(name);
-    let word = KindWord(kind);
     let message = Quoted(message);
-    let feature = FeatureMember(kind);
-    let notes = NotesMember(notes);
     format!(in alloc;
-        "{{\"file\":\"{name}\",\"valid\":false,\"offset\":{offset},\"kind\":\"{word}\",\"message\":\"{message}\"{feature}{notes}}}\n"
+        "{{\"file\":\"{name}\",\"valid\":false,\"offset\":{offset},\"kind\":\"{kind}\",\"message\":\"{message}\"{members}}}\n"
     )
 }
 
-/// The text of a file that was refused by this error, whose first bytes are these: a line that a line feed ends, with these texts below it
-/// or, if the form is `Json`, in it; or nothing if the form is `Quiet`.
+/// The text of a file that was refused: a line that a line feed ends, or nothing if the form is `Quiet`. Below the line, if `explains` says so,
+/// come lines with what a person can do about the refusal and with this explanation; in the form `Json` the object has both.
 ///
 /// # Errors
 ///
@@ -138,22 +200,37 @@ fn refusal_object(
 pub fn refused_text(
     alloc: Global,
     form: Form,
+    explains: bool,
     name: &str,
-    error: &Error,
-    front: &[u8],
-    notes: &[String],
+    refusal: Refusal<'_>,
+    explanation: Option<&Explanation>,
 ) -> Result<String, AllocError>
-    ensures { IfOk result (λ line.
-        string_bytes line ≡ refused_text form name.now error.now front.now notes.now) }
+    ensures { IfOk result (λ line. string_bytes line ≡ refused_text form explains name.now refusal.entry.limits refusal.entry.error.now
+        refusal.entry.front.now (option_map (λ x. x.now) explanation.entry)) }
 {
+    let (error, front) = (refusal.error, refusal.front);
+    let cause = cause_of(&refusal.limits, error);
     match form {
         Form::Lines => {
-            let hint = Hint { error, front };
-            refusal_line(alloc, name, error.offset(), error.message(), hint, notes)
+            let below = LinesBelow {
+                explains,
+                cause,
+                front,
+                explanation,
+            };
+            refusal_lines(alloc, name, error.offset(), error.message(), below)
         }
         Form::Json => {
-            let kind = error.kind();
-            refusal_object(alloc, name, error.offset(), kind, error.message(), notes)
+            let kind = KindWord {
+                cause,
+                kind: error.kind(),
+            };
+            let members = HelpMembers {
+                cause,
+                front,
+                explanation,
+            };
+            refusal_object(alloc, name, error.offset(), kind, error.message(), members)
         }
         Form::Quiet => Ok(String::new(alloc)),
     }

@@ -1,23 +1,11 @@
 //! What a person can do about a refusal.
 ghost use Rattle.std.specs.Fmt.{WritesOnOk};
-ghost use Rattle.std.specs.Prelude.{◌≡◌, bytes_eq, take, codes};
-ghost use Rattle.wasm_check_lines.specs.Hints.{is_space, is_text, text_hint};
+ghost use Rattle.std.specs.Prelude.{◌≡◌, Some, bytes_eq, take, codes, option_map};
+ghost use Rattle.wasm_check_lines.specs.Causes.{cause_seen};
+ghost use Rattle.wasm_check_lines.specs.Hints.{feature_hint, framed, hint_for, is_space, is_text, limit_hint, text_hint};
 
-use crate::words::word_for;
+use crate::causes::Cause;
 use std::fmt;
-use wasm_types::{Error, ErrorKind};
-
-/// What the library says of an operator on vectors while the switch for them is off.
-const VECTORS_MESSAGE: &str = "unexpected SIMD opcode: 0xfd";
-
-/// What a person can do about a refusal by this error of an input that begins with these bytes.
-#[derive(Debug, Drop)]
-pub(crate) struct Hint<'a> {
-    /// The error.
-    pub(crate) error: &'a Error,
-    /// The first bytes.
-    pub(crate) front: &'a [u8],
-}
 
 // Whether a byte is a space of the text format.
 fn is_space(byte: u8) -> bool
@@ -45,35 +33,94 @@ fn begins_module(bytes: &[u8]) -> bool
     bytes.starts_with(b"(module")
 }
 
-impl fmt::Display for Hint<'_> {
-    ghost use Rattle.std.specs.Prelude.{Some};
-    ghost use Rattle.wasm_check_lines.specs.Hints.{hint_of};
-
-    ghost output = { λ h. Some (hint_of h.error.now h.front.now) };
-
-    fn fmt<W: fmt::Write>(&self, f: &mut fmt::Formatter<W>) -> fmt::Result {
-        if self.error.message() == VECTORS_MESSAGE {
-            return f.write_str(" (--vectors judges operators on vectors)");
-        }
-        match self.error.kind() {
-            ErrorKind::MissingFeature(features) => match word_for(features) {
-                Some(word) => write!(f, " (--features {word} allows it)"),
-                None => Ok(()),
-            },
-            ErrorKind::OutOfMemory => Ok(()),
-            ErrorKind::Failed => Ok(()),
-            ErrorKind::EndOfData { needed_hint: _ } => write_text_hint(f, self.front),
-            ErrorKind::Other => write_text_hint(f, self.front),
-        }
-    }
-}
-
-// That these bytes are the text format, if they are.
-fn write_text_hint<W: fmt::Write>(f: &mut fmt::Formatter<W>, front: &[u8]) -> fmt::Result
-    ensures { WritesOnOk W.write_str_gives f.old result (text_hint front.now) f.new }
+// A hint, if these bytes are the text format.
+fn text_hint(front: &[u8]) -> Option<&'static str>
+    ensures { option_map (λ h. h.now) result ≡ text_hint front.now }
 {
     if is_text(front) {
-        return f.write_str(" (this is the text format; wasm-check judges the binary format)");
+        return Some("this is the text format; wasm-check judges the binary format");
     }
-    Ok(())
+    None
+}
+
+/// Writes a text between two others, or nothing.
+pub fn write_framed<W: fmt::Write>(
+    f: &mut fmt::Formatter<W>,
+    before: &str,
+    text: Option<&str>,
+    after: &str,
+) -> fmt::Result
+    ensures { WritesOnOk W.write_str_gives f.old result (framed before.now (option_map (λ t. t.now) text.entry) after.now) f.new }
+{
+    let Some(text) = text else {
+        return Ok(());
+    };
+    f.write_str(before)?;
+    f.write_str(text)?;
+    f.write_str(after)
+}
+
+// Writes which option sets a limit.
+#[tactic(auto, unfolding(crate::specs::Hints::limit_hint))]
+fn write_limit<W: fmt::Write>(f: &mut fmt::Formatter<W>, word: &str) -> fmt::Result
+    ensures { WritesOnOk W.write_str_gives f.old result (limit_hint word.now) f.new }
+{
+    write!(f, "--limits {word}=N sets this limit")
+}
+
+// Writes which option allows a feature.
+#[tactic(auto, unfolding(crate::specs::Hints::feature_hint))]
+fn write_feature<W: fmt::Write>(f: &mut fmt::Formatter<W>, word: &str) -> fmt::Result
+    ensures { WritesOnOk W.write_str_gives f.old result (feature_hint word.now) f.new }
+{
+    write!(f, "--features {word} allows it")
+}
+
+// Writes which option sets a limit, between two texts.
+fn write_limit_hint<W: fmt::Write>(
+    f: &mut fmt::Formatter<W>,
+    before: &str,
+    word: &str,
+    after: &str,
+) -> fmt::Result
+    ensures { WritesOnOk W.write_str_gives f.old result (framed before.now (Some (limit_hint word.now)) after.now) f.new }
+{
+    f.write_str(before)?;
+    write_limit(f, word)?;
+    f.write_str(after)
+}
+
+// Writes which option allows a feature, between two texts.
+fn write_feature_hint<W: fmt::Write>(
+    f: &mut fmt::Formatter<W>,
+    before: &str,
+    word: &str,
+    after: &str,
+) -> fmt::Result
+    ensures { WritesOnOk W.write_str_gives f.old result (framed before.now (Some (feature_hint word.now)) after.now) f.new }
+{
+    f.write_str(before)?;
+    write_feature(f, word)?;
+    f.write_str(after)
+}
+
+/// Writes what to do about a refusal for this cause, of an input that begins with these bytes, between two texts; or nothing.
+pub(crate) fn write_hint<W: fmt::Write>(
+    f: &mut fmt::Formatter<W>,
+    before: &str,
+    cause: Cause,
+    front: &[u8],
+    after: &str,
+) -> fmt::Result
+    ensures { WritesOnOk W.write_str_gives f.old result (framed before.now (hint_for (cause_seen cause) front.now) after.now) f.new }
+{
+    match cause {
+        Cause::Vectors => {
+            let hint = "--vectors judges operators on vectors";
+            write_framed(f, before, Some(hint), after)
+        }
+        Cause::Limit(word) => write_limit_hint(f, before, word, after),
+        Cause::Feature(word) => write_feature_hint(f, before, word, after),
+        Cause::Another => write_framed(f, before, text_hint(front), after),
+    }
 }

@@ -6,6 +6,7 @@
 //! defines the texts, and what a person can do about a refusal.
 #![tactic(auto)]
 
+mod causes;
 mod forms;
 mod hints;
 mod json;
@@ -13,7 +14,9 @@ mod notes;
 mod shown;
 mod words;
 
-pub use forms::{Form, refused_text, valid_text};
+pub use forms::{Form, Refusal, refused_text, valid_text};
+pub use hints::write_framed;
 pub use json::Quoted;
+pub use notes::{Explanation, Member, Value};
 pub use shown::{Shown, lines_end_once, texts_are_shown_apart};
 pub use words::word_for;

@@ -1,59 +1,138 @@
-//! Explanations: texts below the line of a refusal, or within its object of JSON.
+//! Explanations: what is known of the place of a fault, as lines for people and as members of an object for programs.
 ghost use Rattle.std.specs.Fmt.{WritesOnOk};
-ghost use Rattle.std.specs.Prelude.{flat_map, string_bytes};
-ghost use Rattle.wasm_check_lines.specs.Forms.{next_item};
+ghost use Rattle.std.specs.Prelude.{◌≡◌, flat_map, option_map, string_bytes};
+ghost use Rattle.wasm_check_lines.specs.Explanations.{array_text, explanation_lines, explanation_member, member_text, next_item, note_line, value_text};
 
 use crate::json::Quoted;
 use crate::shown::Shown;
 use std::fmt;
 
-/// Texts as lines that two spaces begin.
+/// What a member has.
 #[derive(Debug, Drop)]
-pub(crate) struct NoteLines<'a>(pub(crate) &'a [String]);
-
-impl fmt::Display for NoteLines<'_> {
-    ghost use Rattle.std.specs.Prelude.{Some};
-    ghost use Rattle.wasm_check_lines.specs.Forms.{note_lines};
-
-    ghost output = { λ n. Some (note_lines n.0.now) };
-
-    fn fmt<W: fmt::Write>(&self, f: &mut fmt::Formatter<W>) -> fmt::Result {
-        for note in self.0 {
-            let note = Shown(note.as_str());
-            write!(f, "  {note}\n")?;
-        }
-        Ok(())
-    }
+pub enum Value {
+    /// A number.
+    Number(u64),
+    /// A text.
+    Text(String),
+    /// Texts, in order.
+    Texts(Vec<String>),
 }
 
-/// Texts as a member of an object, if there is one.
+/// A member of an object.
 #[derive(Debug, Drop)]
-pub(crate) struct NotesMember<'a>(pub(crate) &'a [String]);
-
-impl fmt::Display for NotesMember<'_> {
-    ghost use Rattle.std.specs.Prelude.{Some};
-    ghost use Rattle.wasm_check_lines.specs.Forms.{notes_member};
-
-    ghost output = { λ n. Some (notes_member n.0.now) };
-
-    fn fmt<W: fmt::Write>(&self, f: &mut fmt::Formatter<W>) -> fmt::Result {
-        let Some((first, others)) = self.0.split_first() else {
-            return Ok(());
-        };
-        let first = Quoted(first.as_str());
-        write!(f, ",\"explanation\":[\"{first}\"")?;
-        write_items(f, others)?;
-        f.write_str("]")
-    }
+pub struct Member {
+    /// Its name.
+    pub name: &'static str,
+    /// What it has.
+    pub value: Value,
 }
 
-// The texts that follow the first in an array.
-fn write_items<W: fmt::Write>(f: &mut fmt::Formatter<W>, notes: &[String]) -> fmt::Result
-    ensures { WritesOnOk W.write_str_gives f.old result (flat_map (λ n. next_item (string_bytes n)) notes.now) f.new }
+/// What is known of the place of a fault.
+#[derive(Debug, Drop)]
+pub struct Explanation {
+    /// The lines for people.
+    pub lines: Vec<String>,
+    /// The members for programs.
+    pub members: Vec<Member>,
+    /// The chapter of the standard that has the rule: it is the last line, and the first member.
+    pub chapter: &'static str,
+}
+
+// Writes texts as lines that two spaces begin.
+fn write_lines<W: fmt::Write>(f: &mut fmt::Formatter<W>, lines: &[String]) -> fmt::Result
+    ensures { WritesOnOk W.write_str_gives f.old result (flat_map (λ n. note_line (string_bytes n)) lines.now) f.new }
 {
-    for note in notes {
-        let note = Quoted(note.as_str());
-        write!(f, ",\"{note}\"")?;
+    for line in lines {
+        let line = Shown(line.as_str());
+        write!(f, "  {line}\n")?;
     }
     Ok(())
+}
+
+/// Writes an explanation as lines, if there is one.
+pub(crate) fn write_explanation<W: fmt::Write>(
+    f: &mut fmt::Formatter<W>,
+    explanation: Option<&Explanation>,
+) -> fmt::Result
+    ensures { WritesOnOk W.write_str_gives f.old result (explanation_lines (option_map (λ x. x.now) explanation.entry)) f.new }
+{
+    let Some(explanation) = explanation else {
+        return Ok(());
+    };
+    write_lines(f, explanation.lines.as_slice())?;
+    let chapter = Shown(explanation.chapter);
+    write!(f, "  rules: {chapter}\n")
+}
+
+// Writes the texts that follow the first in an array.
+fn write_items<W: fmt::Write>(f: &mut fmt::Formatter<W>, texts: &[String]) -> fmt::Result
+    ensures { WritesOnOk W.write_str_gives f.old result (flat_map (λ n. next_item (string_bytes n)) texts.now) f.new }
+{
+    for text in texts {
+        let text = Quoted(text.as_str());
+        write!(f, ",\"{text}\"")?;
+    }
+    Ok(())
+}
+
+// Writes texts as an array.
+fn write_array<W: fmt::Write>(f: &mut fmt::Formatter<W>, texts: &[String]) -> fmt::Result
+    ensures { WritesOnOk W.write_str_gives f.old result (array_text texts.now) f.new }
+{
+    let Some((first, others)) = texts.split_first() else {
+        return f.write_str("[]");
+    };
+    let first = Quoted(first.as_str());
+    write!(f, "[\"{first}\"")?;
+    write_items(f, others)?;
+    f.write_str("]")
+}
+
+// Writes what a member has.
+fn write_value<W: fmt::Write>(f: &mut fmt::Formatter<W>, value: &Value) -> fmt::Result
+    ensures { WritesOnOk W.write_str_gives f.old result (value_text value.now) f.new }
+{
+    match value {
+        Value::Number(number) => write!(f, "{number}"),
+        Value::Text(text) => {
+            let text = Quoted(text.as_str());
+            write!(f, "\"{text}\"")
+        }
+        Value::Texts(texts) => write_array(f, texts.as_slice()),
+    }
+}
+
+// Writes a member that others come before.
+fn write_member<W: fmt::Write>(f: &mut fmt::Formatter<W>, member: &Member) -> fmt::Result
+    ensures { WritesOnOk W.write_str_gives f.old result (member_text member.now) f.new }
+{
+    let name = Quoted(member.name);
+    write!(f, ",\"{name}\":")?;
+    write_value(f, &member.value)
+}
+
+// Writes members that others come before.
+fn write_members<W: fmt::Write>(f: &mut fmt::Formatter<W>, members: &[Member]) -> fmt::Result
+    ensures { WritesOnOk W.write_str_gives f.old result (flat_map member_text members.now) f.new }
+{
+    for member in members {
+        write_member(f, member)?;
+    }
+    Ok(())
+}
+
+/// Writes an explanation as a member that others come before, if there is one.
+pub(crate) fn write_explanation_member<W: fmt::Write>(
+    f: &mut fmt::Formatter<W>,
+    explanation: Option<&Explanation>,
+) -> fmt::Result
+    ensures { WritesOnOk W.write_str_gives f.old result (explanation_member (option_map (λ x. x.now) explanation.entry)) f.new }
+{
+    let Some(explanation) = explanation else {
+        return Ok(());
+    };
+    let chapter = Quoted(explanation.chapter);
+    write!(f, ",\"explanation\":{{\"rules\":\"{chapter}\"")?;
+    write_members(f, explanation.members.as_slice())?;
+    f.write_str("}")
 }

@@ -16,7 +16,8 @@ use wasm_check_command::run_by;
 /// the words name no files by `clap`'s reading or have a list that is refused, and then nothing is written to `out`, if a fault stopped the
 /// judging or the help, or if a file came to no verdict and the judging went on. The files are judged by the features and limits that the
 /// words ask for. All files are opened before the first is judged, except with `--keep-going`; those past the first hundred are then closed,
-/// and opened again in their turn, and so are all if the system does not let so many be open. The file `-` is standard input.
+/// and opened again in their turn, and so are all if the system does not let so many be open. The file `-` is standard input. A fault has one
+/// line on `err`, and with `--json` an object below it.
 pub fn run<'a, F, S, W, E>(rt: &F, words: &'a [S], out: &mut W, err: &mut E) -> u8
 where
     F: Files + Input + AllocGlobal,
@@ -32,5 +33,30 @@ where
     ensures stopped { result ≡ 2
         → HasNoStatus AcceptsUnder (map S.text words.now) (W.contents out.old) (W.contents out.new) }
 {
-    run_by(&Validating, rt, words, out, err)
+    run_by(&Validating, rt, words, false, out, err)
+}
+
+/// The same, with a second line below that of a fault, which tells what may help, if `err` is a person's terminal.
+pub fn run_at<'a, F, S, W, E>(
+    rt: &F,
+    words: &'a [S],
+    at_terminal: bool,
+    out: &mut W,
+    err: &mut E,
+) -> u8
+where
+    F: Files + Input + AllocGlobal,
+    S: AsStr,
+    W: Write,
+    E: Write,
+    ensures known { result ≤ 2 }
+    ensures quiet { result < 2 → Keeps (E.contents err.old) (E.contents err.new) }
+    ensures valid { result ≡ 0 → ShowsHelp (map S.text words.now) (W.contents out.old) (W.contents out.new)
+        ⊎ Reports AcceptsUnder (map S.text words.now) (W.contents out.old) (W.contents out.new) AllValid }
+    ensures invalid { result ≡ 1
+        → Reports AcceptsUnder (map S.text words.now) (W.contents out.old) (W.contents out.new) SomeInvalid }
+    ensures stopped { result ≡ 2
+        → HasNoStatus AcceptsUnder (map S.text words.now) (W.contents out.old) (W.contents out.new) }
+{
+    run_by(&Validating, rt, words, at_terminal, out, err)
 }

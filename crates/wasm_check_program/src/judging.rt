@@ -7,10 +7,13 @@ ghost use Rattle.wasm_check_command.specs.Modes.{HasPieces, ruling_by};
 ghost use Rattle.wasm_check_command.specs.Reports.{sources_of, IsReported, Stops};
 ghost use Rattle.wasm_check_program.specs.Faults.{unjudged};
 
+use crate::explaining::explanation_of;
 use std::alloc::{AllocError, Global};
 use std::io::{Read, Write};
-use wasm_check_command::{CheckError, Input, Judge, MAX_BYTES, Mode, Status, Unjudged, check_by};
+use wasm_check_command::{Input, Judge, MAX_BYTES, Mode, Status, Unjudged, check_by};
 use wasm_check_explanation::explain;
+use wasm_check_faults::CheckError;
+use wasm_check_lines::Explanation;
 use wasm_module_validator::{Validator, ValidatorId};
 use wasm_module_validator_streaming::{ReadError, WatchedReader, validate_reader_limited};
 use wasm_types::{Error, Limits, WasmFeatures};
@@ -63,8 +66,10 @@ impl Judge for Validating {
         limits: Limits,
         bytes: &[u8],
         error: &Error,
-    ) -> Result<Vec<String>, AllocError> {
-        explain(alloc, features, limits, bytes, error)
+    ) -> Result<Option<Explanation>, AllocError> {
+        let texts = explain(alloc, features, limits, bytes, error)?;
+        let explanation = explanation_of(alloc, texts)?;
+        Ok(Some(explanation))
     }
 }
 

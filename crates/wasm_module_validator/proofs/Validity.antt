@@ -45,6 +45,7 @@ use Rattle.wasm_operator_validator_soundness.proofs.Options.{address_is}
 use Rattle.wasm_operator_validator_soundness.proofs.RunsFitting.{fits_below}
 use Rattle.wasm_operator_validator_soundness.proofs.Objects.{function_abstract}
 use Rattle.wasm_operator_validator_soundness.proofs.RunsSteps.{programs_sound, constants_sound, constants_valid as constant_states, runs_stay_valid, starts_valid}
+use Rattle.wasm_operator_validator_store.proofs.Steps.{store_runs_sound}
 use Rattle.wasm_operator_validator_soundness.proofs.Values.{calls_through}
 use Rattle.wasm_types.specs.trees.Matches.{ResultsMatch}
 use Rattle.wasm_module_validator.specs.soundness.Modules.{types_in, host_function, own_function, own_functions, program_of, MayBeImported, AreHosts}
@@ -267,13 +268,13 @@ value_kept p seen (ref_function (Some x) u) t f =
     let r = map_at without_body p.functions x f.0.2.0 f.0.2.1 in
     ((f.0.0, f.0.1, (r.0, r.1, ap (λ (g : Function). g.type) r.2 ∙ f.0.2.2)), f.1)
 value_kept p seen (ref_function None u) t f = f
-value_kept p seen (number_value n) t f = f
+value_kept p seen (number_value n id) t f = f
 value_kept p seen (ref_null s h) t f = f
-value_kept p seen (ref_object u) t f = f
-value_kept p seen ref_i31 t f = f
-value_kept p seen ref_host t f = f
-value_kept p seen ref_extern t f = f
-value_kept p seen (ref_exn u) t f = f
+value_kept p seen (ref_object id u) t f = f
+value_kept p seen (ref_i31 id) t f = f
+value_kept p seen (ref_host id) t f = f
+value_kept p seen (ref_extern id) t f = f
+value_kept p seen (ref_exn id u) t f = f
 
 each_weaker : {A : Type 0} (P Q : A → Type 0) (xs : List A) → ((x : A) → P x → Q x) → Each P xs → Each Q xs
 each_weaker P Q [] k h = tt
@@ -396,6 +397,7 @@ modules_sound z m standard valid hosts hosted = record {
   states = λ s results started answers t runs.
       let v = program_valid z m hosts standard valid hosted in
       runs_stay_valid (program_of z m hosts) results s answers t v (starts_valid (program_of z m hosts) s results v started) runs;
+  stores = λ s results u started fits knows. store_runs_sound (program_of z m hosts) s results u (program_valid z m hosts standard valid hosted) started fits knows;
   start = may_start (program_of z m hosts) (program_valid z m hosts standard valid hosted) m.start valid.start;
   constants = each_constant_fits z m hosts standard valid hosted;
 }

@@ -46,7 +46,8 @@ impl BodyJudge {
     }
 
     /// Whether the bytes of a body spell a valid function of the type at an index of the module's types, by these features and limits. It may
-    /// say no of a valid one too: then [`FuncValidator::validate`](crate::FuncValidator::validate) tells.
+    /// say no of a valid one too, as it does if it is refused memory: then [`FuncValidator::validate`](crate::FuncValidator::validate)
+    /// tells, or answers that there is no memory.
     pub fn accepts<R: WasmModuleResources>(
         &mut self,
         resources: &R,

@@ -4,7 +4,7 @@
 //! [`FuncValidator::validate`] judges a whole [`FunctionBody`]. It is Ok exactly if the bytes spell a valid function of the type,
 //! read by the validator's own features and limits, out of memory aside. Or its parts are called one by one, locals first, then operators.
 //! A [`BodyJudge`] judges one body after the other in one memory, and does not say why one is refused. A [`PlainJudge`] of one module does so
-//! faster, and leaves more bodies open.
+//! faster, in one loop, and leaves more bodies open. [`judge_function`] tries them in turn.
 //!
 //! ```text
 //! let allocs = FuncValidatorAllocations::new(alloc);
@@ -31,12 +31,14 @@ mod operators;
 mod plain;
 mod validator;
 mod visiting;
+mod ways;
 
 pub use beginning::{FuncToValidate, FuncValidatorAllocations};
 pub use judging::BodyJudge;
-pub use plain::PlainJudge;
+pub use plain::{PlainJudge, entries_for};
 pub use validator::FuncValidator;
 pub use wasm_operator_validator_driver::{
     BlockType, Frame, FrameKind, OperatorValidator, WasmModuleResources,
 };
 pub use wasm_operators_bodies::FunctionBody;
+pub use ways::judge_function;

@@ -84,6 +84,23 @@ impl PlainJudge {
     }
 }
 
+// How many entries each table of any module may have, and how many none may have more.
+const LEAST: u64 = 64;
+
+const MOST: u64 = 16_000_000;
+
+/// How many entries each table may have of a module with so many bodies, of so many bytes in all: so making the tables takes no longer than
+/// judging the bodies. A module without bodies needs no tables.
+pub fn entries_for(bodies: u64, bytes: u64) -> u32 {
+    if bodies == 0 {
+        return 0;
+    }
+    let entries = LEAST
+        .saturating_add(bodies.saturating_mul(16))
+        .saturating_add(bytes / 4);
+    entries.min(MOST) as u32
+}
+
 // Tables of a module and of no body yet.
 fn first_tables(alloc: Global, known: Known, features: WasmFeatures) -> Tables
     ensures known { result.known ≡ known }

@@ -15,6 +15,7 @@ mod TooMany
 mod Moved
 mod Marks
 mod NewGlobals
+mod ShortGlobals
 mod NewTables
 mod NewElements
 mod NewData

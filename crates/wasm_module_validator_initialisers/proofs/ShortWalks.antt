@@ -75,7 +75,7 @@ read_alone o text z s t plain spelled taken = (decides-constant z).complete s t 
 )
 
 -- it refers to what it refers to alone
-refers_alone : (z : Settings) (o : Op) (names text now after : List ℕ) → SpelledExpression z (alone o) text → referred_in (alone o) ≡ names → after ≡ now ++ names
+pub refers_alone : (z : Settings) (o : Op) (names text now after : List ℕ) → SpelledExpression z (alone o) text → referred_in (alone o) ≡ names → after ≡ now ++ names
     → NamesMore z text now after
 refers_alone z o names text now after spelled named e c other =
     e ∙ ap (λ (xs : List ℕ). now ++ xs) (sym named ∙ ap referred_in (sym (one_expression z c (alone o) text other spelled)))

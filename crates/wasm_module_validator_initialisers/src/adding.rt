@@ -13,10 +13,12 @@ mod globals;
 pub mod laws;
 mod marking;
 mod naming;
+mod short;
 mod tables;
 
 pub use crate::elements::OperatorValidatorAllocations;
 pub use data::{check_data_item, check_data_with, check_short_data_item};
 pub use elements::add_element;
 pub use globals::add_global;
+pub use short::add_short_global;
 pub use tables::add_table;

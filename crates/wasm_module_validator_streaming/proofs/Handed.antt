@@ -1,12 +1,23 @@
 -- Bytes that are handed over: one part more of them, and what that leads to.
-use Rattle.std.proofs.Common.{◌≡◌, ◌∙◌, ◌<◌, ◌≤◌, ◌+◌, ◌-◌, ◌^◌, ℕ, Bool, false, List, [], ◌∷◌, ◌++◌, length, take, drop, refl, sym, ap, subst, arith, append-nil, append_assoc, length-append, length-take-le, take-append-drop, take-add}
+use Rattle.std.proofs.Common.{◌≡◌, ◌∙◌, ◌<◌, ◌≤◌, ◌+◌, ◌-◌, ◌^◌, ℕ, zero, suc, Bool, false, List, [], ◌∷◌, ◌++◌, length, take, drop, Result, Ok, Err, refl, sym, ap, subst, arith, append-nil, append_assoc, length-append, length-drop, length-take-le, take-append-drop, take-add}
+use Rattle.std.specs.Prelude.{IfErr}
 use Rattle.std.proofs.lemmas.Bool.{false≢true}
-use Rattle.wasm_module_validator_streaming.specs.Taking.{IsMidst, DeniesFrom}
-use Rattle.wasm_module_validator_streaming.specs.Handing.{HasRoom, Follows, DeniesBehind}
+use Rattle.wasm_sections_parser.specs.runs.hints.Hints.{AreBytes}
+use Rattle.wasm_types.specs.decoding.ErrorValue.{ErrorValue}
+use Rattle.wasm_module_validator_streaming.specs.declared.handing.PieceError.{PieceError}
+use Rattle.wasm_module_validator_streaming.specs.declared.handing.PieceError.TheVariants as errors
+use Rattle.wasm_module_validator_streaming.specs.Taking.{IsMidst, IsPending, DeniesFrom}
+use Rattle.wasm_module_validator_streaming.specs.Handing.{HasRoom, Follows, DeniesBehind, IsOverlong, LongBehind, LongFrom, Says}
 
 -- a law of what takes bytes: more may come
 abbrev pub MayGrow : {S : Type 0} → (S → List ℕ → Bool → List ℕ → S → Type 0) → Type 0
 MayGrow {S = S} stands = (first : S) (got : List ℕ) (rest : List ℕ) (now : S) (bytes : List ℕ) → stands first got false rest now → stands first (got ++ bytes) false (rest ++ bytes) now
+
+-- the first of some bytes are bytes
+bytes_front : (n : ℕ) (xs : List ℕ) → AreBytes xs → AreBytes (take n xs)
+bytes_front zero xs h = tt
+bytes_front (suc n) [] h = tt
+bytes_front (suc n) (x ∷ xs) h = (h.0, bytes_front n xs h.1)
 
 -- where a list has no item there is none
 pub nothing_held : (held all : List ℕ) → all ≡ held → length all ≡ 0 → held ≡ []
@@ -17,6 +28,15 @@ nothing_held (x ∷ xs) all same none = let e = ap length same in absurd (omega 
 pub turns_count : (from count turn all left : ℕ) → turn ≤ from → from ≤ all → left ≡ all - from → count ≤ left → (count < left → 0 < count) → ¬ (from + count ≡ all)
     → turn + 1 ≤ from + count
 turns_count from count turn all left turns within is few some more = let one = some (omega (arith, within, is, few, more)) in omega (arith, turns, one)
+
+-- what an error says follows in both of its cases
+pub says_so : (P Q : ErrorValue → Type 0) (A B : Type 0) → ((e : ErrorValue) → P e → Q e) → (A → B) → (e : PieceError) → Says P A e → Says Q B e
+says_so P Q A B denied long (errors.Refused e) h = denied e h
+says_so P Q A B denied long errors.TooLong h = long h
+
+pub says_if : {V : Type 0} (P Q : ErrorValue → Type 0) (A B : Type 0) → ((e : ErrorValue) → P e → Q e) → (A → B) → (r : Result V PieceError) → IfErr r (Says P A) → IfErr r (Says Q B)
+says_if P Q A B denied long (Ok v) h = tt
+says_if P Q A B denied long (Err e) h = says_so P Q A B denied long e h
 
 -- ---- a part
 
@@ -57,6 +77,30 @@ module _ {S : Type 0} (stands : S → List ℕ → Bool → List ℕ → S → T
 
   pub all_denies : {E : Type 0} (denied : S → List ℕ → E → Type 0) (text : List ℕ) (e : E) → rest ≡ [] → DeniesFrom stands denied false text now e → DeniesBehind stands denied rest now text e
   all_denies denied text e none h = λ first got s room. h first (got ++ text) (subst (λ (l : List ℕ). stands first (got ++ text) false (l ++ text) now) none (grow first got rest now text s)) room
+
+  pub all_long : (waits : S → List ℕ → Type 0) (most : ℕ) (text : List ℕ) → rest ≡ [] → LongFrom stands waits most text now → LongBehind stands waits most rest now text
+  all_long waits most text none h = λ first got s room.
+      h first (got ++ text) (subst (λ (l : List ℕ). stands first (got ++ text) false (l ++ text) now) none (grow first got rest now text s)) room
+
+  -- With as many of the bytes as leave one to what is needed, no item is whole; with one more they are too many.
+  pub part_long : (waits : S → List ℕ → Type 0) (needed most n : ℕ) (text : List ℕ) → IsPending waits needed rest now → AreBytes text → length rest ≤ most → length rest < needed → n ≤ length text
+      → n ≤ needed - length rest → most - length rest < n → LongBehind stands waits most rest now text
+  part_long waits needed most n text pending bytes held less few wanted full = λ first got s room. record {
+    front = got ++ take (n - 1) text;
+    later = drop (n - 1) text;
+    whole = sym (append_assoc got (take (n - 1) text) (drop (n - 1) text) ∙ ap (λ (l : List ℕ). got ++ l) (take-append-drop (n - 1) text));
+    passed = (
+      rest ++ take (n - 1) text,
+      now,
+      grow first got rest now (take (n - 1) text) s,
+      pending.later (take (n - 1) text) (bytes_front (n - 1) text bytes) (omega (arith, length-append rest (take (n - 1) text), count, less, wanted, full, held)),
+    );
+    full = omega (arith, length-append rest (take (n - 1) text), count, full, held);
+    more = omega (arith, length-append rest (take (n - 1) text), count, full, held, few, length-drop (n - 1) text);
+  }
+    where
+      count : length (take (n - 1) text) ≡ n - 1
+      count = length-take-le (n - 1) text (omega (arith, few))
 
 -- ---- one part after the other
 
@@ -100,3 +144,9 @@ module _ {S : Type 0} (stands : S → List ℕ → Bool → List ℕ → S → T
       subst (λ (l : List ℕ). denied first (l ++ more) e) (parts got)
       (h first (got ++ take n text) (came first got s (omega (arith, sum, room))) (subst (λ (l : List ℕ). length l < 2 ^ 64) (sym (parts got)) room) more last
       (subst (λ (l : List ℕ). length (l ++ more) < 2 ^ 64) (sym (parts got)) room'))
+
+  pub rest_long : (waits : S → List ℕ → Type 0) (most : ℕ) → LongBehind stands waits most rest now (drop n text) → LongBehind stands waits most before then text
+  rest_long waits most h = λ first got s room.
+      let sum = counts got in
+      subst (λ (l : List ℕ). IsOverlong stands waits first most l) (parts got)
+      (h first (got ++ take n text) (came first got s (omega (arith, sum, room))) (subst (λ (l : List ℕ). length l < 2 ^ 64) (sym (parts got)) room))

@@ -1,23 +1,23 @@
 -- A module whose pieces are handed over: what one piece more leads to.
-use Rattle.std.proofs.Common.{◌≡◌, ◌<◌, ◌≤◌, ◌+◌, ◌^◌, ℕ, false, List, [], ◌++◌, length, Some, None, Result, Ok, Err, vec_len, sym, ap, subst, arith, append-nil, append_assoc, length-append}
+use Rattle.std.proofs.Common.{◌≡◌, ◌∙◌, ◌<◌, ◌≤◌, ◌+◌, ◌^◌, inl, inr, ℕ, false, List, [], ◌++◌, length, Some, None, Err, vec_len, sym, ap, subst, arith, append-nil, append_assoc, length-append}
 use Rattle.std.proofs.lemmas.Bool.{false≢true}
 use Rattle.wasm_types.specs.decoding.Denials.{Denies}
 use Rattle.wasm_types.specs.decoding.ErrorValue.{ErrorValue}
 use Rattle.wasm_types.specs.decoding.declared.error.ErrorKind.{ErrorKind}
-use Rattle.wasm_types.specs.decoding.declared.error.ErrorKind.TheVariants as kinds
 use Rattle.wasm_types.specs.settings.Settings.{Settings}
 use Rattle.wasm_module_validator_index_spaces.specs.declared.view.validator_id.ValidatorId.{ValidatorId}
 use Rattle.wasm_module_validator.specs.Shown.{Learned}
 use Rattle.wasm_module_validator_section_order.specs.rules.Accepts.{AcceptsUnder}
+use Rattle.wasm_module_validator_streaming.specs.declared.handing.PieceError.{PieceError}
+use Rattle.wasm_module_validator_streaming.specs.declared.handing.PieceError.TheVariants as errors
 use Rattle.wasm_module_validator_streaming.specs.declared.judging.Judging.{Judging}
 use Rattle.wasm_module_validator_streaming.specs.declared.pieces.ModuleInPieces.{ModuleInPieces}
 use Rattle.wasm_module_validator_streaming.specs.Awaiting.{IsNotRefused}
-use Rattle.wasm_module_validator_streaming.specs.HandedOver.{RefusesFrom, IsJudged, IsJudgedOr, Came, IsUnderWay, TellsModule}
-use Rattle.wasm_module_validator_streaming.specs.Handing.{HasRoom, Follows, DeniesBehind, TellsLast}
+use Rattle.wasm_module_validator_streaming.specs.HandedOver.{DeniesAll, HasLongItem, RefusesFrom, IsJudged, IsJudgedOr, Came, IsUnderWay, TellsModule, IsAgain}
+use Rattle.wasm_module_validator_streaming.specs.Handing.{HasRoom, Follows, DeniesBehind, IsOverlong, LongBehind, Says}
 use Rattle.wasm_module_validator_streaming.specs.Taking.{IsMidst, IsPending}
 use Rattle.wasm_module_validator_streaming.specs.Verdicts.{IsRefusal, IsVerdict, StandsAt, ShownAt, DeniedAt, WaitsAt}
-use Rattle.wasm_module_validator_streaming.specs.laws.Running.{memory_denies}
-use Rattle.wasm_module_validator_streaming.proofs.Stepping.{passed_here}
+use Rattle.wasm_module_validator_streaming.proofs.Stepping.{not_refused_here, passed_here}
 use Rattle.wasm_module_validator_streaming.proofs.Waiting.{none_pending}
 
 -- ---- what is known of one that is not refused
@@ -35,28 +35,36 @@ module _ (z : Settings) (id : ValidatorId) (got : List ℕ) (p : ModuleInPieces)
       let j = judged_of none c in
       subst (λ (y : Settings). IsNotRefused y got) j.settings (passed_here j.first got (p.pending.bytes.items, p.judging, j.there, j.pending.here))
 
-  pub refusal_of : (e : ErrorValue) → p.refused ≡ Some e → Came z id got p → RefusesFrom z got e
+  pub refusal_of : (e : PieceError) → p.refused ≡ Some e → Came z id got p → RefusesFrom z p.most got e
   refusal_of e some c = subst (IsJudgedOr z id got p) some c.judged
 
-  -- what is refused stays so, whatever comes
-  pub still_refused : (e : ErrorValue) → (bytes : List ℕ) → RefusesFrom z got e → RefusesFrom z (got ++ bytes) e
-  still_refused e bytes h = λ more room. subst (λ (l : List ℕ). IsRefusal z l e) (sym (append_assoc got bytes more))
+  -- what is refused stays so, whatever comes, and so does what is too long
+  pub still_refused : (e : PieceError) → (most : ℕ) → (bytes : List ℕ) → RefusesFrom z most got e → RefusesFrom z most (got ++ bytes) e
+  still_refused (errors.Refused e) most bytes h = λ more room. subst (λ (l : List ℕ). IsRefusal z l e) (sym (append_assoc got bytes more))
       (h (bytes ++ more) (subst (λ (l : List ℕ). length l < 2 ^ 64) (append_assoc got bytes more) room))
+  still_refused errors.TooLong most bytes (inl h) = inl (record {
+    front = h.front;
+    later = h.later ++ bytes;
+    whole = ap (λ (l : List ℕ). l ++ bytes) h.whole ∙ append_assoc h.front h.later bytes;
+    judged = h.judged;
+    full = h.full;
+    more = let more = h.more in let all = length-append h.later bytes in omega (arith, more, all);
+  })
+  still_refused errors.TooLong most bytes (inr h) = inr (let all = length-append got bytes in omega (arith, all, h))
 
-  pub refused_came : (e : ErrorValue) (q : ModuleInPieces) → q.refused ≡ Some e → RefusesFrom z got e → vec_len q.pending.bytes ≤ q.most → Came z id got q
+  pub refused_came : (e : PieceError) (q : ModuleInPieces) → q.refused ≡ Some e → RefusesFrom z q.most got e → vec_len q.pending.bytes ≤ q.most → Came z id got q
   refused_came e q some h held = record { judged = subst (IsJudgedOr z id got q) (sym some) h; held = held }
 
   -- and so it is where nothing else changes
-  pub still_came : (e : ErrorValue) → (bytes : List ℕ) → p.refused ≡ Some e → Came z id got p → Came z id (got ++ bytes) p
-  still_came e bytes some c = record { judged = subst (IsJudgedOr z id (got ++ bytes) p) (sym some) (still_refused e bytes (refusal_of e some c)); held = c.held }
-
-  -- out of memory is no verdict
-  pub memory_refuses : (e : ErrorValue) → e.kind ≡ kinds.OutOfMemory → RefusesFrom z got e
-  memory_refuses e k = λ more room. memory_denies z (got ++ more) e k
+  pub still_came : (e : PieceError) → (bytes : List ℕ) → p.refused ≡ Some e → Came z id got p → Came z id (got ++ bytes) p
+  still_came e bytes some c = record { judged = subst (IsJudgedOr z id (got ++ bytes) p) (sym some) (still_refused e p.most bytes (refusal_of e some c)); held = c.held }
 
 -- an error of the same kind refuses the same
-pub same_refuses : (z : Settings) (got : List ℕ) (e k : ErrorValue) → k.kind ≡ e.kind → RefusesFrom z got e → RefusesFrom z got k
-same_refuses z got e k same h = λ more room. subst (λ (kind : ErrorKind). Denies kind (AcceptsUnder z (got ++ more))) (sym same) (h more room)
+pub same_refuses : (z : Settings) (most : ℕ) (got : List ℕ) (e k : PieceError) → IsAgain e k → RefusesFrom z most got e → RefusesFrom z most got k
+same_refuses z most got (errors.Refused e) (errors.Refused k) same h = λ more room. subst (λ (kind : ErrorKind). Denies kind (AcceptsUnder z (got ++ more))) (sym same.0) (h more room)
+same_refuses z most got (errors.Refused e) errors.TooLong same h = absurd same
+same_refuses z most got errors.TooLong (errors.Refused k) same h = absurd same
+same_refuses z most got errors.TooLong errors.TooLong same h = h
 
 -- ---- one piece more
 
@@ -91,8 +99,24 @@ module _ (z : Settings) (id : ValidatorId) (got : List ℕ) (p : ModuleInPieces)
     room = fits;
   }
 
-  pub piece_refused : (e : ErrorValue) → DeniesBehind StandsAt DeniedAt p.pending.bytes.items p.judging bytes e → RefusesFrom z (got ++ bytes) e
-  piece_refused e h = λ more room. subst (λ (y : Settings). IsRefusal y ((got ++ bytes) ++ more) e) j.settings (h j.first got j.there fits more (λ t. absurd (false≢true t)) room)
+  piece_denied : (e : ErrorValue) → DeniesBehind StandsAt DeniedAt p.pending.bytes.items p.judging bytes e → DeniesAll z (got ++ bytes) e
+  piece_denied e h = λ more room. subst (λ (y : Settings). IsRefusal y ((got ++ bytes) ++ more) e) j.settings (h j.first got j.there fits more (λ t. absurd (false≢true t)) room)
+
+  long_item : (first : Judging) (most : ℕ) → IsOverlong StandsAt WaitsAt first most (got ++ bytes) → HasLongItem first.validator.settings most (got ++ bytes)
+  unfolding passed_here not_refused_here
+  long_item first most h = record { front = h.front; later = h.later; whole = h.whole; judged = passed_here first h.front h.passed; full = h.full; more = h.more }
+
+  pub piece_refused : (most : ℕ) (e : PieceError) → Says (DeniesBehind StandsAt DeniedAt p.pending.bytes.items p.judging bytes) (LongBehind StandsAt WaitsAt most p.pending.bytes.items p.judging bytes) e
+      → RefusesFrom z most (got ++ bytes) e
+  piece_refused most (errors.Refused e) h = piece_denied e h
+  piece_refused most errors.TooLong h = inl (subst (λ (y : Settings). HasLongItem y most (got ++ bytes)) j.settings (long_item j.first most (h j.first got j.there fits)))
+
+-- offsets end before a module of so many bytes does
+pub too_many : (z : Settings) (id : ValidatorId) (got : List ℕ) (p : ModuleInPieces) → p.refused ≡ None → Came z id got p → (bytes : List ℕ) → 2 ^ 64 ≤ p.came + length bytes
+    → RefusesFrom z p.most (got ++ bytes) errors.TooLong
+too_many z id got p none c bytes many =
+    let counted = (judged_of z id got p none c).counted in
+    inr (let all = length-append got bytes in omega (arith, all, counted, many))
 
 -- ---- the end
 
@@ -101,17 +125,21 @@ last_midst p none way =
     let j = judged_of way.settings way.id way.got p none way.came in
     record { first = j.first; got = way.got; there = j.there; room = j.room }
 
-pub end_told : (z : Settings) (id : ValidatorId) (got : List ℕ) (p : ModuleInPieces) → p.refused ≡ None → Came z id got p → (result : Result Learned ErrorValue)
-    → ((first : Judging) (got : List ℕ) → StandsAt first got false p.pending.bytes.items p.judging → length got < 2 ^ 64 → TellsLast ShownAt DeniedAt first got result) → TellsModule z id got result
-end_told z id got p none c (Ok t) h =
+pub end_accepted : (z : Settings) (id : ValidatorId) (got : List ℕ) (p : ModuleInPieces) → p.refused ≡ None → Came z id got p → (t : Learned)
+    → ((first : Judging) (got : List ℕ) → StandsAt first got false p.pending.bytes.items p.judging → length got < 2 ^ 64 → ShownAt first got t) → IsVerdict z id got t
+end_accepted z id got p none c t h =
     let j = judged_of z id got p none c in
     subst (λ (y : Settings). IsVerdict y id got t) j.settings (subst (λ (i : ValidatorId). IsVerdict j.first.validator.settings i got t) j.own (h j.first got j.there j.room))
-end_told z id got p none c (Err e) h =
+
+pub end_denied : (z : Settings) (id : ValidatorId) (got : List ℕ) (p : ModuleInPieces) → p.refused ≡ None → Came z id got p → (e : ErrorValue)
+    → ((first : Judging) (got : List ℕ) → StandsAt first got false p.pending.bytes.items p.judging → length got < 2 ^ 64 → DeniedAt first got e) → IsRefusal z got e
+end_denied z id got p none c e h =
     let j = judged_of z id got p none c in
     subst (λ (y : Settings). IsRefusal y got e) j.settings (h j.first got j.there j.room)
 
-pub end_refused : (z : Settings) (got : List ℕ) (e : ErrorValue) → length got < 2 ^ 64 → RefusesFrom z got e → IsRefusal z got e
-end_refused z got e room h = subst (λ (l : List ℕ). IsRefusal z l e) (append-nil got) (h [] (subst (λ (l : List ℕ). length l < 2 ^ 64) (sym (append-nil got)) room))
+pub end_refused : (z : Settings) (id : ValidatorId) (most : ℕ) (got : List ℕ) (e : PieceError) → length got < 2 ^ 64 → RefusesFrom z most got e → TellsModule z id most got (Err e)
+end_refused z id most got (errors.Refused e) room h = subst (λ (l : List ℕ). IsRefusal z l e) (append-nil got) (h [] (subst (λ (l : List ℕ). length l < 2 ^ 64) (sym (append-nil got)) room))
+end_refused z id most got errors.TooLong room h = h
 
 -- ---- the beginning
 

@@ -1,5 +1,5 @@
 -- One item more of the bytes that came, and what all whole items of them lead to.
-use Rattle.std.proofs.Common.{◌≡◌, ◌∙◌, ◌<◌, ◌≤◌, ◌+◌, ◌-◌, ◌^◌, ℕ, Bool, false, List, length, take, drop, sym, ap, subst, length-drop, drop-drop}
+use Rattle.std.proofs.Common.{◌≡◌, ◌∙◌, ◌<◌, ◌≤◌, ◌+◌, ◌-◌, ◌^◌, ℕ, Bool, false, List, [], length, take, drop, sym, ap, subst, arith, append-nil, length-drop, drop-drop}
 use Rattle.std.proofs.Math.Seq.{take-length}
 use Rattle.wasm_types.specs.decoding.ErrorValue.{ErrorValue}
 use Rattle.wasm_module_validator_streaming.specs.declared.taking.Taken.{Taken}
@@ -7,6 +7,7 @@ use Rattle.wasm_module_validator_streaming.specs.declared.taking.Taken.TheVarian
 use Rattle.wasm_module_validator_streaming.specs.declared.taking.Advanced.{Advanced}
 use Rattle.wasm_module_validator_streaming.specs.declared.taking.Advanced.TheVariants as advanced
 use Rattle.wasm_module_validator_streaming.specs.Taking.{IsMidst, IsPending, WaitsFor, Carries, DeniesFrom, Takes, Advances}
+use Rattle.wasm_module_validator_streaming.specs.Handing.{LongFrom}
 use Rattle.wasm_module_validator_streaming.proofs.Waiting.{pending_of}
 
 module _ {S D : Type 0} (stands : S → List ℕ → Bool → List ℕ → S → Type 0) (shown : S → List ℕ → D → Type 0) (denied : S → List ℕ → ErrorValue → Type 0)
@@ -64,3 +65,18 @@ module _ {S D : Type 0} (stands : S → List ℕ → Bool → List ℕ → S →
 
   pub refused_denies : (e : ErrorValue) → AllAnswered (advanced.Refused e) → DeniesFrom stands denied false items then e
   refused_denies e h first got s room = h first got (subst (λ (l : List ℕ). stands first got false l then) (sym same) s) room
+
+  -- what is left is too long
+  pub waits_long : (n k : ℕ) → AllAnswered (advanced.Waits n k) → (most : ℕ) → most < length (drop n items) → LongFrom stands waits most items then
+  waits_long n k h most more = λ first got s room.
+      let t = h first got (subst (λ (l : List ℕ). stands first got false l then) (sym same) s) room in
+      let left : drop n bytes ≡ drop n items = ap (drop n) same in
+      let pending = pending_of waits k (drop n bytes) now t.3 (length (drop n bytes)) (omega arith) in
+      record {
+        front = got;
+        later = [];
+        whole = sym (append-nil got);
+        passed = (drop n bytes, now, t.2, pending.here);
+        full = let e = ap length left in omega (arith, e, more);
+        more = let e = ap length left in omega (arith, e, more);
+      }

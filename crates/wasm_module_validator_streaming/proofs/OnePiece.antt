@@ -8,8 +8,8 @@ use Rattle.wasm_module_validator_streaming.specs.declared.reading.ReadError.{Rea
 use Rattle.wasm_module_validator_streaming.specs.declared.reading.ReadError.TheVariants as errors
 use Rattle.wasm_module_validator_streaming.specs.Pieces.{Answers, Concludes, HasCome, RefusesAll, ReadsSome, StopsWithin, takes_most}
 use Rattle.wasm_module_validator_streaming.specs.Reads.{Gives}
-use Rattle.wasm_module_validator_streaming.specs.Taking.{IsMidst, IsPassed, Carries, DeniesFrom}
-use Rattle.wasm_module_validator_streaming.proofs.Handed.{MayGrow}
+use Rattle.wasm_module_validator_streaming.specs.Handing.{HasRoom, Follows, DeniesBehind}
+use Rattle.wasm_module_validator_streaming.specs.Taking.{IsMidst, IsPassed}
 
 -- ---- how far was read
 
@@ -38,7 +38,7 @@ module _ {S : Type 0} (stands : S → List ℕ → Bool → List ℕ → S → T
     count = let total = come.1 in omega (arith, total);
   }
 
-module _ {S : Type 0} (stands : S → List ℕ → Bool → List ℕ → S → Type 0) (grow : MayGrow stands) (first now : S) (most room : ℕ) (few : most < 2 ^ 64 - 1)
+module _ {S : Type 0} (stands : S → List ℕ → Bool → List ℕ → S → Type 0) (first now : S) (most room : ℕ) (few : most < 2 ^ 64 - 1)
     (before mid after : Option (List ℕ)) (rest : List ℕ) (come : HasCome stands first most room before mid rest now)
     (count k : ℕ) (chunk : List ℕ) (gives : Gives mid after (Some count) chunk) (kept : k ≡ min count room) where
   got : List ℕ
@@ -58,23 +58,23 @@ module _ {S : Type 0} (stands : S → List ℕ → Bool → List ℕ → S → T
   unfolding got
   room_kept = let total = come.1 in omega (arith, length_kept, total, kept, few)
 
-  there : stands first (got ++ take k chunk) false (rest ++ take k chunk) now
+  there : stands first got false rest now
   unfolding got
-  there = grow first got rest now (take k chunk) come.3
+  there = come.3
 
   -- what is kept of the piece may come behind what is left
-  pub kept_midst : IsMidst stands false (rest ++ take k chunk) now
-  kept_midst = record { first = first; got = got ++ take k chunk; there = there; room = room_kept }
+  pub kept_has_room : HasRoom stands rest now (length (take k chunk))
+  kept_has_room = record { first = first; got = got; there = there; room = let room = room_kept in let all = length-append got (take k chunk) in omega (arith, room, all) }
 
   -- the piece was refused, and so is whatever begins with what was read
-  pub piece_refused : {E : Type 0} (denied : S → List ℕ → E → Type 0) (e : E) → DeniesFrom stands denied false (rest ++ take k chunk) now e → RefusesAll (denied first) before after e
+  pub piece_refused : {E : Type 0} (denied : S → List ℕ → E → Type 0) (e : E) → DeniesBehind stands denied rest now (take k chunk) e → RefusesAll (denied first) before after e
   piece_refused denied e h = record {
     got = got ++ take count chunk;
     read = all_read;
     eof = false;
     ended = λ t. absurd (false≢true t);
     refused = λ more none room'. subst (λ (text : List ℕ). denied first text e) (sym (parts more))
-        (h first (got ++ take k chunk) there room_kept (drop k (take count chunk) ++ more) (λ t. absurd (false≢true t)) (subst (λ (text : List ℕ). length text < 2 ^ 64) (parts more) room'));
+        (h first got there room_kept (drop k (take count chunk) ++ more) (λ t. absurd (false≢true t)) (subst (λ (text : List ℕ). length text < 2 ^ 64) (parts more) room'));
   }
     where
       front : take k chunk ++ drop k (take count chunk) ≡ take count chunk
@@ -90,14 +90,14 @@ module _ {S : Type 0} (stands : S → List ℕ → Bool → List ℕ → S → T
   too_long more = (got ++ take count chunk, all_read, let total = come.1 in omega (arith, length_read, total, kept, more))
 
   -- what there was room for was taken
-  pub stops_full : (waits : S → List ℕ → Type 0) (piece : ℕ) → count ≤ piece → k < count → (left : List ℕ) (then : S) → Carries stands false (rest ++ take k chunk) now left then
+  pub stops_full : (waits : S → List ℕ → Type 0) (piece : ℕ) → count ≤ piece → k < count → (left : List ℕ) (then : S) → Follows stands rest now (take k chunk) left then
       → waits then left → StopsWithin (IsPassed stands waits first) piece (λ n. n ≡ most) before after
   unfolding got
   stops_full waits piece few more left then h here = record {
     front = got ++ take k chunk;
     last = drop k (take count chunk);
     read = subst (Consumes before after) (sym (append_assoc got (take k chunk) (drop k (take count chunk)) ∙ ap (λ (l : List ℕ). got ++ l) front_is)) all_read;
-    taken = (left, then, h first (got ++ take k chunk) there room_kept, here);
+    taken = (left, then, h first got there room_kept, here);
     few =
         let n : length (drop k (take count chunk)) ≡ length (take count chunk) - k = length-drop k (take count chunk) in
         let m = length-take-le count chunk gives.0 in
@@ -109,7 +109,7 @@ module _ {S : Type 0} (stands : S → List ℕ → Bool → List ℕ → S → T
       front_is = ap (λ (l : List ℕ). l ++ drop k (take count chunk)) (sym (take-take k count chunk (omega (arith, kept)))) ∙ take-append-drop k (take count chunk)
 
   -- all of the piece was kept, and taken
-  pub has_come : count ≤ k → (left : List ℕ) (then : S) → Carries stands false (rest ++ take k chunk) now left then → HasCome stands first most (room - k) before after left then
+  pub has_come : count ≤ k → (left : List ℕ) (then : S) → Follows stands rest now (take k chunk) left then → HasCome stands first most (room - k) before after left then
   unfolding got
   has_come all left then h =
       let same : k ≡ count = omega (arith, kept, all) in
@@ -117,7 +117,7 @@ module _ {S : Type 0} (stands : S → List ℕ → Bool → List ℕ → S → T
         got ++ take k chunk,
         omega (arith, length_kept, total, kept),
         subst (λ (n : ℕ). Consumes before after (got ++ take n chunk)) (sym same) all_read,
-        h first (got ++ take k chunk) there room_kept,
+        h first got there room_kept,
       )
 
 -- ---- the end

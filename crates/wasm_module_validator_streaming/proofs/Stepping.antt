@@ -159,7 +159,7 @@ answers_reader z id j same own most before after (Err errors.Read) a = a
 answers_reader z id j same own most before after (Err errors.TooLong) a = a
 
 -- frames that it took were judged, and none is refused of what is left
-not_refused_here : (z : Settings) (id : ValidatorId) (text : List ℕ) (q : Parser) (rest : List ℕ) (v : Validator) → Goes z id text false q rest v → Awaits q rest → IsNotRefused z text
+unfoldable pub not_refused_here : (z : Settings) (id : ValidatorId) (text : List ℕ) (q : Parser) (rest : List ℕ) (v : Validator) → Goes z id text false q rest v → Awaits q rest → IsNotRefused z text
 not_refused_here z id text q rest v g w = record {
   frames = g.frames;
   behind = q;
@@ -179,7 +179,7 @@ not_refused_here z id text q rest v g w = record {
     go (inl (st, empty, types)) = subst (λ (m : SoFar). AreFirst z m.tree m.bodies) (none empty) tt
     go (inr (st, some, fits, grown)) = (fits g.some.0 g.some.1).bodies
 
-pub passed_here : (j : Judging) (text : List ℕ) → IsPassed StandsAt WaitsAt j text → IsNotRefused j.validator.settings text
+unfoldable pub passed_here : (j : Judging) (text : List ℕ) → IsPassed StandsAt WaitsAt j text → IsNotRefused j.validator.settings text
 passed_here j text (rest, now, s, w) = not_refused_here j.validator.settings j.validator.id text now.parser.frames rest now.validator s.goes w
 
 -- how far it was read, by these settings

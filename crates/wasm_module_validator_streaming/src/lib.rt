@@ -27,6 +27,7 @@ mod taking;
 mod validate;
 mod watched;
 
+pub use handing::PieceError;
 pub use laws::{pieces_are_judged, readers_are_worked, runs_begin};
 pub use pieces::ModuleInPieces;
 pub use reading::ReadError;

@@ -5,15 +5,15 @@ ghost use Rattle.wasm_types.specs.settings.Limits.{IsWithinCeilings};
 ghost use Rattle.wasm_types.specs.settings.Settings.{Settings};
 ghost use Rattle.wasm_module_validator_index_spaces.specs.declared.view.validator_id.ValidatorId.{ValidatorId};
 ghost use Rattle.wasm_module_validator_streaming.specs.Awaiting.{IsNotRefused};
-ghost use Rattle.wasm_module_validator_streaming.specs.HandedOver.{Came, IsUnderWay, RefusesFrom, TellsModule, Remembers};
+ghost use Rattle.wasm_module_validator_streaming.specs.HandedOver.{Came, IsUnderWay, RefusesFrom, TellsModule, IsAgain, Remembers};
 
-use crate::handing::{conclude, take_handed};
+use crate::handing::{PieceError, conclude, take_handed};
 use crate::judging::Judging;
 use crate::reading::Pending;
 use std::alloc::Global;
 use wasm_module_validator::Types;
 use wasm_module_validator_index_spaces::view::ValidatorId;
-use wasm_types::{Error, ErrorKind, Limits, Result, WasmFeatures};
+use wasm_types::{Error, ErrorKind, Limits, WasmFeatures};
 
 /// A module as far as its bytes were handed over. Each section, and each body, is judged as soon as it is whole, and is not kept; so what is
 /// held of the bytes is a part of one item.
@@ -28,8 +28,8 @@ pub struct ModuleInPieces {
     most: usize,
     /// How many bytes came, until they were refused.
     came: u64,
-    /// Why they are refused.
-    refused: Option<Error>,
+    /// Why no more are taken.
+    refused: Option<PieceError>,
     alloc: Global,
 }
 
@@ -64,17 +64,17 @@ impl ModuleInPieces {
     ///
     /// # Errors
     ///
-    /// The bytes that came refuse each module that begins with them; or, of kind `OutOfMemory`, which is no verdict, there is no memory, or
-    /// more than `most` bytes would have to be held, or the module has 2^64 bytes. A refusal stays: each later call has an error of the
-    /// same kind, at the same offset.
-    pub fn take(&mut self, bytes: &[u8]) -> Result<()>
+    /// `Refused`: the bytes that came refuse each module that begins with them; or, of kind `OutOfMemory`, which is no verdict, there is no
+    /// memory. `TooLong`, which is no verdict either: an item that came in several pieces has more than `most` bytes, so more would have to be
+    /// held, or the module has 2^64 bytes. An error stays: each later call has the same, of the same kind, at the same offset.
+    pub fn take(&mut self, bytes: &[u8]) -> Result<(), PieceError>
         requires { IsUnderWay self.old }
         ensures came { (z : Settings) (id : ValidatorId) (got : List ℕ) → Came z id got self.old
             → Came z id (got ++ bytes.now) self.new }
         ensures ok { OnOk result ((z : Settings) (id : ValidatorId) (got : List ℕ) → Came z id got self.old
             → IsNotRefused z (got ++ bytes.now)) }
         ensures err { IfErr result (λ e. (z : Settings) (id : ValidatorId) (got : List ℕ) → Came z id got self.old
-            → RefusesFrom z (got ++ bytes.now) e) }
+            → RefusesFrom z self.old.most (got ++ bytes.now) e) }
         ensures refused { Remembers result self.new.refused }
         ensures stays { IfSome self.old.refused (λ _. self.new.refused ≡ self.old.refused) }
         ensures held { vec_len self.new.pending.bytes ≤ self.new.most }
@@ -93,19 +93,19 @@ impl ModuleInPieces {
     }
 
     /// Takes the next bytes, if none are refused so far.
-    fn advance(&mut self, bytes: &[u8]) -> Result<()>
+    fn advance(&mut self, bytes: &[u8]) -> Result<(), PieceError>
         requires way { IsUnderWay self.old }
         requires going { self.old.refused ≡ None }
         ensures came { OnOk result ((z : Settings) (id : ValidatorId) (got : List ℕ) → Came z id got self.old
             → Came z id (got ++ bytes.now) self.new) }
         ensures err { IfErr result (λ e. (z : Settings) (id : ValidatorId) (got : List ℕ) → Came z id got self.old
-            → RefusesFrom z (got ++ bytes.now) e) }
+            → RefusesFrom z self.old.most (got ++ bytes.now) e) }
         ensures refused { self.new.refused ≡ None }
         ensures held { vec_len self.new.pending.bytes ≤ self.new.most }
         ensures most { self.new.most ≡ self.old.most }
     {
         let Some(came) = self.came.checked_add(bytes.len() as u64) else {
-            return Err(Error::out_of_memory(0));
+            return Err(PieceError::TooLong);
         };
         self.came = came;
         match take_handed(
@@ -124,11 +124,11 @@ impl ModuleInPieces {
     ///
     /// # Errors
     ///
-    /// The bytes are no valid module, or were refused before; or there is no memory, which is no verdict.
-    pub fn end(self) -> Result<Types>
+    /// `Refused`: the bytes are no valid module, or were refused before; or there is no memory, which is no verdict. `TooLong`: so it was before.
+    pub fn end(self) -> Result<Types, PieceError>
         requires { IsUnderWay self }
         ensures told { (z : Settings) (id : ValidatorId) (got : List ℕ) → Came z id got self → length got < 2 ^ 64
-            → TellsModule z id got result }
+            → TellsModule z id self.most got result }
         ensures stays { IfSome self.refused (λ e. result ≡ Err e) }
     {
         let ModuleInPieces {
@@ -141,13 +141,26 @@ impl ModuleInPieces {
         } = self;
         match refused {
             Some(error) => Err(error),
-            None => conclude(&mut judging, pending.bytes.as_slice()),
+            None => match conclude(&mut judging, pending.bytes.as_slice()) {
+                Ok(types) => Ok(types),
+                Err(error) => Err(PieceError::Refused(error)),
+            },
         }
     }
 }
 
+/// The same error again.
+fn again(error: &PieceError) -> PieceError
+    ensures { IsAgain error.now result }
+{
+    match error {
+        PieceError::Refused(error) => PieceError::Refused(refused_again(error)),
+        PieceError::TooLong => PieceError::TooLong,
+    }
+}
+
 /// An error of the same kind, at the same offset.
-fn again(error: &Error) -> Error
+fn refused_again(error: &Error) -> Error
     ensures kind { result.kind ≡ error.now.kind }
     ensures offset { result.offset ≡ error.now.offset }
 {

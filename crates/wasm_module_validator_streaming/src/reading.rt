@@ -5,6 +5,7 @@ ghost use Rattle.wasm_types.specs.decoding.declared.error.ErrorKind.TheVariants.
 ghost use Rattle.wasm_module_validator_streaming.specs.Taking.{IsMidst, IsPending, IsPassed, Carries, DeniesFrom};
 ghost use Rattle.wasm_module_validator_streaming.specs.Pieces.{Concludes, Answers, Stops, fails};
 
+use crate::handing::{PieceError, take_handed};
 use crate::taking::{Advanced, TakesBytes, take_items};
 use crate::watched::WatchedReader;
 use std::alloc::Global;
@@ -176,9 +177,11 @@ fn take_chunks<T: TakesBytes, R: Read>(
             return take_last(taker, pending.bytes.as_slice());
         }
         let kept = within(count, room);
-        match take_piece(alloc, taker, &mut pending, &chunk[..kept]) {
+        match take_handed(alloc, taker, &mut pending, &chunk[..kept], usize::MAX) {
             Ok(()) => (),
-            Err(error) => return Err(ReadError::Refused(error)),
+            Err(PieceError::Refused(error)) => return Err(ReadError::Refused(error)),
+            // no list has so many bytes
+            Err(PieceError::TooLong) => return Err(ReadError::Refused(Error::out_of_memory(0))),
         }
         if kept < count {
             return Err(ReadError::TooLong);

@@ -48,7 +48,7 @@ fn is_within_depth_by_chain(types: &TypeList, above: Option<CoreTypeId>, most: u
     }
 }
 
-// The same from this type on. Most types tell how many are above them.
+// The same from this type on. A type with at most 255 types above it tells how many they are.
 #[tactic(auto, using(crate::proofs::Deep::depth_within))]
 fn is_within_depth(types: &TypeList, above: CoreTypeId, most: u32) -> bool
     requires { above.0 < count types.now.groups }

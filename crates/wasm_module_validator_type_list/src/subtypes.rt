@@ -1,24 +1,29 @@
-//! Subtype tests by the ancestors that each type keeps, and by the chain of declared supertypes where one keeps none.
+//! Subtype tests by the ancestors that each type keeps, and by the chain of declared supertypes where more than 255 types are above
+//! one of the two: no valid type is so deep.
 
-ghost use Rattle.std.specs.Prelude.{◌≡◌, ◌↔◌, ◌<◌, IsTrue, IfSome};
+ghost use Rattle.std.specs.Prelude.{◌≡◌, ◌↔◌, ◌<◌, IsTrue, IsSome, IfSome};
 ghost use Rattle.wasm_module_validator_type_storage.specs.trees.Groups.{count, supertype_ids};
 ghost use Rattle.wasm_module_validator_type_storage.specs.displays.Chains.{HasDepth};
+ghost use Rattle.wasm_module_validator_type_storage.specs.displays.Entries.{IsShallow};
 ghost use Rattle.wasm_module_validator_type_storage.specs.trees.ByIds.{IdBelow};
 
 use crate::TypeList;
 use wasm_types::CoreTypeId;
 
 impl TypeList {
-    // Whether the first id is the second or below it, where that can be told by the ancestors which types keep.
+    // Whether the first id is the second or below it, by the ancestors that types keep: those with at most 255 types above them.
     fn is_below_at_once(&self, a: CoreTypeId, b: CoreTypeId) -> Option<bool>
-        ensures { IfSome result (λ is_below. IsTrue is_below ↔ IdBelow self.now.groups a b) }
+        ensures below { IfSome result (λ is_below. IsTrue is_below ↔ IdBelow self.now.groups a b) }
+        ensures told { IsShallow (supertype_ids self.now.groups) a → IsShallow (supertype_ids self.now.groups) b
+            → IsSome result }
     {
         self.lists.supertypes.is_below(a, b)
     }
 
-    /// How many types are declared above the type of an id, where the type keeps its ancestors: up to 255, if there was memory.
+    /// How many types are declared above the type of an id, where there are at most 255.
     pub fn count_above(&self, id: CoreTypeId) -> Option<u32>
-        ensures { IfSome result (HasDepth (supertype_ids self.now.groups) id) }
+        ensures depth { IfSome result (HasDepth (supertype_ids self.now.groups) id) }
+        ensures told { IsShallow (supertype_ids self.now.groups) id → IsSome result }
     {
         self.lists.supertypes.depth(id)
     }

@@ -1,7 +1,8 @@
 -- Chains of declared supertypes: depths, and what stands between.
-use Rattle.std.proofs.Common.{◌≡◌, ◌∙◌, ℕ, zero, suc, ◌+◌, ◌<◌, ◌≤◌, List, refl, ap, sym, subst, Option, Some, None, arith}
+use Rattle.std.proofs.Common.{◌≡◌, ◌∙◌, ℕ, zero, suc, ◌+◌, ◌<◌, ◌≤◌, List, ◌++◌, length, refl, ap, sym, subst, Option, Some, None, arith}
 use Rattle.std.specs.Prelude.{slice_get}
 use Rattle.std.proofs.lemmas.Option.{none-some, same_Some}
+use Rattle.wasm_module_validator_type_storage.proofs.Places.{get_left, slice_get_within}
 use Rattle.wasm_types.specs.trees.declared.index.CoreTypeId.{CoreTypeId}
 use Rattle.wasm_module_validator_type_storage.specs.displays.Chains.{IsUnder, itself, declared, HasDepth, top, below}
 
@@ -16,8 +17,23 @@ module _ (ups : List (Option CoreTypeId)) where
   depth_above : (a b : CoreTypeId) (m : ℕ) → slice_get ups a.0 ≡ Some (Some b) → HasDepth ups a (suc m) → HasDepth ups b m
   depth_above a b m e (below {b = c} f h) = subst (λ (x : CoreTypeId). HasDepth ups x m) (one_above a.0 c b f e) h
 
-  not_top : (a b : CoreTypeId) → slice_get ups a.0 ≡ Some (Some b) → HasDepth ups a zero → ⊥
+  pub not_top : (a b : CoreTypeId) → slice_get ups a.0 ≡ Some (Some b) → HasDepth ups a zero → ⊥
   not_top a b e (top f) = not_both a.0 b f e
+
+  -- of a type that declares a supertype the depth is one more than that of the other
+  pub record IsOneMore (b : CoreTypeId) (n : ℕ) : Type 0 where
+    pub above : ℕ
+    pub more : n ≡ suc above
+    pub is_depth : HasDepth ups b above
+
+  pub one_more : (a b : CoreTypeId) (n : ℕ) → slice_get ups a.0 ≡ Some (Some b) → HasDepth ups a n → IsOneMore b n
+  one_more a b zero e h = absurd (not_top a b e h)
+  one_more a b (suc n) e h = record { above = n; more = refl; is_depth = depth_above a b n e h }
+
+  -- a type with a depth is in the list
+  pub known_by_depth : (a : CoreTypeId) (n : ℕ) → HasDepth ups a n → a.0 < length ups
+  known_by_depth a zero (top e) = slice_get_within ups a.0 None e
+  known_by_depth a (suc n) (below {b = b} e h) = slice_get_within ups a.0 (Some b) e
 
   -- a type has one depth
   pub one_depth : (a : CoreTypeId) (m n : ℕ) → HasDepth ups a m → HasDepth ups a n → m ≡ n
@@ -63,3 +79,11 @@ module _ (old new : List (Option CoreTypeId)) (keeps : (i : ℕ) (x : Option Cor
   pub depth_more : (a : CoreTypeId) (n : ℕ) → HasDepth old a n → HasDepth new a n
   depth_more a zero (top e) = top (keeps a.0 None e)
   depth_more a (suc n) (below {b = p} e h) = below (keeps a.0 (Some p) e) (depth_more p n h)
+
+-- nor do types that are added after it change the depth of a type that is declared below earlier ones
+module _ (old more : List (Option CoreTypeId)) (earlier : (i : ℕ) (b : CoreTypeId) → slice_get (old ++ more) i ≡ Some (Some b) → b.0 < i) where
+  pub depth_before : (a : CoreTypeId) (n : ℕ) → a.0 < length old → HasDepth (old ++ more) a n → HasDepth old a n
+  depth_before a zero lt (top e) = top (sym (get_left old more a.0 lt) ∙ e)
+  depth_before a (suc n) lt (below {b = b} e h) =
+      let less = earlier a.0 b e in
+      below {b = b} (sym (get_left old more a.0 lt) ∙ e) (depth_before b n (omega arith) h)

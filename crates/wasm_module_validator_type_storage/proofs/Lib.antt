@@ -6,3 +6,5 @@ pub mod Rows
 pub mod WorkedProofs
 pub mod Chains
 pub mod Ancestors
+pub mod Filling
+mod DisplayRows

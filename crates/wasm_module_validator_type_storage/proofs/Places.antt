@@ -1,7 +1,8 @@
 -- Where an item of a list in pieces stands.
-use Rattle.std.proofs.Common.{◌≡◌, ◌∙◌, ℕ, zero, suc, ◌+◌, ◌-◌, ◌<◌, ◌≤◌, List, [], ◌∷◌, ◌++◌, length, map, get_or, refl, ap, sym, arith}
+use Rattle.std.proofs.Common.{◌≡◌, ◌∙◌, ℕ, zero, suc, ◌+◌, ◌-◌, ◌<◌, ◌≤◌, List, [], ◌∷◌, ◌++◌, length, map, get_or, refl, ap, sym, arith, Option, Some, None}
 use Rattle.std.specs.Prelude.{slice_get}
 use Rattle.std.specs.List.{AllZip}
+use Rattle.std.proofs.lemmas.Option.{none-some}
 use Rattle.std.proofs.lemmas.List.{length-append, append_assoc, append-nil, length-map, get_or-map, map-append}
 use Rattle.wasm_module_validator_type_storage.specs.snapshots.Pieces.{joined, starts_from, IsLaidOut}
 
@@ -15,6 +16,11 @@ module _ {A : Type 0} where
   get_right [] ys i le = ap (slice_get ys) (omega arith)
   get_right (x ∷ xs) ys zero le = absurd (omega arith)
   get_right (x ∷ xs) ys (suc i) le = get_right xs ys i (omega arith) ∙ ap (slice_get ys) (omega arith)
+
+  pub slice_get_within : (xs : List A) (i : ℕ) (x : A) → slice_get xs i ≡ Some x → i < length xs
+  slice_get_within [] i x e = absurd (none-some x e)
+  slice_get_within (y ∷ xs) zero x e = omega arith
+  slice_get_within (y ∷ xs) (suc i) x e = let lt = slice_get_within xs i x e in omega arith
 
   starts_above : (n : ℕ) (ps : List (List A)) (k : ℕ) → k < length ps → n ≤ get_or (starts_from n ps) k 0
   starts_above n [] k lt = absurd (omega arith)

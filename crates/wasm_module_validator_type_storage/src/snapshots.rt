@@ -186,6 +186,7 @@ impl<T: Drop> SnapshotList<T> {
     pub fn append(&mut self, items: &mut Vec<T>) -> Result<(), AllocError>
         ensures items { self.new.items ≡ (if is_ok result then self.old.items ++ items.old.items else self.old.items) }
         ensures taken { items.new.items ≡ (if is_ok result then [] else items.old.items) }
+        ensures room { self.old.room ≤ self.new.room + length items.old.items }
         ensures succeeds { length items.old.items ≤ self.old.room
             → length self.old.items + length items.old.items < 2 ^ 64 → IsOk result }
     {

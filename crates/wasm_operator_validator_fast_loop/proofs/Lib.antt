@@ -9,3 +9,4 @@ mod Referring
 mod Selecting
 mod StructRows
 mod Throwing
+pub mod Classes

@@ -6,7 +6,7 @@ ghost use Rattle.wasm_operator_validator_fast_path.specs.Loop.{Leads, all};
 
 use wasm_operator_validator_fast_path::indices::index_at;
 use wasm_operator_validator_fast_path::tail_calls::returned;
-use wasm_operator_validator_fast_path::{NO_CODE, Opens, Stack, Tables, part};
+use wasm_operator_validator_fast_path::{NO_CODE, Opens, Stack, Tables, given, part};
 
 /// A call of the function that a reference leads to.
 pub fn call_ref(
@@ -81,11 +81,7 @@ pub fn return_call_ref(
     let Some(params) = returned(tables, ty) else {
         return None;
     };
-    let Some(results) = part(
-        tables.known.flat.as_slice(),
-        opens.inner.sig.results,
-        opens.inner.sig.result_count,
-    ) else {
+    let Some(results) = given(tables.known.flat.as_slice(), opens, params.len()) else {
         return None;
     };
     let order = &tables.known.order;

@@ -9,7 +9,7 @@ ghost use Rattle.wasm_operator_validator_fast_loop.specs.Exceptions.{AreCatches,
 use crate::references::{label_at, last_of};
 use wasm_operator_validator_fast_path::blocks::{block_at, enter};
 use wasm_operator_validator_fast_path::indices::index_at;
-use wasm_operator_validator_fast_path::{EXN, Opens, Order, Stack, Tables, part};
+use wasm_operator_validator_fast_path::{EXN, Opens, Order, Stack, Tables, given, part};
 use wasm_operator_validator_state::FrameKind;
 use wasm_types_decoding::short_u32_at;
 
@@ -40,7 +40,7 @@ pub fn throw(
     let Some(params) = part(flat, sig.params, sig.param_count) else {
         return None;
     };
-    let Some(results) = part(flat, opens.inner.sig.results, opens.inner.sig.result_count) else {
+    let Some(results) = given(flat, opens, params.len()) else {
         return None;
     };
     if !stack.take_all(&tables.known.order, params) {
@@ -68,11 +68,7 @@ pub fn throw_ref(
     ensures inside { IfSome result (λ end. end ≤ length bytes.now) }
 {
     let _bytes = bytes;
-    let Some(results) = part(
-        tables.known.flat.as_slice(),
-        opens.inner.sig.results,
-        opens.inner.sig.result_count,
-    ) else {
+    let Some(results) = given(tables.known.flat.as_slice(), opens, 0) else {
         return None;
     };
     if !tables.references || !stack.take_below(&tables.known.order, EXN) {

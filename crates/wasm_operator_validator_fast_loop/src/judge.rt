@@ -1,6 +1,6 @@
 //! The loop.
 
-ghost use Rattle.std.specs.Prelude.{◌≡◌, ◌<◌, ◌≤◌, ◌∷◌, ℕ, List, true, length, drop, IfSome, None};
+ghost use Rattle.std.specs.Prelude.{◌≡◌, ◌<◌, ◌≤◌, ◌+◌, ◌∷◌, ℕ, List, true, length, drop, IfSome, None};
 ghost use Rattle.wasm_types.specs.settings.Settings.{Settings};
 ghost use Rattle.wasm_types.specs.trees.Trees.{TypeTree};
 ghost use Rattle.wasm_operators_encoding.specs.expressions.Code.{Code};
@@ -36,7 +36,7 @@ use wasm_operator_validator_fast_path::memory::{
     load, memory_copy, memory_fill, memory_grow, memory_size, store,
 };
 use wasm_operator_validator_fast_path::numbers::{change, change_prefixed, combine};
-use wasm_operator_validator_fast_path::shape::{Shape, saturating_of, shape_of};
+use wasm_operator_validator_fast_path::shape::{Class, class_of, saturating_of};
 use wasm_operator_validator_fast_path::tail_calls::{return_call, return_call_indirect};
 use wasm_operator_validator_fast_path::variables::{
     global_get, global_set, local_get, local_set, local_tee,
@@ -49,49 +49,55 @@ use wasm_types_decoding::short_u32_at;
 #[inline(always)]
 fn next(
     tables: &Tables,
+    locals: &[u32],
     bytes: &[u8],
     at: usize,
     stack: &mut Stack,
     opens: &mut Opens,
 ) -> Option<usize>
-    requires { at < length bytes.now }
+    requires more { at + 1 < length bytes.now }
+    requires locals { locals.now ≡ tables.now.locals.items }
     ensures leads { IfSome result (λ end. Leads bytes.now tables.now at (all opens.old) stack.old
         end (all opens.new) stack.new) }
     ensures forward { IfSome result (λ end. at < end) }
     ensures inside { IfSome result (λ end. end ≤ length bytes.now) }
 {
     let code = bytes[at];
-    match code {
-        0x00 => unreachable(tables, bytes, at, stack, opens),
-        0x01 => nop(tables, bytes, at, stack, opens),
-        0x02 => block(tables, bytes, at, stack, opens),
-        0x03 => begin_loop(tables, bytes, at, stack, opens),
-        0x04 => begin_if(tables, bytes, at, stack, opens),
-        0x05 => turn(tables, bytes, at, stack, opens),
-        0x0b => end(tables, bytes, at, stack, opens),
-        0x0c => br(tables, bytes, at, stack, opens),
-        0x0d => br_if(tables, bytes, at, stack, opens),
-        0x0e => br_table(tables, bytes, at, stack, opens),
-        0x0f => return_all(tables, bytes, at, stack, opens),
-        0x10 => call(tables, bytes, at, stack, opens),
-        0x11 => call_indirect(tables, bytes, at, stack, opens),
-        0x12 => return_call(tables, bytes, at, stack, opens),
-        0x13 => return_call_indirect(tables, bytes, at, stack, opens),
-        0x1a => drop_top(tables, bytes, at, stack, opens),
-        0x1b => select(tables, bytes, at, stack, opens),
-        0x20 => local_get(tables, bytes, at, stack, opens),
-        0x21 => local_set(tables, bytes, at, stack, opens),
-        0x22 => local_tee(tables, bytes, at, stack, opens),
-        0x23 => global_get(tables, bytes, at, stack, opens),
-        0x24 => global_set(tables, bytes, at, stack, opens),
-        0x3f => memory_size(tables, bytes, at, stack, opens),
-        0x40 => memory_grow(tables, bytes, at, stack, opens),
-        0x41 => i32_const(tables, bytes, at, stack, opens),
-        0x42 => i64_const(tables, bytes, at, stack, opens),
-        0x43 => f32_const(tables, bytes, at, stack, opens),
-        0x44 => f64_const(tables, bytes, at, stack, opens),
-        0xfc => prefixed(tables, bytes, at, stack, opens),
-        _ => shaped(code, tables, bytes, at, stack, opens),
+    match class_of(code) {
+        Class::Unreachable => unreachable(tables, bytes, at, stack, opens),
+        Class::Nop => nop(tables, bytes, at, stack, opens),
+        Class::Block => block(tables, bytes, at, stack, opens),
+        Class::Loop => begin_loop(tables, bytes, at, stack, opens),
+        Class::If => begin_if(tables, bytes, at, stack, opens),
+        Class::Else => turn(tables, bytes, at, stack, opens),
+        Class::End => end(tables, bytes, at, stack, opens),
+        Class::Br => br(tables, bytes, at, stack, opens),
+        Class::BrIf => br_if(tables, bytes, at, stack, opens),
+        Class::BrTable => br_table(tables, bytes, at, stack, opens),
+        Class::Return => return_all(tables, bytes, at, stack, opens),
+        Class::Call => call(tables, bytes, at, stack, opens),
+        Class::CallIndirect => call_indirect(tables, bytes, at, stack, opens),
+        Class::ReturnCall => return_call(tables, bytes, at, stack, opens),
+        Class::ReturnCallIndirect => return_call_indirect(tables, bytes, at, stack, opens),
+        Class::Drop => drop_top(tables, bytes, at, stack, opens),
+        Class::Select => select(tables, bytes, at, stack, opens),
+        Class::LocalGet => local_get(tables, locals, bytes, at, stack, opens),
+        Class::LocalSet => local_set(tables, locals, bytes, at, stack, opens),
+        Class::LocalTee => local_tee(tables, locals, bytes, at, stack, opens),
+        Class::GlobalGet => global_get(tables, bytes, at, stack, opens),
+        Class::GlobalSet => global_set(tables, bytes, at, stack, opens),
+        Class::MemorySize => memory_size(tables, bytes, at, stack, opens),
+        Class::MemoryGrow => memory_grow(tables, bytes, at, stack, opens),
+        Class::I32Const => i32_const(tables, bytes, at, stack, opens),
+        Class::I64Const => i64_const(tables, bytes, at, stack, opens),
+        Class::F32Const => f32_const(tables, bytes, at, stack, opens),
+        Class::F64Const => f64_const(tables, bytes, at, stack, opens),
+        Class::Prefixed => prefixed(tables, bytes, at, stack, opens),
+        Class::Load => load(code, tables, bytes, at, stack, opens),
+        Class::Store => store(code, tables, bytes, at, stack, opens),
+        Class::Change => change(code, tables, bytes, at, stack, opens),
+        Class::Combine => combine(code, tables, bytes, at, stack, opens),
+        Class::Other => away(tables, bytes, at, stack, opens),
     }
 }
 
@@ -202,37 +208,6 @@ fn object(
     }
 }
 
-/// Takes an operator that its code tells all of, or any other out of the loop.
-#[inline(always)]
-fn shaped(
-    code: u8,
-    tables: &Tables,
-    bytes: &[u8],
-    at: usize,
-    stack: &mut Stack,
-    opens: &mut Opens,
-) -> Option<usize>
-    requires { Begins bytes.now at code }
-    ensures leads { IfSome result (λ end. Leads bytes.now tables.now at (all opens.old) stack.old
-        end (all opens.new) stack.new) }
-    ensures forward { IfSome result (λ end. at < end) }
-    ensures inside { IfSome result (λ end. end ≤ length bytes.now) }
-{
-    match shape_of(code) {
-        Shape::Other => away(tables, bytes, at, stack, opens),
-        Shape::Load(natural, gives) => load(code, natural, gives, tables, bytes, at, stack, opens),
-        Shape::Store(natural, takes) => {
-            store(code, natural, takes, tables, bytes, at, stack, opens)
-        }
-        Shape::Change(takes, gives) => {
-            change(code, takes, gives, tables, bytes, at, stack, opens)
-        }
-        Shape::Combine(takes, gives) => {
-            combine(code, takes, gives, tables, bytes, at, stack, opens)
-        }
-    }
-}
-
 /// Takes an operator behind the prefix `fc`.
 #[inline(always)]
 fn prefixed(
@@ -263,6 +238,44 @@ fn prefixed(
     }
 }
 
+/// The offset behind all bytes, at which no body ends. It changes the frames, so that the compiler makes it a branch, and no choice at each turn.
+#[cold]
+#[inline(never)]
+fn behind(bytes: &[u8], opens: &mut Opens) -> usize
+    ensures { result ≡ length bytes.now }
+{
+    opens.turn(body_frame(Sig {
+        params: 0,
+        param_count: 0,
+        results: 0,
+        result_count: 0,
+    }));
+    bytes.len()
+}
+
+/// Takes the next operator, or goes behind all bytes. So each turn asks for the offset alone.
+#[inline(always)]
+fn step(
+    tables: &Tables,
+    locals: &[u32],
+    bytes: &[u8],
+    at: usize,
+    stack: &mut Stack,
+    opens: &mut Opens,
+) -> usize
+    requires more { at + 1 < length bytes.now }
+    requires locals { locals.now ≡ tables.now.locals.items }
+    ensures leads { result < length bytes.now → Leads bytes.now tables.now at (all opens.old) stack.old
+        result (all opens.new) stack.new }
+    ensures forward { at < result }
+    ensures inside { result ≤ length bytes.now }
+{
+    match next(tables, locals, bytes, at, stack, opens) {
+        Some(end) => end,
+        None => behind(bytes, opens),
+    }
+}
+
 /// Takes all operators.
 #[inline(always)]
 fn run(tables: &Tables, bytes: &[u8], start: usize, stack: &mut Stack, opens: &mut Opens) -> bool
@@ -274,12 +287,10 @@ fn run(tables: &Tables, bytes: &[u8], start: usize, stack: &mut Stack, opens: &m
         return false;
     }
     let last = bytes.len() - 1;
+    let locals = tables.locals.as_slice();
     let mut at = start;
     while at < last {
-        let Some(end) = next(tables, bytes, at, stack, opens) else {
-            return false;
-        };
-        at = end;
+        at = step(tables, locals, bytes, at, stack, opens);
     }
     finish(tables, bytes, at, stack, opens)
 }
@@ -305,7 +316,7 @@ fn body_frame(results: Sig) -> Open
 #[derive(Drop)]
 pub struct Room {
     stack: Stack,
-    opens: Opens,
+    frames: Pile<Open>,
     alloc: Global,
 }
 
@@ -314,15 +325,7 @@ impl Room {
     pub fn new(alloc: Global) -> Room {
         Room {
             stack: Stack::new(alloc),
-            opens: Opens {
-                inner: body_frame(Sig {
-                    params: 0,
-                    param_count: 0,
-                    results: 0,
-                    result_count: 0,
-                }),
-                outer: Pile::new(alloc),
-            },
+            frames: Pile::new(alloc),
             alloc,
         }
     }
@@ -337,15 +340,18 @@ impl Room {
     {
         // a body that has more operands at a time is left to the validator of operators
         let places = (bytes.len() - start + 64).min(8192);
-        let frame = body_frame(tables.results);
-        self.opens.inner = frame;
-        if !self.opens.outer.begin(0, frame) || !self.stack.begin(places) {
+        if !self.stack.begin(places) {
             return false;
         }
         // taken out, so that no pointer leads to what the loop counts by, and it can stay in registers
+        let frames = mem::replace(&mut self.frames, Pile::new(self.alloc));
+        let Some(mut opens) = Opens::begin(frames, body_frame(tables.results)) else {
+            return false;
+        };
         let mut stack = mem::replace(&mut self.stack, Stack::new(self.alloc));
-        let valid = run(tables, bytes, start, &mut stack, &mut self.opens);
+        let valid = run(tables, bytes, start, &mut stack, &mut opens);
         self.stack = stack;
+        self.frames = opens.into_memory();
         valid
     }
 }

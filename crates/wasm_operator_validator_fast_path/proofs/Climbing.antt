@@ -8,7 +8,7 @@ use Rattle.wasm_types.specs.trees.AbstractOrder.{AbstractBelow, same}
 use Rattle.wasm_types.specs.trees.Below.{HeapBelow, IsAboveAbstract, itself, declared, expanded, is_shared, supertype, abstract_above, bottom_of}
 use Rattle.wasm_types.specs.trees.Chains.{IsSound}
 use Rattle.wasm_types.specs.trees.ValidGroup.{type_at}
-use Rattle.wasm_types.specs.trees.laws.Below.{heap_reflexive}
+use Rattle.wasm_types.specs.trees.laws.Below.{heap_reflexive, heap_transitive}
 use Rattle.wasm_operator_validator_fast_path.specs.declared.order.Step.{Step}
 use Rattle.wasm_operator_validator_fast_path.specs.Values.{abstract_of, heap_of, type_of, IsStep, AreSteps}
 use Rattle.wasm_operator_validator_fast_path.specs.Known.{IsAround}
@@ -57,8 +57,17 @@ below_all t a sound alone is u d = (sym alone ∙ (sound u d).shared, sym is ∙
 
 module _ (ids : List TypeTree) where
   -- a step that leads nowhere
-  pub stays : (n : ℕ) → IsStep ids n (record { above = n; bottom = n })
-  stays n = record { up = heap_reflexive (heap_of ids n); down = heap_reflexive (heap_of ids n) }
+  pub stays : (n : ℕ) → IsStep ids n (record { above = n; bottom = n; far = n; depth = 0 })
+  stays n = record { up = heap_reflexive (heap_of ids n); far = heap_reflexive (heap_of ids n); down = heap_reflexive (heap_of ids n) }
+
+  -- the same step, and further up
+  pub reaches : (n : ℕ) (s : Step) (far depth : ℕ) → IsStep ids n s → HeapBelow (heap_of ids s.above) (heap_of ids far)
+      → IsStep ids n (record { above = s.above; bottom = s.bottom; far = far; depth = depth })
+  reaches n s far depth h over = record {
+    up = h.up;
+    far = heap_transitive (heap_of ids n) (heap_of ids s.above) (heap_of ids far) h.up over;
+    down = h.down;
+  }
 
   pub step_at : (n k : ℕ) (s : Step) → n ≡ k → IsStep ids k s → IsStep ids n s
   step_at n k s e h = subst (λ (j : ℕ). IsStep ids j s) (sym e) h
@@ -68,8 +77,8 @@ module _ (ids : List TypeTree) where
   steps_next steps news n s e long all one =
       subst (λ (l : List Step). AreSteps ids l) (sym e) (of_pushed (IsStep ids) steps s all (subst (λ (k : ℕ). IsStep ids k s) (sym long) one))
 
-  pub steps_stay : (steps news : List Step) (at : ℕ) → news ≡ steps ++ record { above = at; bottom = at } ∷ [] → at ≡ length steps → AreSteps ids steps → AreSteps ids news
-  steps_stay steps news at e long all = steps_next steps news at (record { above = at; bottom = at }) e (sym long) all (stays at)
+  pub steps_stay : (steps news : List Step) (at : ℕ) → news ≡ steps ++ record { above = at; bottom = at; far = at; depth = 0 } ∷ [] → at ≡ length steps → AreSteps ids steps → AreSteps ids news
+  steps_stay steps news at e long all = steps_next steps news at (record { above = at; bottom = at; far = at; depth = 0 }) e (sym long) all (stays at)
 
   pub steps_set : (steps : List Step) (place : ℕ) (s : Step) → AreSteps ids steps → IsStep ids place s → AreSteps ids (set steps place s)
   steps_set steps place s all one = of_set (IsStep ids) steps place s all one
@@ -80,14 +89,17 @@ module _ (ids : List TypeTree) where
 
     -- to the abstract type right above
     pub step_abstract : IsStep ids n s
-    step_abstract = record {
-      up = rw (heap_abstract ids s.above around.high, is) (t, itself, alone, subst (λ (a : Abstract). AbstractBelow (abstract_above (expanded t)) a) around.above same);
-      down = down;
-    }
+    step_abstract = record { up = above; far = subst (λ (k : ℕ). HeapBelow (heap_of ids n) (heap_of ids k)) (sym around.far) above; down = down }
+      where
+        above : HeapBelow (heap_of ids n) (heap_of ids s.above)
+        above = rw (heap_abstract ids s.above around.high, is) (t, itself, alone, subst (λ (a : Abstract). AbstractBelow (abstract_above (expanded t)) a) around.above same)
 
     -- to the supertype
-    pub step_declared : (above id : ℕ) → above ≡ 16 + id → supertype t ≡ Some (type_at ids id) → IsStep ids n (record { above = above; bottom = s.bottom })
-    step_declared above id e over = record { up = rw (heap_defined ids above id e, is) (declared over itself); down = down }
+    pub step_declared : (above id : ℕ) → above ≡ 16 + id → supertype t ≡ Some (type_at ids id) → IsStep ids n (record { above = above; bottom = s.bottom; far = above; depth = 0 })
+    step_declared above id e over = record { up = up; far = up; down = down }
+      where
+        up : HeapBelow (heap_of ids n) (heap_of ids above)
+        up = rw (heap_defined ids above id e, is) (declared over itself)
 
 -- the heap type that a reference refers to, by its code
 pub heap_is : (ids : List TypeTree) (t : TypeTree) (b : Bool) (code : ℕ) → 8 ≤ code → type_of ids code ≡ ref b (concrete t) → heap_of ids ((code - 8) / 2) ≡ concrete t

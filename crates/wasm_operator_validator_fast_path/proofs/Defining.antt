@@ -161,20 +161,20 @@ array_is m fields a f one = (field_in m a.0, refl, one)
 
 -- what lies around types of each kind
 module _ (ids : List TypeTree) (fields : List Field) (inner : InnerOf TypeTree) (d : Defined) (h : IsDefined ids fields inner d) where
-  pub function_around : defined.Function ≡ d → IsAround inner (record { above = 0; bottom = 5 })
+  pub function_around : defined.Function ≡ d → IsAround inner (record { above = 0; bottom = 5; far = 0; depth = 0 })
   function_around is =
       let (b, e) : IsDefined ids fields inner defined.Function = subst (IsDefined ids fields inner) (sym is) h in
-      record { high = omega arith; low = omega arith; above = ap abstract_above e; bottom = ap bottom_of e }
+      record { high = omega arith; low = omega arith; far = refl; above = ap abstract_above e; bottom = ap bottom_of e }
 
-  pub struct_around : (from count : ℕ) → defined.Struct from count ≡ d → IsAround inner (record { above = 7; bottom = 3 })
+  pub struct_around : (from count : ℕ) → defined.Struct from count ≡ d → IsAround inner (record { above = 7; bottom = 3; far = 7; depth = 0 })
   struct_around from count is =
       let (xs, e, le, all) : IsDefined ids fields inner (defined.Struct from count) = subst (IsDefined ids fields inner) (sym is) h in
-      record { high = omega arith; low = omega arith; above = ap abstract_above e; bottom = ap bottom_of e }
+      record { high = omega arith; low = omega arith; far = refl; above = ap abstract_above e; bottom = ap bottom_of e }
 
-  pub array_around : (f : Field) → defined.Array f ≡ d → IsAround inner (record { above = 8; bottom = 3 })
+  pub array_around : (f : Field) → defined.Array f ≡ d → IsAround inner (record { above = 8; bottom = 3; far = 8; depth = 0 })
   array_around f is =
       let (x, e, one) : IsDefined ids fields inner (defined.Array f) = subst (IsDefined ids fields inner) (sym is) h in
-      record { high = omega arith; low = omega arith; above = ap abstract_above e; bottom = ap bottom_of e }
+      record { high = omega arith; low = omega arith; far = refl; above = ap abstract_above e; bottom = ap bottom_of e }
 
 -- ---- the type at an index
 

@@ -22,6 +22,7 @@ use Rattle.wasm_operators_enums.specs.Op.{Op}
 use Rattle.wasm_operators_enums.specs.Roles.{role_of}
 use Rattle.wasm_operators_enums.specs.declared.role.Role.TheVariants.{Opens}
 use Rattle.wasm_operator_validator_rules.specs.Context.{Context, IsBlockType, initialised_at_first, defaultable, inside, label_of, is_catch}
+use Rattle.wasm_operator_validator_rules.specs.Operands.{stack}
 use Rattle.wasm_operator_validator_rules.specs.Typed.{block_type_of, HasType, MayNest, MayClose, entry_of, IsBody, Typed}
 use Rattle.wasm_operator_validator_state.specs.State.{InFrame}
 use Rattle.wasm_operator_validator_state.specs.laws.Closing.{end, else, in_open, in_else, in_end}
@@ -30,7 +31,7 @@ use Rattle.wasm_operator_validator_fast_path.specs.declared.tables.Sig.{Sig}
 use Rattle.wasm_operator_validator_fast_path.specs.declared.tables.Tables.{Tables}
 use Rattle.wasm_operator_validator_fast_path.specs.Stacks.{Values, lying, with_all}
 use Rattle.wasm_operator_validator_fast_path.specs.Values.{type_of, types, operands}
-use Rattle.wasm_operator_validator_fast_path.specs.Tables.{params_in, results_in, signature_in, Fits, HasDefault, BeginSet}
+use Rattle.wasm_operator_validator_fast_path.specs.Tables.{params_in, results_in, signature_in, label_in, Fits, HasDefault, BeginSet}
 use Rattle.wasm_operator_validator_fast_path.specs.Loop.{outermost, Full, inside_all, label, Closes, Goes, Leads, Enters, Leaves}
 use Rattle.wasm_operator_validator_fast_path.proofs.Stepping.{Stands, stood, step}
 use Rattle.wasm_operator_validator_fast_path.proofs.Rows.{on_stack, same_below}
@@ -160,16 +161,36 @@ module _ (t : Tables) (text : List ℕ) (i e : ℕ) (o : Open) (outer : List Ope
       step ids z text t c i (i + 1) (o ∷ outer) [] v w fits end (stood t.features.0 text i (i + 1) end (told_alone t.features.0 text i 11 11 begins refl end refl refl _ refl refl refl refl))
       (λ os x. closed ids c h os (rw none x)) ([], (let past : drop (i + 1) text ≡ [] = grind (arith, common_steps) in past), refl)
 
--- the first of some frames and the others
-pub split_first : (p : Open) (xs ys : List Open) → slice_get xs 0 ≡ Some p → ys ≡ drop 1 xs → xs ≡ p ∷ ys
-split_first p [] ys e d = absurd cc
-split_first p (x ∷ xs) ys e d = let i : x ≡ p = cc in let j : ys ≡ xs = d in ap (λ y. y ∷ xs) i ∙ ap (λ zs. p ∷ zs) (sym j)
-
-pub no_frames : (xs : List Open) → length xs ≡ 0 → xs ≡ []
-no_frames [] e = refl
-no_frames (x ∷ xs) e = absurd (omega (arith, e))
-
 -- ---- frames and labels of nothing
+
+module _ (flat : List ℕ) (s : Sig) (params : s.param_count ≡ 0) (gives : s.result_count ≡ 0) where
+  takes_none : [] ≡ params_in flat s
+  takes_none = rw params refl
+
+  gives_none : [] ≡ results_in flat s
+  gives_none = rw gives refl
+
+  -- a branch to a frame that takes and gives nothing takes nothing
+  pub bare_label : (k : FrameKind) → [] ≡ label_in flat k s
+  bare_label frames.Loop = takes_none
+  bare_label frames.Block = gives_none
+  bare_label frames.If = gives_none
+  bare_label frames.Else = gives_none
+  bare_label frames.TryTable = gives_none
+  bare_label frames.LegacyTry = gives_none
+  bare_label frames.LegacyCatch = gives_none
+  bare_label frames.LegacyCatchAll = gives_none
+
+  -- and it may end
+  pub bare_closes : (ids : List TypeTree) (k : FrameKind) → MayClose k (signature_in ids flat s)
+  bare_closes ids frames.If = same_below _ _ (ap (λ (xs : List ℕ). stack (types ids xs)) (sym takes_none ∙ gives_none))
+  bare_closes ids frames.Loop = tt
+  bare_closes ids frames.Block = tt
+  bare_closes ids frames.Else = tt
+  bare_closes ids frames.TryTable = tt
+  bare_closes ids frames.LegacyTry = tt
+  bare_closes ids frames.LegacyCatch = tt
+  bare_closes ids frames.LegacyCatchAll = tt
 
 module _ (flat : List ℕ) (v w : Values) where
   pub entered_bare : (k : FrameKind) (s : Sig) (o : Open) (outer : List Open) (n : Open) (others : List Open) → s.param_count ≡ 0 → n.kind ≡ k → n.sig ≡ s → others ≡ o ∷ outer
@@ -218,10 +239,6 @@ module _ (flat : List ℕ) (xs : List ℕ) (m b w : Values) where
     results = ap (λ (ys : List ℕ). with_all ys m) is ∙ ap (λ (ys : List ℕ). with_all (results_in flat o.sig) (ys, m.1)) none;
     ended = put ∙ ap (λ (ys : List ℕ). with_all ys b) is ∙ ap (with_all (results_in flat o.sig)) under;
   }
-
-pub nothing_on : (ls : List ℕ) (m : Values) → length ls ≡ 0 → m ≡ with_all ls m
-nothing_on [] m e = refl
-nothing_on (l ∷ ls) m e = absurd (omega (arith, e))
 
 -- ---- whole bodies
 

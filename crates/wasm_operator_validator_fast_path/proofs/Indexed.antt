@@ -1,5 +1,5 @@
 -- Indices, arguments of accesses and constants, at an offset in the bytes.
-use Rattle.std.proofs.Common.{◌≡◌, ◌∙◌, ℕ, ℤ, suc, pos, ◌+◌, ◌-◌, ◌*◌, ◌+ℤ◌, ◌-ℤ◌, ◌*ℤ◌, ◌<◌, ◌≤◌, List, Bool, true, false, length, drop, get_or, refl, sym, subst, arith}
+use Rattle.std.proofs.Common.{◌≡◌, ◌∙◌, ℕ, ℤ, suc, pos, ◌+◌, ◌-◌, ◌*◌, ◌/◌, ◌%◌, ◌+ℤ◌, ◌-ℤ◌, ◌*ℤ◌, ◌<◌, ◌≤◌, List, Bool, true, false, length, drop, get_or, refl, sym, subst, arith}
 use Rattle.std.proofs.lemmas.Bool.{lt-ltb, le-ltb}
 use Rattle.std.proofs.lemmas.List.{get_or-drop, length-drop}
 use Rattle.wasm_types.specs.decoding.Decoder.{State, Done, byte}
@@ -40,6 +40,15 @@ first_at : (text : List ℕ) (i : ℕ) (s : State) → s.rest ≡ drop i text �
 first_at text i s same lt =
     let z : i + 0 ≡ i = omega arith in
     rw (behind_none s, z) at (byte_at text i 0 s same (omega arith))
+
+-- one byte, which may be the last
+pub index_of_one : (text : List ℕ) (i : ℕ) → i < length text → get_or text i 0 < 128 → GivesAt u32 text i (get_or text i 0) (i + 1)
+unfolding unsigned
+index_of_one text i lt low = record {
+  forward = omega arith;
+  inside = omega (arith, lt);
+  gives = λ s same. let whole : i + 1 - i ≡ 1 = omega arith in rw (whole, first_at text i s same lt, lt-ltb (get_or text i 0) 128 low) refl;
+}
 
 pub unsigned_of_five : (text : List ℕ) (i n : ℕ) → i + 5 ≤ length text → 128 ≤ get_or text i 0 → 128 ≤ get_or text (i + 1) 0 → 128 ≤ get_or text (i + 2) 0
     → 128 ≤ get_or text (i + 3) 0 → get_or text (i + 4) 0 < 16
@@ -234,3 +243,11 @@ module _ (features : ℕ) (text : List ℕ) (i natural : ℕ) (small : get_or te
       let m : i + 1 + 1 ≡ i + 2 = omega arith in
       let last : get_or text (i + 1 + 1) 0 < 128 = rw m low in
       rw n at (argument_of _ (i + 1 + 2) (offset_of_two (has Memory64 features) text (i + 1) (omega (arith, inside)) high last) (omega (arith, last, is_byte)))
+
+-- ---- an index and how many bytes it has, in one number
+
+pub both_parts : (text : List ℕ) (i x e : ℕ) → GivesAt u32 text i x e → x < 0x100000000 → GivesAt u32 text i (((e - i) * 0x100000000 + x) % 0x100000000) (i + ((e - i) * 0x100000000 + x) / 0x100000000)
+both_parts text i x e g few =
+    let low : ((e - i) * 0x100000000 + x) % 0x100000000 ≡ x = omega (arith, few) in
+    let high : i + ((e - i) * 0x100000000 + x) / 0x100000000 ≡ e = omega (arith, few, g.forward) in
+    rw (low, high) g

@@ -4,6 +4,7 @@ pub mod Stepping
 pub mod Spelled
 pub mod Rows
 pub mod Frames
+pub mod Nesting
 pub mod Coded
 pub mod Knowing
 pub mod Indexed

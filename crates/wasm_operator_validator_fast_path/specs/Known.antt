@@ -92,5 +92,6 @@ IsCodeOf ids t code = (40 ≤ code) × (type_of ids code ≡ ref true (concrete 
 pub record IsAround (inner : InnerOf TypeTree) (s : Step) : Type 0 where
   pub high : s.above < 16
   pub low : s.bottom < 16
+  pub far : s.far ≡ s.above
   pub above : abstract_above inner ≡ abstract_of s.above
   pub bottom : bottom_of inner ≡ abstract_of s.bottom

@@ -11,17 +11,17 @@ use Rattle.wasm_operator_validator_rules.specs.Context.{Context, Initialised, la
 use Rattle.wasm_operator_validator_rules.specs.Typed.{MayClose}
 use Rattle.wasm_operator_validator_state.specs.State.{InFrame}
 use Rattle.wasm_operator_validator_fast_path.specs.declared.tables.Open.{Open}
-use Rattle.wasm_operator_validator_fast_path.specs.declared.tables.Opens.{Opens}
 use Rattle.wasm_operator_validator_fast_path.specs.declared.tables.Sig.{Sig}
 use Rattle.wasm_operator_validator_fast_path.specs.declared.tables.Tables.{Tables}
 use Rattle.wasm_operator_validator_fast_path.specs.Stacks.{Values, lying, with_all}
+use Rattle.wasm_operator_validator_fast_path.specs.Nested.{Nested}
 use Rattle.wasm_operator_validator_fast_path.specs.Values.{operands}
 use Rattle.wasm_operator_validator_fast_path.specs.Tables.{params_in, results_in, signature_in, Fits}
 
 -- ---- which operators may come
 
 -- the open frames, the innermost first
-abbrev pub all : Opens → List Open
+abbrev pub all : Nested → List Open
 all o = o.inner ∷ o.outer
 
 -- all locals have values

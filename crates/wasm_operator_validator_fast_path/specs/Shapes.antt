@@ -22,8 +22,8 @@ use Rattle.wasm_operator_validator_fast_path.specs.Tables.{Allows}
 use Rattle.wasm_operator_validator_fast_path.specs.Values.{number_of, type_of, types}
 use Rattle.wasm_types.specs.decoding.Numbers.{GivesAt}
 use Rattle.wasm_operators_encoding.specs.immediates.MemoryArguments.{argument, memory_argument}
-use Rattle.wasm_operator_validator_fast_path.specs.declared.shape.Shape.{Shape}
-use Rattle.wasm_operator_validator_fast_path.specs.declared.shape.Shape.TheVariants as shape
+use Rattle.wasm_operator_validator_fast_path.specs.declared.shape.Class.{Class}
+use Rattle.wasm_operator_validator_fast_path.specs.declared.shape.Class.TheVariants as class
 
 -- the operator on numbers with this prefix, if it has one, and this code takes and gives these types
 pub record IsNumberAt (prefix : Option ℕ) (code : ℕ) (takes gives : List ℕ) : Type 0 where
@@ -52,13 +52,38 @@ pub record IsAccessAt (kind : Number → Access) (code natural ty : ℕ) : Type 
       → TableRow g (op.Memory (operator a)) popped pushed
       → GroupRow g set (op.Memory (operator a)) popped pushed
 
--- a code of one byte has this shape
-abbrev pub IsShape : Shape → ℕ → Type 0
-IsShape shape.Other code = Unit {0}
-IsShape (shape.Load natural t) code = IsAccessAt load code natural t
-IsShape (shape.Store natural t) code = IsAccessAt store code natural t
-IsShape (shape.Change a b) code = IsNumberAt None code (a ∷ []) (b ∷ [])
-IsShape (shape.Combine a b) code = IsNumberAt None code (a ∷ a ∷ []) (b ∷ [])
+-- a code of one byte has this class, which may be one of several codes
+abbrev pub IsClass : Class → ℕ → Type 0
+IsClass class.Unreachable code = code ≡ 0x00
+IsClass class.Nop code = code ≡ 0x01
+IsClass class.Block code = code ≡ 0x02
+IsClass class.Loop code = code ≡ 0x03
+IsClass class.If code = code ≡ 0x04
+IsClass class.Else code = code ≡ 0x05
+IsClass class.End code = code ≡ 0x0b
+IsClass class.Br code = code ≡ 0x0c
+IsClass class.BrIf code = code ≡ 0x0d
+IsClass class.BrTable code = code ≡ 0x0e
+IsClass class.Return code = code ≡ 0x0f
+IsClass class.Call code = code ≡ 0x10
+IsClass class.CallIndirect code = code ≡ 0x11
+IsClass class.ReturnCall code = code ≡ 0x12
+IsClass class.ReturnCallIndirect code = code ≡ 0x13
+IsClass class.Drop code = code ≡ 0x1a
+IsClass class.Select code = code ≡ 0x1b
+IsClass class.LocalGet code = code ≡ 0x20
+IsClass class.LocalSet code = code ≡ 0x21
+IsClass class.LocalTee code = code ≡ 0x22
+IsClass class.GlobalGet code = code ≡ 0x23
+IsClass class.GlobalSet code = code ≡ 0x24
+IsClass class.MemorySize code = code ≡ 0x3f
+IsClass class.MemoryGrow code = code ≡ 0x40
+IsClass class.I32Const code = code ≡ 0x41
+IsClass class.I64Const code = code ≡ 0x42
+IsClass class.F32Const code = code ≡ 0x43
+IsClass class.F64Const code = code ≡ 0x44
+IsClass class.Prefixed code = code ≡ 0xfc
+IsClass _ code = Unit {0}
 
 -- the argument of an access to memory 0, of this natural alignment, stands from one offset to another
 pub record IsArgumentAt (features : ℕ) (text : List ℕ) (i natural j : ℕ) : Type 0 where

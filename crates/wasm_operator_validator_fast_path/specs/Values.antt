@@ -35,10 +35,11 @@ operands ids ns = map known (types ids ns)
 
 -- ---- what is below what
 
--- A step up from a heap type, as its number: to the supertype that a type declares, or to the abstract type above it; and the number of
--- the bottom type below it. So a walk up a table tells what is below what, and asks no module.
+-- A step up from a heap type, as its number: to the supertype that a type declares, or to the abstract type above it; the number of the
+-- bottom type below it; and a type further up, so that few steps lead far. So a walk up a table tells what is below what, and asks no module.
 pub record IsStep (ids : List TypeTree) (n : ℕ) (s : Step) : Type 0 where
   pub up : HeapBelow (heap_of ids n) (heap_of ids s.above)
+  pub far : HeapBelow (heap_of ids n) (heap_of ids s.far)
   pub down : HeapBelow (heap_of ids s.bottom) (heap_of ids n)
 
 abbrev pub AreSteps : List TypeTree → List Step → Type 0

@@ -1,6 +1,6 @@
 //! Frames that begin, turn and end.
 
-ghost use Rattle.std.specs.Prelude.{◌≡◌, ◌<◌, ◌≤◌, ◌∷◌, ℕ, List, true, length, get_or, [], IfSome};
+ghost use Rattle.std.specs.Prelude.{◌≡◌, ◌<◌, ◌≤◌, ◌+◌, ◌∷◌, ℕ, List, true, length, get_or, [], IfSome};
 ghost use Rattle.wasm_operators_frequent.specs.Short.{Begins};
 ghost use Rattle.wasm_operator_validator_fast_path.specs.Loop.{Leads, Goes, Enters, Leaves, all};
 ghost use Rattle.wasm_types.specs.settings.Settings.{Settings};
@@ -13,9 +13,10 @@ ghost use Rattle.wasm_types.specs.values.Decode.{begins_index};
 ghost use Rattle.wasm_operator_validator_fast_path.specs.Tables.{Fits, signature_in};
 ghost use Rattle.wasm_operator_validator_fast_path.specs.Written.{IsBlockAt};
 
-use crate::lookups::part;
+use crate::lookups::{is_bare, part};
+use crate::opens::Opens;
 use crate::stack::Stack;
-use crate::tables::{Open, Opens, Sig, Tables};
+use crate::tables::{Open, Sig, Tables};
 use crate::written::{begins_index, value_at};
 use wasm_operator_validator_state::FrameKind;
 use wasm_types_decoding::short_s33_at;
@@ -48,8 +49,9 @@ fn block_by_index(tables: &Tables, bytes: &[u8], at: usize) -> Option<(Sig, usiz
 // The signature of a block of no operands.
 #[inline(always)]
 fn bare() -> Sig
-    ensures { (ids : List TypeTree) (flat : List ℕ)
+    ensures signature { (ids : List TypeTree) (flat : List ℕ)
         → signature_in ids flat result ≡ record { params = []; results = [] } }
+    ensures params { result.param_count ≡ 0 }
 {
     Sig {
         params: 0,
@@ -113,11 +115,7 @@ fn enter_bare(kind: FrameKind, sig: Sig, stack: &mut Stack, opens: &mut Opens) -
         opens.old.inner opens.old.outer opens.new.inner opens.new.outer }
 {
     let base = stack.enter();
-    if !opens.outer.push(opens.inner) {
-        return false;
-    }
-    opens.inner = Open { kind, base, sig };
-    true
+    opens.nest(Open { kind, base, sig })
 }
 
 /// A frame begins.
@@ -143,11 +141,10 @@ pub fn enter(
         return false;
     }
     let base = stack.enter();
-    if !stack.put_all(params) || !opens.outer.push(opens.inner) {
+    if !stack.put_all(params) {
         return false;
     }
-    opens.inner = Open { kind, base, sig };
-    true
+    opens.nest(Open { kind, base, sig })
 }
 
 /// A block begins.
@@ -159,12 +156,19 @@ pub fn block(
     stack: &mut Stack,
     opens: &mut Opens,
 ) -> Option<usize>
-    requires { Begins bytes.now at 0x02 }
+    requires begins { Begins bytes.now at 0x02 }
+    requires more { at + 1 < length bytes.now }
     ensures leads { IfSome result (λ end. Leads bytes.now tables.now at (all opens.old) stack.old
         end (all opens.new) stack.new) }
     ensures forward { IfSome result (λ end. at < end) }
     ensures inside { IfSome result (λ end. end ≤ length bytes.now) }
 {
+    if bytes[at + 1] == 0x40 {
+        if !enter_bare(FrameKind::Block, bare(), stack, opens) {
+            return None;
+        }
+        return Some(at + 1 + 1);
+    }
     let Some((sig, end)) = block_at(tables, bytes, at + 1) else {
         return None;
     };
@@ -183,12 +187,19 @@ pub fn begin_loop(
     stack: &mut Stack,
     opens: &mut Opens,
 ) -> Option<usize>
-    requires { Begins bytes.now at 0x03 }
+    requires begins { Begins bytes.now at 0x03 }
+    requires more { at + 1 < length bytes.now }
     ensures leads { IfSome result (λ end. Leads bytes.now tables.now at (all opens.old) stack.old
         end (all opens.new) stack.new) }
     ensures forward { IfSome result (λ end. at < end) }
     ensures inside { IfSome result (λ end. end ≤ length bytes.now) }
 {
+    if bytes[at + 1] == 0x40 {
+        if !enter_bare(FrameKind::Loop, bare(), stack, opens) {
+            return None;
+        }
+        return Some(at + 1 + 1);
+    }
     let Some((sig, end)) = block_at(tables, bytes, at + 1) else {
         return None;
     };
@@ -207,12 +218,19 @@ pub fn begin_if(
     stack: &mut Stack,
     opens: &mut Opens,
 ) -> Option<usize>
-    requires { Begins bytes.now at 0x04 }
+    requires begins { Begins bytes.now at 0x04 }
+    requires more { at + 1 < length bytes.now }
     ensures leads { IfSome result (λ end. Leads bytes.now tables.now at (all opens.old) stack.old
         end (all opens.new) stack.new) }
     ensures forward { IfSome result (λ end. at < end) }
     ensures inside { IfSome result (λ end. end ≤ length bytes.now) }
 {
+    if bytes[at + 1] == 0x40 {
+        if !stack.take(0) || !enter_bare(FrameKind::If, bare(), stack, opens) {
+            return None;
+        }
+        return Some(at + 1 + 1);
+    }
     let Some((sig, end)) = block_at(tables, bytes, at + 1) else {
         return None;
     };
@@ -238,11 +256,12 @@ pub fn turn(
     ensures inside { IfSome result (λ end. end ≤ length bytes.now) }
 {
     let _bytes = bytes;
-    match opens.inner.kind {
+    let frame = opens.inner();
+    match frame.kind {
         FrameKind::If => {}
         _ => return None,
     }
-    let sig = opens.inner.sig;
+    let sig = frame.sig;
     let flat = tables.known.flat.as_slice();
     let Some(results) = part(flat, sig.results, sig.result_count) else {
         return None;
@@ -256,7 +275,11 @@ pub fn turn(
     {
         return None;
     }
-    opens.inner.kind = FrameKind::Else;
+    opens.turn(Open {
+        kind: FrameKind::Else,
+        base: frame.base,
+        sig,
+    });
     Some(at + 1)
 }
 
@@ -282,11 +305,11 @@ fn leave(tables: &Tables, frame: &Open, stack: &mut Stack) -> bool
     ensures { result ≡ true → (m : Values) × IsLowered tables.now.known.order stack.old m
         × Leaves tables.now.known.flat.items frame.now m stack.new }
 {
+    if is_bare(frame.sig) {
+        return stack.leave(frame.base);
+    }
     if !may_close(frame) {
         return false;
-    }
-    if frame.sig.result_count == 0 {
-        return stack.leave(frame.base);
     }
     let Some(results) = part(
         tables.known.flat.as_slice(),
@@ -317,21 +340,22 @@ pub fn end(
     ensures inside { IfSome result (λ end. end ≤ length bytes.now) }
 {
     let _bytes = bytes;
-    if opens.outer.len() == 0 || !leave(tables, &opens.inner, stack) {
+    let frame = opens.inner();
+    if !leave(tables, &frame, stack) || !opens.close() {
         return None;
     }
-    opens.inner = opens.outer.under(0);
-    opens.outer.shorten();
     Some(at + 1)
 }
 
 /// The last frame ends at the end of the bytes.
 pub fn finish(tables: &Tables, bytes: &[u8], at: usize, stack: &mut Stack, opens: &Opens) -> bool
-    ensures { result ≡ true → (ids : List TypeTree) (z : Settings) (g : Context) → Fits ids z bytes.now tables.now g
+    ensures inside { result ≡ true → at < length bytes.now }
+    ensures goes { result ≡ true → (ids : List TypeTree) (z : Settings) (g : Context) → Fits ids z bytes.now tables.now g
         → Goes ids z bytes.now tables.now g at (all opens.now) stack.old }
 {
-    if at >= bytes.len() || at + 1 != bytes.len() || bytes[at] != 0x0b || opens.outer.len() != 0 {
+    if at >= bytes.len() || at + 1 != bytes.len() || bytes[at] != 0x0b || !opens.is_last() {
         return false;
     }
-    leave(tables, &opens.inner, stack)
+    let frame = opens.inner();
+    leave(tables, &frame, stack)
 }

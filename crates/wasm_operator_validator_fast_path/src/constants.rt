@@ -1,12 +1,13 @@
 //! Constants.
 
-ghost use Rattle.std.specs.Prelude.{◌≡◌, ◌<◌, ◌≤◌, ◌∷◌, ℕ, List, length, [], IfSome};
+ghost use Rattle.std.specs.Prelude.{◌≡◌, ◌<◌, ◌≤◌, ◌+◌, ◌∷◌, ℕ, List, length, [], IfSome};
 ghost use Rattle.wasm_operators_frequent.specs.Short.{Begins};
 ghost use Rattle.wasm_operator_validator_fast_path.specs.Loop.{Leads, all};
 
 use crate::indices::{i32_end, i64_end};
+use crate::opens::Opens;
 use crate::stack::Stack;
-use crate::tables::{Opens, Tables};
+use crate::tables::Tables;
 use wasm_operators_frequent::{f32_at, f64_at};
 
 /// A constant of type i32.
@@ -18,7 +19,8 @@ pub fn i32_const(
     stack: &mut Stack,
     opens: &Opens,
 ) -> Option<usize>
-    requires { Begins bytes.now at 0x41 }
+    requires begins { Begins bytes.now at 0x41 }
+    requires more { at + 1 < length bytes.now }
     ensures leads { IfSome result (λ end. Leads bytes.now tables.now at (all opens.now) stack.old
         end (all opens.now) stack.new) }
     ensures forward { IfSome result (λ end. at < end) }
@@ -44,7 +46,8 @@ pub fn i64_const(
     stack: &mut Stack,
     opens: &Opens,
 ) -> Option<usize>
-    requires { Begins bytes.now at 0x42 }
+    requires begins { Begins bytes.now at 0x42 }
+    requires more { at + 1 < length bytes.now }
     ensures leads { IfSome result (λ end. Leads bytes.now tables.now at (all opens.now) stack.old
         end (all opens.now) stack.new) }
     ensures forward { IfSome result (λ end. at < end) }

@@ -1,6 +1,6 @@
 //! Branches, calls, and operators that take any operand.
 
-ghost use Rattle.std.specs.Prelude.{◌≡◌, ◌<◌, ◌≤◌, ◌∷◌, ℕ, List, length, [], IfSome};
+ghost use Rattle.std.specs.Prelude.{◌≡◌, ◌<◌, ◌≤◌, ◌+◌, ◌∷◌, ℕ, List, length, [], IfSome};
 ghost use Rattle.wasm_types.specs.decoding.Numbers.{GivesAt};
 ghost use Rattle.wasm_operators_immediates.specs.Kinds.{Tables as TableSpace};
 ghost use Rattle.wasm_operators_encoding.specs.immediates.Bytes.{index_or_zero};
@@ -8,14 +8,14 @@ ghost use Rattle.wasm_operators_encoding.specs.immediates.Immediates.{may_index}
 ghost use Rattle.wasm_operators_frequent.specs.Short.{Begins};
 ghost use Rattle.wasm_operator_validator_fast_path.specs.Loop.{Leads, all};
 
-use crate::indices::index_at;
+use crate::indices::{index_at, near_index_at};
 use crate::labels::labels_at;
-use crate::lookups::{frame_at, label, part};
+use crate::lookups::{frame_at, given, inner_results, is_bare, label, part};
+use crate::opens::Opens;
 use crate::stack::Stack;
-use crate::tables::{Opens, Tables};
+use crate::tables::Tables;
 use wasm_operators_frequent::zero_at;
 use wasm_types::WasmFeatures;
-use wasm_types_decoding::short_u32_at;
 
 /// Nothing.
 #[inline(always)]
@@ -55,11 +55,7 @@ pub fn unreachable(
     ensures inside { IfSome result (λ end. end ≤ length bytes.now) }
 {
     let _bytes = bytes;
-    let Some(results) = part(
-        tables.known.flat.as_slice(),
-        opens.inner.sig.results,
-        opens.inner.sig.result_count,
-    ) else {
+    let Some(results) = given(tables.known.flat.as_slice(), opens, 0) else {
         return None;
     };
     stack.cut();
@@ -126,26 +122,27 @@ pub fn br(
     stack: &mut Stack,
     opens: &Opens,
 ) -> Option<usize>
-    requires { Begins bytes.now at 0x0c }
+    requires begins { Begins bytes.now at 0x0c }
+    requires more { at + 1 < length bytes.now }
     ensures leads { IfSome result (λ end. Leads bytes.now tables.now at (all opens.now) stack.old
         end (all opens.now) stack.new) }
     ensures forward { IfSome result (λ end. at < end) }
     ensures inside { IfSome result (λ end. end ≤ length bytes.now) }
 {
-    let Some((depth, end)) = short_u32_at(bytes, at + 1) else {
+    let Some((depth, end)) = near_index_at(bytes, at + 1) else {
         return None;
     };
     let Some(frame) = frame_at(opens, depth) else {
         return None;
     };
+    if is_bare(frame.sig) && opens.inner().sig.result_count == 0 {
+        stack.cut();
+        return Some(end);
+    }
     let Some(types) = label(tables.known.flat.as_slice(), frame.kind, frame.sig) else {
         return None;
     };
-    let Some(results) = part(
-        tables.known.flat.as_slice(),
-        opens.inner.sig.results,
-        opens.inner.sig.result_count,
-    ) else {
+    let Some(results) = given(tables.known.flat.as_slice(), opens, types.len()) else {
         return None;
     };
     if !stack.take_all(&tables.known.order, types) {
@@ -167,26 +164,30 @@ pub fn br_if(
     stack: &mut Stack,
     opens: &Opens,
 ) -> Option<usize>
-    requires { Begins bytes.now at 0x0d }
+    requires begins { Begins bytes.now at 0x0d }
+    requires more { at + 1 < length bytes.now }
     ensures leads { IfSome result (λ end. Leads bytes.now tables.now at (all opens.now) stack.old
         end (all opens.now) stack.new) }
     ensures forward { IfSome result (λ end. at < end) }
     ensures inside { IfSome result (λ end. end ≤ length bytes.now) }
 {
-    let Some((depth, end)) = short_u32_at(bytes, at + 1) else {
+    let Some((depth, end)) = near_index_at(bytes, at + 1) else {
         return None;
     };
     let Some(frame) = frame_at(opens, depth) else {
         return None;
     };
+    if is_bare(frame.sig) {
+        if !stack.take(0) {
+            return None;
+        }
+        return Some(end);
+    }
     let Some(types) = label(tables.known.flat.as_slice(), frame.kind, frame.sig) else {
         return None;
     };
     if !stack.take(0) {
         return None;
-    }
-    if types.len() == 0 {
-        return Some(end);
     }
     if !stack.take_all(&tables.known.order, types) || !stack.put_all(types) {
         return None;
@@ -203,13 +204,14 @@ pub fn br_table(
     stack: &mut Stack,
     opens: &Opens,
 ) -> Option<usize>
-    requires { Begins bytes.now at 0x0e }
+    requires begins { Begins bytes.now at 0x0e }
+    requires more { at + 1 < length bytes.now }
     ensures leads { IfSome result (λ end. Leads bytes.now tables.now at (all opens.now) stack.old
         end (all opens.now) stack.new) }
     ensures forward { IfSome result (λ end. at < end) }
     ensures inside { IfSome result (λ end. end ≤ length bytes.now) }
 {
-    let Some((count, first)) = short_u32_at(bytes, at + 1) else {
+    let Some((count, first)) = near_index_at(bytes, at + 1) else {
         return None;
     };
     if count as usize > bytes.len() {
@@ -225,11 +227,7 @@ pub fn br_table(
     ) else {
         return None;
     };
-    let Some(results) = part(
-        tables.known.flat.as_slice(),
-        opens.inner.sig.results,
-        opens.inner.sig.result_count,
-    ) else {
+    let Some(results) = inner_results(tables.known.flat.as_slice(), opens) else {
         return None;
     };
     if !stack.take(0) || !stack.take_all(&tables.known.order, types) {
@@ -265,11 +263,7 @@ pub fn return_all(
     ) else {
         return None;
     };
-    let Some(results) = part(
-        tables.known.flat.as_slice(),
-        opens.inner.sig.results,
-        opens.inner.sig.result_count,
-    ) else {
+    let Some(results) = given(tables.known.flat.as_slice(), opens, types.len()) else {
         return None;
     };
     if !stack.take_all(&tables.known.order, types) {

@@ -6,7 +6,7 @@ ghost use Rattle.wasm_operator_validator_fast_path.specs.Labels.{AreLabels, Take
 ghost use Rattle.wasm_operator_validator_fast_path.specs.Loop.{all};
 
 use crate::lookups::{frame_at, label};
-use crate::tables::Opens;
+use crate::opens::Opens;
 use std::alloc::Global;
 use wasm_operator_validator_locals::labels::{Met, is_known, keep};
 use wasm_types_decoding::short_u32_at;

@@ -3,12 +3,12 @@
 ghost use Rattle.std.specs.Prelude.{◌≡◌, ◌<◌, ◌≤◌, ◌∷◌, ℕ, List, length, [], IfSome};
 ghost use Rattle.wasm_operators_frequent.specs.Short.{Begins, BeginsPrefixed};
 ghost use Rattle.wasm_operator_validator_fast_path.specs.Loop.{Leads, all};
-ghost use Rattle.wasm_operator_validator_rules.specs.Accesses.{load as load_of, store as store_of};
-ghost use Rattle.wasm_operator_validator_fast_path.specs.Shapes.{IsAccessAt};
 
 use crate::indices::argument_at;
+use crate::opens::Opens;
+use crate::shape::{load_shape, store_shape};
 use crate::stack::Stack;
-use crate::tables::{Opens, Tables};
+use crate::tables::{NO_CODE, Tables};
 use wasm_operators_frequent::zero_at;
 use wasm_types_decoding::short_u32_at;
 
@@ -16,24 +16,21 @@ use wasm_types_decoding::short_u32_at;
 #[inline(always)]
 pub fn load(
     code: u8,
-    natural: u8,
-    gives: u32,
     tables: &Tables,
     bytes: &[u8],
     at: usize,
     stack: &mut Stack,
     opens: &Opens,
 ) -> Option<usize>
-    requires begins { Begins bytes.now at code }
-    requires access { IsAccessAt load_of code natural gives }
+    requires { Begins bytes.now at code }
     ensures leads { IfSome result (λ end. Leads bytes.now tables.now at (all opens.now) stack.old
         end (all opens.now) stack.new) }
     ensures forward { IfSome result (λ end. at < end) }
     ensures inside { IfSome result (λ end. end ≤ length bytes.now) }
 {
     let _opens = opens;
-    let _code = code;
-    if !tables.known.memory {
+    let (natural, gives) = load_shape(code);
+    if gives >= NO_CODE || !tables.known.memory {
         return None;
     }
     let Some(end) = argument_at(bytes, at + 1, natural, tables.features) else {
@@ -49,24 +46,21 @@ pub fn load(
 #[inline(always)]
 pub fn store(
     code: u8,
-    natural: u8,
-    takes: u32,
     tables: &Tables,
     bytes: &[u8],
     at: usize,
     stack: &mut Stack,
     opens: &Opens,
 ) -> Option<usize>
-    requires begins { Begins bytes.now at code }
-    requires access { IsAccessAt store_of code natural takes }
+    requires { Begins bytes.now at code }
     ensures leads { IfSome result (λ end. Leads bytes.now tables.now at (all opens.now) stack.old
         end (all opens.now) stack.new) }
     ensures forward { IfSome result (λ end. at < end) }
     ensures inside { IfSome result (λ end. end ≤ length bytes.now) }
 {
     let _opens = opens;
-    let _code = code;
-    if !tables.known.memory {
+    let (natural, takes) = store_shape(code);
+    if takes >= NO_CODE || !tables.known.memory {
         return None;
     }
     let Some(end) = argument_at(bytes, at + 1, natural, tables.features) else {

@@ -5,7 +5,7 @@ ghost use Rattle.wasm_types.specs.trees.Trees.{TypeTree, opened};
 ghost use Rattle.wasm_operator_validator_state.specs.resources.Meaning.{Meaning, entry_in};
 ghost use Rattle.wasm_operator_validator_fast_path.specs.Values.{heap_of, IsStep, AreSteps};
 ghost use Rattle.wasm_types.specs.trees.Types.{concrete, InnerOf};
-ghost use Rattle.wasm_types.specs.trees.Below.{expanded, is_shared};
+ghost use Rattle.wasm_types.specs.trees.Below.{HeapBelow, expanded, is_shared};
 ghost use Rattle.wasm_types.specs.trees.Chains.{IsSound};
 ghost use Rattle.wasm_operator_validator_fast_path.specs.Tables.{no_code, IsDefined, IsField, AreFields, IsNamedIn};
 ghost use Rattle.wasm_operator_validator_fast_path.specs.Known.{IsMore, IsLonger, StandAlone, AreNamedIn, ArePlacedIn, IsCodeOf, IsAround, inner_in, field_in, fields_in};
@@ -38,38 +38,56 @@ fn abstract_step(number: u32) -> Step
         0 => Step {
             above: 0,
             bottom: 5,
+            far: 0,
+            depth: 0,
         },
         1 => Step {
             above: 1,
             bottom: 4,
+            far: 1,
+            depth: 0,
         },
         2 => Step {
             above: 2,
             bottom: 3,
+            far: 2,
+            depth: 0,
         },
         6 => Step {
             above: 2,
             bottom: 3,
+            far: 2,
+            depth: 1,
         },
         7 => Step {
             above: 6,
             bottom: 3,
+            far: 6,
+            depth: 2,
         },
         8 => Step {
             above: 6,
             bottom: 3,
+            far: 6,
+            depth: 2,
         },
         9 => Step {
             above: 6,
             bottom: 3,
+            far: 6,
+            depth: 2,
         },
         10 => Step {
             above: 10,
             bottom: 11,
+            far: 10,
+            depth: 0,
         },
         _ => Step {
             above: number,
             bottom: number,
+            far: number,
+            depth: 0,
         },
     }
 }
@@ -106,7 +124,7 @@ pub(crate) fn name_all<R: WasmModuleResources>(
             return;
         }
         let it = named_of(resources, at, ty, fields);
-        if !put_step(resources, at, ty, it, steps) {
+        if !put_step(resources, at, ty, it, most, steps) {
             return;
         }
         if !put_named(it, flat, named) {
@@ -252,12 +270,17 @@ fn put_fields(written: &[FieldType], fields: &mut Vec<Field>) -> bool
     true
 }
 
+// Steps lie by the ids of types, of which a list that modules share may have many more than one module: for each entry of another table at most so
+// many are made. A type with a greater id has no step, and is left to the validator of operators.
+const STEPS_AN_ENTRY: usize = 16;
+
 // A step up from a type, if a code stands for it, and steps that lead nowhere for what has none yet. False if there is no memory.
 fn put_step<R: WasmModuleResources>(
     resources: &R,
     at: u32,
     ty: &SubType,
     it: Named,
+    most: u32,
     steps: &mut Vec<Step>,
 ) -> bool
     requires there { let m = R.meaning resources.now in
@@ -274,11 +297,48 @@ fn put_step<R: WasmModuleResources>(
         return true;
     };
     let place = ((it.code - 8) / 2) as usize;
+    if place / STEPS_AN_ENTRY >= most as usize {
+        return true;
+    }
     if !lengthen(steps, place) {
         return false;
     }
-    steps[place] = step;
+    let (far, depth) = far_above(steps.as_slice(), step.above);
+    steps[place] = Step {
+        above: step.above,
+        bottom: step.bottom,
+        far,
+        depth,
+    };
     true
+}
+
+// One that is above a heap type, or that one itself, so far up that few far steps lead to any that is above it; and how deep what is right below that
+// heap type lies.
+fn far_above(steps: &[Step], above: u32) -> (u32, u32)
+    ensures { (ids : List TypeTree) → AreSteps ids steps.now → HeapBelow (heap_of ids above) (heap_of ids result.0) }
+{
+    let place = above as usize;
+    if place >= steps.len() {
+        return (above, 0);
+    }
+    let step = steps[place];
+    let depth = step.depth.saturating_add(1);
+    let far = step.far as usize;
+    if far >= steps.len() {
+        return (above, depth);
+    }
+    let middle = steps[far];
+    let further = middle.far as usize;
+    if further >= steps.len() || !is_halfway(step.depth, middle.depth, steps[further].depth) {
+        return (above, depth);
+    }
+    (middle.far, depth)
+}
+
+// Whether the second depth lies in the middle of the two others.
+fn is_halfway(low: u32, middle: u32, high: u32) -> bool {
+    low.saturating_sub(middle) == middle.saturating_sub(high)
 }
 
 // Steps that lead nowhere, up to a place.
@@ -295,6 +355,8 @@ fn lengthen(steps: &mut Vec<Step>, place: usize) -> bool
         let Ok(()) = steps.push(Step {
             above: at,
             bottom: at,
+            far: at,
+            depth: 0,
         }) else {
             return false;
         };
@@ -312,14 +374,20 @@ fn step_around(defined: Defined) -> Option<Step>
         Defined::Function => Some(Step {
             above: 0,
             bottom: 5,
+            far: 0,
+            depth: 0,
         }),
         Defined::Struct(_, _) => Some(Step {
             above: 7,
             bottom: 3,
+            far: 7,
+            depth: 0,
         }),
         Defined::Array(_) => Some(Step {
             above: 8,
             bottom: 3,
+            far: 8,
+            depth: 0,
         }),
     }
 }
@@ -342,8 +410,11 @@ fn step_of(ty: &SubType, defined: Defined) -> Option<Step>
     if id.number() >= MANY {
         return None;
     }
+    let above = 16 + id.number();
     Some(Step {
-        above: 16 + id.number(),
+        above,
         bottom: around.bottom,
+        far: above,
+        depth: 0,
     })
 }

@@ -3,26 +3,25 @@
 ghost use Rattle.std.specs.Prelude.{◌≡◌, ◌<◌, ◌≤◌, ◌∷◌, ℕ, List, length, [], IfSome};
 ghost use Rattle.wasm_operators_frequent.specs.Short.{Begins, BeginsPrefixed};
 ghost use Rattle.wasm_operator_validator_fast_path.specs.Loop.{Leads, all};
-ghost use Rattle.std.specs.Prelude.{None, Some};
+ghost use Rattle.std.specs.Prelude.{Some};
 ghost use Rattle.wasm_operator_validator_fast_path.specs.Shapes.{IsNumberAt};
 
+use crate::opens::Opens;
+use crate::shape::{change_shape, combine_shape};
 use crate::stack::Stack;
-use crate::tables::{Opens, Tables};
+use crate::tables::{NO_CODE, Tables};
 
 /// One that makes a number of one.
 #[inline(always)]
 pub fn change(
     code: u8,
-    takes: u32,
-    gives: u32,
     tables: &Tables,
     bytes: &[u8],
     at: usize,
     stack: &mut Stack,
     opens: &Opens,
 ) -> Option<usize>
-    requires begins { Begins bytes.now at code }
-    requires number { IsNumberAt None code (takes ∷ []) (gives ∷ []) }
+    requires { Begins bytes.now at code }
     ensures leads { IfSome result (λ end. Leads bytes.now tables.now at (all opens.now) stack.old
         end (all opens.now) stack.new) }
     ensures forward { IfSome result (λ end. at < end) }
@@ -31,8 +30,8 @@ pub fn change(
     let _opens = opens;
     let _tables = tables;
     let _bytes = bytes;
-    let _code = code;
-    if !stack.change(takes, gives) {
+    let (takes, gives) = change_shape(code);
+    if gives >= NO_CODE || !stack.change(takes, gives) {
         return None;
     }
     Some(at + 1)
@@ -42,16 +41,13 @@ pub fn change(
 #[inline(always)]
 pub fn combine(
     code: u8,
-    takes: u32,
-    gives: u32,
     tables: &Tables,
     bytes: &[u8],
     at: usize,
     stack: &mut Stack,
     opens: &Opens,
 ) -> Option<usize>
-    requires begins { Begins bytes.now at code }
-    requires number { IsNumberAt None code (takes ∷ takes ∷ []) (gives ∷ []) }
+    requires { Begins bytes.now at code }
     ensures leads { IfSome result (λ end. Leads bytes.now tables.now at (all opens.now) stack.old
         end (all opens.now) stack.new) }
     ensures forward { IfSome result (λ end. at < end) }
@@ -60,8 +56,8 @@ pub fn combine(
     let _opens = opens;
     let _tables = tables;
     let _bytes = bytes;
-    let _code = code;
-    if !stack.combine(takes, gives) {
+    let (takes, gives) = combine_shape(code);
+    if gives >= NO_CODE || !stack.combine(takes, gives) {
         return None;
     }
     Some(at + 1)

@@ -1,17 +1,20 @@
 //! What is below what, by a table of steps up.
 
-ghost use Rattle.std.specs.Prelude.{◌≡◌, ◌∷◌, [], ◌%◌, ◌==◌, List, true};
+ghost use Rattle.std.specs.Prelude.{◌≡◌, ◌∷◌, [], ◌%◌, ◌==◌, ℕ, List, true};
 ghost use Rattle.wasm_types.specs.trees.Trees.{TypeTree};
 ghost use Rattle.wasm_types.specs.trees.Below.{HeapBelow};
-ghost use Rattle.wasm_operator_validator_fast_path.specs.Values.{heap_of, AreSteps, AreBelow};
+ghost use Rattle.wasm_operator_validator_fast_path.specs.Values.{heap_of, IsStep, AreSteps, AreBelow};
 
 use std::marker::Model;
 
-/// The heap type above another by one step, which may be that one itself, and the bottom type below it.
+/// The heap type above another by one step, which may be that one itself; the bottom type below it; one that is above it by any number of steps;
+/// and how many steps lead to the top. The depth is a hint, by which a search takes few steps.
 #[derive(Clone, Copy)]
 pub struct Step {
     pub above: u32,
     pub bottom: u32,
+    pub far: u32,
+    pub depth: u32,
 }
 
 // Declared supertypes are no more than 63 above one another, and abstract types no more than 4.
@@ -32,18 +35,34 @@ fn is_heap_below(steps: &[Step], heap: u32, other: u32) -> bool
     is_reached(steps, heap, other)
 }
 
+// A step further up, by a far step if that leads no higher than a type of this depth.
+fn next_up(steps: &[Step], step: Step, depth: u32) -> u32
+    ensures { (ids : List TypeTree) (n : ℕ) → IsStep ids n step → HeapBelow (heap_of ids n) (heap_of ids result) }
+{
+    let far = step.far as usize;
+    if far < steps.len() && steps[far].depth >= depth {
+        return step.far;
+    }
+    step.above
+}
+
 // Whether steps up from a heap type reach another.
 fn is_reached(steps: &[Step], heap: u32, other: u32) -> bool
     ensures { result ≡ true → (ids : List TypeTree) → AreSteps ids steps.now
         → HeapBelow (heap_of ids heap) (heap_of ids other) }
 {
+    let goal = other as usize;
+    if goal >= steps.len() {
+        return false;
+    }
+    let depth = steps[goal].depth;
     let mut at = heap;
     for _ in 0..LONGEST {
         let place = at as usize;
-        if place >= steps.len() {
+        if place >= steps.len() || steps[place].depth <= depth {
             return false;
         }
-        let next = steps[place].above;
+        let next = next_up(steps, steps[place], depth);
         if next == other {
             return true;
         }

@@ -80,7 +80,8 @@ impl<T: Copy + Drop> Pile<T> {
     /// Puts an item on, in a new place where there is none.
     #[inline(always)]
     pub fn push(&mut self, item: T) -> bool
-        ensures { result ≡ true → self.new ≡ item ∷ self.old }
+        ensures put { result ≡ true → self.new ≡ item ∷ self.old }
+        ensures stays { result ≡ false → self.new ≡ self.old }
     {
         if self.count == self.places.as_slice().len() {
             return self.grow(item);
@@ -94,7 +95,8 @@ impl<T: Copy + Drop> Pile<T> {
     #[cold]
     #[inline(never)]
     fn grow(&mut self, item: T) -> bool
-        ensures { result ≡ true → self.new ≡ item ∷ self.old }
+        ensures put { result ≡ true → self.new ≡ item ∷ self.old }
+        ensures stays { result ≡ false → self.new ≡ self.old }
     {
         if self.count != self.places.as_slice().len() {
             return false;

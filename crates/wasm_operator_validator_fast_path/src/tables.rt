@@ -1,7 +1,6 @@
-//! What bodies ask of a module, packed, and open frames.
+//! What bodies ask of a module, packed, and what is known of an open frame.
 
 use crate::order::Order;
-use crate::pile::Pile;
 use wasm_operator_validator_state::FrameKind;
 use wasm_types::WasmFeatures;
 
@@ -88,11 +87,4 @@ pub struct Open {
     pub kind: FrameKind,
     pub base: usize,
     pub sig: Sig,
-}
-
-/// The open frames: the innermost, and those around it.
-#[derive(Drop)]
-pub struct Opens {
-    pub inner: Open,
-    pub outer: Pile<Open>,
 }

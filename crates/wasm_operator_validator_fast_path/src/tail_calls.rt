@@ -7,9 +7,10 @@ ghost use Rattle.wasm_operator_validator_fast_path.specs.Loop.{Leads, all};
 
 use crate::indices::index_at;
 use crate::labels::same;
-use crate::lookups::part;
+use crate::lookups::{inner_results, part};
+use crate::opens::Opens;
 use crate::stack::Stack;
-use crate::tables::{Opens, Tables};
+use crate::tables::Tables;
 
 /// What a function of the type at an index takes, if it gives what the function that is judged gives. Out of line, so that the loop has
 /// no more to look up than for a call.
@@ -68,11 +69,7 @@ pub fn return_call(
     let Some(params) = returned(tables, functions[index]) else {
         return None;
     };
-    let Some(results) = part(
-        tables.known.flat.as_slice(),
-        opens.inner.sig.results,
-        opens.inner.sig.result_count,
-    ) else {
+    let Some(results) = inner_results(tables.known.flat.as_slice(), opens) else {
         return None;
     };
     if !stack.take_all(&tables.known.order, params) {
@@ -115,11 +112,7 @@ pub fn return_call_indirect(
     let Some(params) = returned(tables, ty) else {
         return None;
     };
-    let Some(results) = part(
-        tables.known.flat.as_slice(),
-        opens.inner.sig.results,
-        opens.inner.sig.result_count,
-    ) else {
+    let Some(results) = inner_results(tables.known.flat.as_slice(), opens) else {
         return None;
     };
     if !stack.take(0) || !stack.take_all(&tables.known.order, params) {

@@ -1,35 +1,38 @@
 //! Locals and globals.
 
-ghost use Rattle.std.specs.Prelude.{◌≡◌, ◌<◌, ◌≤◌, ◌∷◌, ℕ, List, length, [], IfSome};
+ghost use Rattle.std.specs.Prelude.{◌≡◌, ◌<◌, ◌≤◌, ◌+◌, ◌∷◌, ℕ, List, length, [], IfSome};
 ghost use Rattle.wasm_operators_frequent.specs.Short.{Begins};
 ghost use Rattle.wasm_operator_validator_fast_path.specs.Loop.{Leads, all};
 
-use crate::indices::index_at;
+use crate::indices::{index_at, near_index_at};
+use crate::opens::Opens;
 use crate::stack::Stack;
-use crate::tables::{NO_CODE, Opens, Tables};
-use wasm_types_decoding::short_u32_at;
+use crate::tables::{NO_CODE, Tables};
 
 /// The value of a local.
 #[inline(always)]
 pub fn local_get(
     tables: &Tables,
+    locals: &[u32],
     bytes: &[u8],
     at: usize,
     stack: &mut Stack,
     opens: &Opens,
 ) -> Option<usize>
-    requires { Begins bytes.now at 0x20 }
+    requires begins { Begins bytes.now at 0x20 }
+    requires more { at + 1 < length bytes.now }
+    requires locals { locals.now ≡ tables.now.locals.items }
     ensures leads { IfSome result (λ end. Leads bytes.now tables.now at (all opens.now) stack.old
         end (all opens.now) stack.new) }
     ensures forward { IfSome result (λ end. at < end) }
     ensures inside { IfSome result (λ end. end ≤ length bytes.now) }
 {
     let _opens = opens;
-    let Some((index, end)) = short_u32_at(bytes, at + 1) else {
+    let _tables = tables;
+    let Some((index, end)) = near_index_at(bytes, at + 1) else {
         return None;
     };
     let index = index as usize;
-    let locals = tables.locals.as_slice();
     if index >= locals.len() || !stack.put(locals[index]) {
         return None;
     }
@@ -40,23 +43,25 @@ pub fn local_get(
 #[inline(always)]
 pub fn local_set(
     tables: &Tables,
+    locals: &[u32],
     bytes: &[u8],
     at: usize,
     stack: &mut Stack,
     opens: &Opens,
 ) -> Option<usize>
-    requires { Begins bytes.now at 0x21 }
+    requires begins { Begins bytes.now at 0x21 }
+    requires more { at + 1 < length bytes.now }
+    requires locals { locals.now ≡ tables.now.locals.items }
     ensures leads { IfSome result (λ end. Leads bytes.now tables.now at (all opens.now) stack.old
         end (all opens.now) stack.new) }
     ensures forward { IfSome result (λ end. at < end) }
     ensures inside { IfSome result (λ end. end ≤ length bytes.now) }
 {
     let _opens = opens;
-    let Some((index, end)) = short_u32_at(bytes, at + 1) else {
+    let Some((index, end)) = near_index_at(bytes, at + 1) else {
         return None;
     };
     let index = index as usize;
-    let locals = tables.locals.as_slice();
     if index >= locals.len() || !stack.take_below(&tables.known.order, locals[index]) {
         return None;
     }
@@ -67,23 +72,25 @@ pub fn local_set(
 #[inline(always)]
 pub fn local_tee(
     tables: &Tables,
+    locals: &[u32],
     bytes: &[u8],
     at: usize,
     stack: &mut Stack,
     opens: &Opens,
 ) -> Option<usize>
-    requires { Begins bytes.now at 0x22 }
+    requires begins { Begins bytes.now at 0x22 }
+    requires more { at + 1 < length bytes.now }
+    requires locals { locals.now ≡ tables.now.locals.items }
     ensures leads { IfSome result (λ end. Leads bytes.now tables.now at (all opens.now) stack.old
         end (all opens.now) stack.new) }
     ensures forward { IfSome result (λ end. at < end) }
     ensures inside { IfSome result (λ end. end ≤ length bytes.now) }
 {
     let _opens = opens;
-    let Some((index, end)) = short_u32_at(bytes, at + 1) else {
+    let Some((index, end)) = near_index_at(bytes, at + 1) else {
         return None;
     };
     let index = index as usize;
-    let locals = tables.locals.as_slice();
     if index >= locals.len() || !stack.change_below(&tables.known.order, locals[index]) {
         return None;
     }

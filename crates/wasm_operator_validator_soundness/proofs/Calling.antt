@@ -136,12 +136,12 @@ module _ (p : Program) (valid : IsValidProgram p) (final : List ValueType) (a : 
       → IsFunctionType t b → CallGoesOn tail b more rest → AllFit p ws (stack b.params ++ rest) → Okay (invoke p a act acts tail v ws more)
   invoke_okay tail (ref_function i u) t b ws more rest m e k x = function_okay tail i u t b ws more rest m.0 m.1.1 e k x
   invoke_okay tail (ref_null n q) t b ws more rest m e k x = done_okay p final trapped tt
-  invoke_okay tail (number_value n) t b ws more rest m e k x = absurd m.1
-  invoke_okay tail (ref_object u) t b ws more rest m e k x = absurd (no_object p u t b m.0 m.1.1 e)
-  invoke_okay tail ref_i31 t b ws more rest m e k x = absurd (no_bottom i31 (expanded t) (m.1.1 t itself).1)
-  invoke_okay tail ref_host t b ws more rest m e k x = absurd (no_bottom any (expanded t) (m.1.1 t itself).1)
-  invoke_okay tail ref_extern t b ws more rest m e k x = absurd (no_bottom extern (expanded t) (m.1.1 t itself).1)
-  invoke_okay tail (ref_exn u) t b ws more rest m e k x = absurd (no_bottom exn (expanded t) (m.1.1 t itself).1)
+  invoke_okay tail (number_value n id) t b ws more rest m e k x = absurd m.1
+  invoke_okay tail (ref_object id u) t b ws more rest m e k x = absurd (no_object p id u t b m.0 m.1.1 e)
+  invoke_okay tail (ref_i31 id) t b ws more rest m e k x = absurd (no_bottom i31 (expanded t) (m.1.1 t itself).1)
+  invoke_okay tail (ref_host id) t b ws more rest m e k x = absurd (no_bottom any (expanded t) (m.1.1 t itself).1)
+  invoke_okay tail (ref_extern id) t b ws more rest m e k x = absurd (no_bottom extern (expanded t) (m.1.1 t itself).1)
+  invoke_okay tail (ref_exn id u) t b ws more rest m e k x = absurd (no_bottom exn (expanded t) (m.1.1 t itself).1)
 
   pub call_okay : (tail : Bool) (x : ℕ) (t : TypeTree) (b : Signature) (more : Code) (rest : List Operand) → slice_get p.«module».functions x ≡ Some t → IsFunctionType t b
       → CallGoesOn tail b more rest → AllFit p vs (stack b.params ++ rest) → Okay (call p a act acts tail x more)
@@ -169,12 +169,12 @@ module _ (p : Program) (valid : IsValidProgram p) (final : List ValueType) (a : 
   callable : (v : Value) (s : Bool) → Fits p v (ref true (abstract s func)) → IsCallable v
   callable (ref_null c k) s f = tt
   callable (ref_function j t) s f = tt
-  callable (number_value n) s f = absurd f.1
-  callable (ref_object t) s f = absurd (made_callable t s f.0.0 f.0.1 f.1.1)
-  callable ref_i31 s f = absurd (only_functions i31 f.1.1.1)
-  callable ref_host s f = absurd (only_functions any f.1.1.1)
-  callable ref_extern s f = absurd (only_functions extern f.1.1.1)
-  callable (ref_exn t) s f = absurd (only_functions exn f.1.1.1)
+  callable (number_value n id) s f = absurd f.1
+  callable (ref_object id t) s f = absurd (made_callable t s f.0.0 f.0.1 f.1.1)
+  callable (ref_i31 id) s f = absurd (only_functions i31 f.1.1.1)
+  callable (ref_host id) s f = absurd (only_functions any f.1.1.1)
+  callable (ref_extern id) s f = absurd (only_functions extern f.1.1.1)
+  callable (ref_exn id t) s f = absurd (only_functions exn f.1.1.1)
 
   pub call_indirect_okay : (tail : Bool) (y x : ℕ) (t : Table) (b : Signature) (more : Code) (rest : List Operand) → IsIndirect g y x t b
       → CallGoesOn tail b more rest → AllFit p vs (known (address_type t.table64) ∷ (stack b.params ++ rest)) → Okay (call_indirect p a act acts tail y x more)

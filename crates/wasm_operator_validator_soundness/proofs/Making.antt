@@ -92,16 +92,16 @@ module _ (p : Program) (valid : IsValidProgram p) (final : List ValueType) (a : 
   pub object_okay : (of : Holds) (v : Value) (t : TypeTree) (ts : List (FieldOf TypeTree)) (k : List (FieldOf TypeTree) → Move) → Fits p v (ref true (concrete t)) → IsObject (expanded t)
       → of (expanded t) ≡ Some ts → HoldsAlike of
       → ((u : TypeTree) → InnerMatches (expanded u) (expanded t) → Okay (k (fields_in (expanded u)))) → Okay (object p a act acts of v k)
-  object_okay of (ref_object u) t ts k y i e alike q =
+  object_okay of (ref_object id u) t ts k y i e alike q =
       let m = (matches_along u t (standard_links u y.0.0) y.1.1).1 in
       found_okay p final (of (expanded u)) (fields_in (expanded u)) k (alike (expanded u) (expanded t) ts m e) (q u m)
   object_okay of (ref_null c d) t ts k y i e alike q = done_okay p final trapped tt
   object_okay of (ref_function j u) t ts k y i e alike q = absurd (no_function u t (standard_is_sound u y.0.0) y.1.1 y.0.1 i)
-  object_okay of (number_value n) t ts k y i e alike q = absurd y.1
-  object_okay of ref_i31 t ts k y i e alike q = absurd (no_bottom i31 (expanded t) (y.1.1 t itself).1)
-  object_okay of ref_host t ts k y i e alike q = absurd (no_bottom any (expanded t) (y.1.1 t itself).1)
-  object_okay of ref_extern t ts k y i e alike q = absurd (no_bottom extern (expanded t) (y.1.1 t itself).1)
-  object_okay of (ref_exn u) t ts k y i e alike q = absurd (no_bottom exn (expanded t) (y.1.1 t itself).1)
+  object_okay of (number_value n id) t ts k y i e alike q = absurd y.1
+  object_okay of (ref_i31 id) t ts k y i e alike q = absurd (no_bottom i31 (expanded t) (y.1.1 t itself).1)
+  object_okay of (ref_host id) t ts k y i e alike q = absurd (no_bottom any (expanded t) (y.1.1 t itself).1)
+  object_okay of (ref_extern id) t ts k y i e alike q = absurd (no_bottom extern (expanded t) (y.1.1 t itself).1)
+  object_okay of (ref_exn id u) t ts k y i e alike q = absurd (no_bottom exn (expanded t) (y.1.1 t itself).1)
 
   pub object_under_okay : (of : Holds) (ns : List ValueType) (x i : ℕ) (d : Place) (n : IsPlaceOf of g x i ns d) (above : List ValueType) (ws : List Value) (k : List (FieldOf TypeTree) → List Value → Move) (rest : List Operand)
       → AllFit p ws (stack (ref true (concrete n.type) ∷ above) ++ rest)
@@ -161,7 +161,7 @@ module _ (p : Program) (valid : IsValidProgram p) (final : List ValueType) (a : 
       write_okay of x i ns q v ws more rest (is q n.1) c.0 i' j (code_at p valid final a act acts h [] pushed rest m set more e (r.1 ∙ ap (λ (y' : InstructionType). all_known y'.gives) (sym c.1)) t))
 
   -- an object of a type is of what an allocation gives
-  pub made_of : (b : Bool) (t : TypeTree) → IsStandardType t → IsObject (expanded t) → Fits p (ref_object t) (ref false (if b then exact t else concrete t))
+  pub made_of : (b : Bool) (t : TypeTree) → IsStandardType t → IsObject (expanded t) → Fits p (ref_object a.made t) (ref false (if b then exact t else concrete t))
   made_of true t i o = ((i, o), (tt, refl))
   made_of false t i o = ((i, o), (tt, itself))
 
@@ -173,7 +173,7 @@ module _ (p : Program) (valid : IsValidProgram p) (final : List ValueType) (a : 
       found_okay p final (slice_get p.«module».types x) t _ e
       (found_okay p final (of (expanded t)) own _ q
       (takes_okay p final a (needs own) vs rest _ (values_at p valid final a act acts h _ popped rest b (ep ∙ ap all_known (sym c))) (λ xs zs j l.
-      k _ (goes_okay p valid final a act acts h (ref_object t ∷ zs) more (known (allocated g t) ∷ rest) (made_of (has CustomDescriptors p.bits) t (valid.types x t e) i, l)
+      k _ (goes_okay p valid final a act acts h (ref_object a.made t ∷ zs) more (known (allocated g t) ∷ rest) (made_of (has CustomDescriptors p.bits) t (valid.types x t e) i, l)
       (code_at p valid final a act acts h (known (allocated g t) ∷ []) pushed rest m set more d eu y)))))
 
   -- ---- casts
@@ -210,13 +210,13 @@ module _ (p : Program) (valid : IsValidProgram p) (final : List ValueType) (a : 
       → ((b : Bool) → (b ≡ true → Fits p v (ref n k)) → (b ≡ false → Fits p v (ref (null_left c n) h')) → Okay (q b)) → Okay (cast p a act acts n k v q)
   cast_okay n k h' c (ref_null r u) q i y falls z =
       allows_okay p final _ _ (λ given. z n (λ e. subst (λ (b : Bool). Fits p (ref_null r u) (ref b k)) (sym e) (falls r u y)) (λ e. left_whole c n (ref_null r u) h' e y))
-  cast_okay n k h' c (number_value m) q i y falls z = absurd y.1
+  cast_okay n k h' c (number_value m id) q i y falls z = absurd y.1
   cast_okay n k h' c (ref_function j t) q i y falls z = other_cast n k h' c (ref_function j t) q refl y z
-  cast_okay n k h' c (ref_object t) q i y falls z = other_cast n k h' c (ref_object t) q refl y z
-  cast_okay n k h' c ref_i31 q i y falls z = other_cast n k h' c ref_i31 q refl y z
-  cast_okay n k h' c ref_host q i y falls z = other_cast n k h' c ref_host q refl y z
-  cast_okay n k h' c ref_extern q i y falls z = other_cast n k h' c ref_extern q refl y z
-  cast_okay n k h' c (ref_exn t) q i y falls z = other_cast n k h' c (ref_exn t) q refl y z
+  cast_okay n k h' c (ref_object id t) q i y falls z = other_cast n k h' c (ref_object id t) q refl y z
+  cast_okay n k h' c (ref_i31 id) q i y falls z = other_cast n k h' c (ref_i31 id) q refl y z
+  cast_okay n k h' c (ref_host id) q i y falls z = other_cast n k h' c (ref_host id) q refl y z
+  cast_okay n k h' c (ref_extern id) q i y falls z = other_cast n k h' c (ref_extern id) q refl y z
+  cast_okay n k h' c (ref_exn id t) q i y falls z = other_cast n k h' c (ref_exn id t) q refl y z
 
   pub cast_top_okay : (n : Bool) (x : HeapType) (k : HeapOf TypeTree) (q : Bool → Value → List Value → Move) (rest : List Operand) → heap_named g x ≡ Some k
       → AllFit p vs (known (ref true (top_heap k)) ∷ rest) → ((b : Bool) (v : Value) (ws : List Value) → (b ≡ true → Fits p v (ref n k)) → AllFit p ws rest → Okay (q b v ws))
@@ -244,13 +244,13 @@ module _ (p : Program) (valid : IsValidProgram p) (final : List ValueType) (a : 
 
   pub converted_null : (v : Value) (h' k : Abstract) (c n : Bool) → AbstractBelow (bottom_under k) k → is_null v ≡ true → Fits p v (ref n (abstract c h')) → Fits p (null_in p a act acts k v) (ref n (abstract c k))
   converted_null (ref_null r u) h' k c n d e y = (tt, (y.1.0, (y.1.1.0, d)))
-  converted_null (number_value m) h' k c n d e y = absurd (true≢false (sym e))
+  converted_null (number_value m id) h' k c n d e y = absurd (true≢false (sym e))
   converted_null (ref_function j t) h' k c n d e y = absurd (true≢false (sym e))
-  converted_null (ref_object t) h' k c n d e y = absurd (true≢false (sym e))
-  converted_null ref_i31 h' k c n d e y = absurd (true≢false (sym e))
-  converted_null ref_host h' k c n d e y = absurd (true≢false (sym e))
-  converted_null ref_extern h' k c n d e y = absurd (true≢false (sym e))
-  converted_null (ref_exn t) h' k c n d e y = absurd (true≢false (sym e))
+  converted_null (ref_object id t) h' k c n d e y = absurd (true≢false (sym e))
+  converted_null (ref_i31 id) h' k c n d e y = absurd (true≢false (sym e))
+  converted_null (ref_host id) h' k c n d e y = absurd (true≢false (sym e))
+  converted_null (ref_extern id) h' k c n d e y = absurd (true≢false (sym e))
+  converted_null (ref_exn id t) h' k c n d e y = absurd (true≢false (sym e))
 
   pub all_nullable : (us : List Value) (n : Bool) (k : HeapOf TypeTree) → AllFit p us (known (ref false k) ∷ []) → AllFit p us (known (ref n k) ∷ [])
   all_nullable [] n k y = absurd y
@@ -268,9 +268,9 @@ module _ (p : Program) (valid : IsValidProgram p) (final : List ValueType) (a : 
   -- an operator that asks a reference below an abstract type, and gives a number
   pub tested_okay : (h' : Abstract) (is : Value → Type 0) → ((v : Value) (c : Bool) → Fits p v (ref true (abstract c h')) → is v) → (c : Bool) (more : Code) (rest : List Operand)
       → AllFit p vs (known (ref true (abstract c h')) ∷ rest) → Goes set more (known i32_type ∷ rest)
-      → Okay (pops vs (λ v ws. asks (IsOf p a act acts h' v × is v) (may_trap p a (goes p a act acts (number_value i32 ∷ ws) more))))
+      → Okay (pops vs (λ v ws. asks (IsOf p a act acts h' v × is v) (may_trap p a (goes p a act acts (number_value i32 a.made ∷ ws) more))))
   tested_okay h' is such c more rest y t = pops_okay p final vs (known (ref true (abstract c h'))) rest _ y (λ v ws i j.
-      asks_okay p final (IsOf p a act acts h' v × is v) _ ((c, i), such v c i) (may_trap_okay p final a _ (goes_okay p valid final a act acts h (number_value i32 ∷ ws) more (known i32_type ∷ rest) ((tt, refl), j) t)))
+      asks_okay p final (IsOf p a act acts h' v × is v) _ ((c, i), such v c i) (may_trap_okay p final a _ (goes_okay p valid final a act acts h (number_value i32 a.made ∷ ws) more (known i32_type ∷ rest) ((tt, refl), j) t)))
 
   -- ---- structs and arrays
 
@@ -313,7 +313,7 @@ module _ (p : Program) (valid : IsValidProgram p) (final : List ValueType) (a : 
       pops_okay p final vs (known (ref true (abstract r.0 eq))) (known (ref true (abstract r.0 eq)) ∷ rest) _ y (λ v ws i j.
       pops_okay p final ws (known (ref true (abstract r.0 eq))) rest _ j (λ x us k l.
       asks_okay p final ((IsOf p a act acts eq v × IsComparable v) × (IsOf p a act acts eq x × IsComparable x)) _ (((r.0, i), comparable p v r.0 i), ((r.0, k), comparable p x r.0 k))
-      (goes_okay p valid final a act acts h (number_value i32 ∷ us) more (known i32_type ∷ rest) ((tt, refl), l) (code_at p valid final a act acts h (known i32_type ∷ []) pushed rest m set more e r.1.1 t))))
+      (goes_okay p valid final a act acts h (number_value i32 a.made ∷ us) more (known i32_type ∷ rest) ((tt, refl), l) (code_at p valid final a act acts h (known i32_type ∷ []) pushed rest m set more e r.1.1 t))))
   gc_okay gc.ArrayLen more popped pushed rest m r b e t =
       tested_okay array IsArray (λ v c i. an_array p v c i) r.0 more rest (values_at p valid final a act acts h (known (ref true (abstract r.0 array)) ∷ []) popped rest b r.1.0) (code_at p valid final a act acts h (known i32_type ∷ []) pushed rest m set more e r.1.1 t)
   gc_okay gc.I31GetS more popped pushed rest m r b e t =
@@ -348,13 +348,13 @@ module _ (p : Program) (valid : IsValidProgram p) (final : List ValueType) (a : 
       let c = provided_is (is_castable n.0) _ r.0 n.2 in
       let y = values_at p valid final a act acts h _ popped rest b (r.2.0 ∙ ap (λ (z : InstructionType). all_known z.takes) (sym c.1)) in
       let k = code_at p valid final a act acts h _ pushed rest m set more e (r.2.1 ∙ ap (λ (z : InstructionType). all_known z.gives) (sym c.1)) t in
-      cast_top_okay false x n.0 _ rest n.1 y (λ d v ws i j. goes_okay p valid final a act acts h (number_value i32 ∷ ws) more (known i32_type ∷ rest) ((tt, refl), j) k)
+      cast_top_okay false x n.0 _ rest n.1 y (λ d v ws i j. goes_okay p valid final a act acts h (number_value i32 a.made ∷ ws) more (known i32_type ∷ rest) ((tt, refl), j) k)
   gc_okay (gc.RefTestNullable x) more popped pushed rest m r b e t =
       let n = named_some (heap_named g x) _ r.0 r.1 in
       let c = provided_is (is_castable n.0) _ r.0 n.2 in
       let y = values_at p valid final a act acts h _ popped rest b (r.2.0 ∙ ap (λ (z : InstructionType). all_known z.takes) (sym c.1)) in
       let k = code_at p valid final a act acts h _ pushed rest m set more e (r.2.1 ∙ ap (λ (z : InstructionType). all_known z.gives) (sym c.1)) t in
-      cast_top_okay true x n.0 _ rest n.1 y (λ d v ws i j. goes_okay p valid final a act acts h (number_value i32 ∷ ws) more (known i32_type ∷ rest) ((tt, refl), j) k)
+      cast_top_okay true x n.0 _ rest n.1 y (λ d v ws i j. goes_okay p valid final a act acts h (number_value i32 a.made ∷ ws) more (known i32_type ∷ rest) ((tt, refl), j) k)
   gc_okay (gc.RefCastNonNull x) more popped pushed rest m r b e t =
       let n = named_some (heap_named g x) _ r.0 r.1 in
       let c = provided_is (is_castable n.0) _ r.0 n.2 in

@@ -218,33 +218,33 @@ object_no_unboxed (continuation t) i a = absurd i
 
 pub an_array : (p : Program) (v : Value) (s : Bool) → Fits p v (ref true (abstract s array)) → IsArray v
 an_array p (ref_null c k) s f = tt
-an_array p (ref_object t) s f = array_by (expanded t) (own_abstract IsArrayAbstract t s array (standard_is_sound t f.0.0) below_array f.1.1)
+an_array p (ref_object id t) s f = array_by (expanded t) (own_abstract IsArrayAbstract t s array (standard_is_sound t f.0.0) below_array f.1.1)
 an_array p (ref_function j t) s f = absurd (function_no_array (expanded t) f.0.1 (own_abstract IsArrayAbstract t s array (standard_is_sound t f.0.0) below_array f.1.1))
-an_array p (number_value n) s f = absurd f.1
-an_array p ref_i31 s f = absurd (below_array i31 f.1.1.1)
-an_array p ref_host s f = absurd (below_array any f.1.1.1)
-an_array p ref_extern s f = absurd (below_array extern f.1.1.1)
-an_array p (ref_exn t) s f = absurd (below_array exn f.1.1.1)
+an_array p (number_value n id) s f = absurd f.1
+an_array p (ref_i31 id) s f = absurd (below_array i31 f.1.1.1)
+an_array p (ref_host id) s f = absurd (below_array any f.1.1.1)
+an_array p (ref_extern id) s f = absurd (below_array extern f.1.1.1)
+an_array p (ref_exn id t) s f = absurd (below_array exn f.1.1.1)
 
 pub an_unboxed : (p : Program) (v : Value) (s : Bool) → Fits p v (ref true (abstract s i31)) → IsUnboxed v
 an_unboxed p (ref_null c k) s f = tt
-an_unboxed p ref_i31 s f = tt
-an_unboxed p (ref_object t) s f = absurd (object_no_unboxed (expanded t) f.0.1 (own_abstract IsUnboxedAbstract t s i31 (standard_is_sound t f.0.0) below_i31 f.1.1))
+an_unboxed p (ref_i31 id) s f = tt
+an_unboxed p (ref_object id t) s f = absurd (object_no_unboxed (expanded t) f.0.1 (own_abstract IsUnboxedAbstract t s i31 (standard_is_sound t f.0.0) below_i31 f.1.1))
 an_unboxed p (ref_function j t) s f = absurd (function_no_unboxed (expanded t) f.0.1 (own_abstract IsUnboxedAbstract t s i31 (standard_is_sound t f.0.0) below_i31 f.1.1))
-an_unboxed p (number_value n) s f = absurd f.1
-an_unboxed p ref_host s f = absurd (below_i31 any f.1.1.1)
-an_unboxed p ref_extern s f = absurd (below_i31 extern f.1.1.1)
-an_unboxed p (ref_exn t) s f = absurd (below_i31 exn f.1.1.1)
+an_unboxed p (number_value n id) s f = absurd f.1
+an_unboxed p (ref_host id) s f = absurd (below_i31 any f.1.1.1)
+an_unboxed p (ref_extern id) s f = absurd (below_i31 extern f.1.1.1)
+an_unboxed p (ref_exn id t) s f = absurd (below_i31 exn f.1.1.1)
 
 pub comparable : (p : Program) (v : Value) (s : Bool) → Fits p v (ref true (abstract s eq)) → IsComparable v
 comparable p (ref_null c k) s f = tt
-comparable p ref_i31 s f = tt
-comparable p (ref_object t) s f = tt
+comparable p (ref_i31 id) s f = tt
+comparable p (ref_object id t) s f = tt
 comparable p (ref_function j t) s f = absurd (function_no_comparable (expanded t) f.0.1 (own_abstract IsComparableAbstract t s eq (standard_is_sound t f.0.0) below_eq f.1.1))
-comparable p (number_value n) s f = absurd f.1
-comparable p ref_host s f = absurd (below_eq any f.1.1.1)
-comparable p ref_extern s f = absurd (below_eq extern f.1.1.1)
-comparable p (ref_exn t) s f = absurd (below_eq exn f.1.1.1)
+comparable p (number_value n id) s f = absurd f.1
+comparable p (ref_host id) s f = absurd (below_eq any f.1.1.1)
+comparable p (ref_extern id) s f = absurd (below_eq extern f.1.1.1)
+comparable p (ref_exn id t) s f = absurd (below_eq exn f.1.1.1)
 
 -- ---- types that are named
 
@@ -430,14 +430,14 @@ akin_to_top h k i b = let r = heap_alike h (top_heap k) i b in (r.0, r.1 ∙ bot
 
 -- what is of the top of a hierarchy is of the hierarchy
 pub akin_value : (p : Program) (v : Value) (k : HeapOf TypeTree) → Fits p v (ref true (top_heap k)) → IsAkin (least_type v) k
-akin_value p (number_value n) k f = absurd f.1
+akin_value p (number_value n id) k f = absurd f.1
 akin_value p (ref_null s h) k f = akin_to_top (abstract s (bottom_under h)) k tt f.1.1
 akin_value p (ref_function j t) k f = akin_to_top (exact t) k f.0.0 f.1.1
-akin_value p (ref_object t) k f = akin_to_top (exact t) k f.0.0 f.1.1
-akin_value p ref_i31 k f = akin_to_top (abstract false i31) k tt f.1.1
-akin_value p ref_host k f = akin_to_top (abstract false any) k tt f.1.1
-akin_value p ref_extern k f = akin_to_top (abstract false extern) k tt f.1.1
-akin_value p (ref_exn t) k f = akin_to_top (abstract false exn) k tt f.1.1
+akin_value p (ref_object id t) k f = akin_to_top (exact t) k f.0.0 f.1.1
+akin_value p (ref_i31 id) k f = akin_to_top (abstract false i31) k tt f.1.1
+akin_value p (ref_host id) k f = akin_to_top (abstract false any) k tt f.1.1
+akin_value p (ref_extern id) k f = akin_to_top (abstract false extern) k tt f.1.1
+akin_value p (ref_exn id t) k f = akin_to_top (abstract false exn) k tt f.1.1
 
 pub null_falls : (p : Program) (s : Bool) (q : Abstract) (n : Bool) (k h : HeapOf TypeTree) → EachHeap IsStandardType k → HeapBelow k h → Fits p (ref_null s q) (ref n h) → Fits p (ref_null s q) (ref true k)
 null_falls p s q n k h i b f =

@@ -325,7 +325,7 @@ module _ (p : Program) (valid : IsValidProgram p) (final : List ValueType) (a : 
   bulk_okay bulk.RefIsNull more popped pushed rest m r b e t =
       pops_okay p final vs r.0 rest _ (values_at p valid final a act acts h (r.0 ∷ []) popped rest b r.2) (λ v ws i y.
       asks_okay p final (IsAReference v) _ (is_reference p v r.0 i r.1)
-      (goes_okay p valid final a act acts h (number_value i32 ∷ ws) more (known i32_type ∷ rest) ((tt, refl), y) (code_at p valid final a act acts h (all_known (i32_type ∷ [])) pushed rest m set more e r.3 t)))
+      (goes_okay p valid final a act acts h (number_value i32 a.made ∷ ws) more (known i32_type ∷ rest) ((tt, refl), y) (code_at p valid final a act acts h (all_known (i32_type ∷ [])) pushed rest m set more e r.3 t)))
   bulk_okay (bulk.RefFunc x) more popped pushed rest m r b e t =
       let n = valid.functions x r.0 r.2 in
       found_okay p final (slice_get p.functions x) n.0 _ n.1

@@ -37,7 +37,7 @@ use Rattle.wasm_operator_validator_soundness.specs.runs.Machine.{function_type, 
 use Rattle.wasm_operator_validator_soundness.specs.runs.Machine.{is_for, caught_by, tag_values, catch_by, turn_to, handle, leave_labels, unwind, throw_again, by_host, begin}
 use Rattle.wasm_operator_validator_soundness.specs.runs.Soundness.{body_context, IsValidBody, HasValidBody}
 use Rattle.wasm_operator_validator_soundness.proofs.RunsFitting.{all_below, fits_joined, fits_reversed, stack_more, both_reversed}
-use Rattle.wasm_operator_validator_soundness.specs.runs.ValidStates.{AreSet, LocalFits, LocalsFit, IsCaught, Around, around_of, at, among, frame_of, LoopsBack, HandlersFit, LabelsAwait}
+use Rattle.wasm_operator_validator_soundness.specs.runs.ValidStates.{AreSet, LocalFits, LocalsFit, IsThrown, Around, around_of, at, among, frame_of, LoopsBack, HandlersFit, LabelsAwait}
 use Rattle.wasm_operator_validator_soundness.proofs.RunsInvariant.{none_is_some, some_same}
 use Rattle.wasm_operator_validator_soundness.specs.runs.ValidStates.{ActivationAwaits, AllAwait}
 use Rattle.wasm_operator_validator_soundness.proofs.RunsInvariant.{IsOkay}
@@ -239,7 +239,7 @@ module _ (p : Program) (final : List ValueType) (a : Answer) where
     jump_around n (l ∷ ls) ts vs given e f k = jump_okay n l ls ts vs e f k.0.loops k.1
 
     -- ---- exceptions
-    module _ (t : TypeTree) (vs : List Value) (b : Signature) (made : IsCaught (Some t)) (is : IsFunctionType t b) (fit : AllFit p vs (stack b.params)) where
+    module _ (t : TypeTree) (vs : List Value) (b : Signature) (made : IsThrown t) (is : IsFunctionType t b) (fit : AllFit p vs (stack b.params)) where
       abbrev IsFor : Option ℕ → Type 0
       IsFor None = Unit {0}
       IsFor (Some x) = slice_get p.«module».tags x ≡ Some t
@@ -258,14 +258,14 @@ module _ (p : Program) (final : List ValueType) (a : Answer) where
           let e : b ≡ own = one_signature t b own is (subst (λ (u : TypeTree). IsFunctionType u own) (some_same h.0 t (sym h.1 ∙ i)) h.2) in
           subst (λ (c : Signature). AllFit p vs (stack c.params)) e fit
 
-      reference_fits : Fits p (ref_exn t) (exception false)
+      reference_fits : Fits p (ref_exn a.made t) (exception false)
       reference_fits = (made, (tt, (refl, same)))
 
       below_label : (us : List Value) (ts xs : List ValueType) → AllFit p us (stack ts) → AllBelow (all_known ts) (all_known xs) → AllFit p us (stack xs)
       below_label us ts xs f b = all_below p us (stack ts) (stack xs) f (both_reversed (all_known ts) (all_known xs) b)
 
-      with_reference : (us : List Value) (ts : List ValueType) → AllFit p us (stack ts) → AllFit p (ref_exn t ∷ us) (stack (ts ++ exception false ∷ []))
-      with_reference us ts f = subst (λ (s : List Operand). AllFit p (ref_exn t ∷ us) s) (sym (stack_more ts (exception false))) (reference_fits, f)
+      with_reference : (us : List Value) (ts : List ValueType) → AllFit p us (stack ts) → AllFit p (ref_exn a.made t ∷ us) (stack (ts ++ exception false ∷ []))
+      with_reference us ts f = subst (λ (s : List Operand). AllFit p (ref_exn a.made t ∷ us) s) (sym (stack_more ts (exception false))) (reference_fits, f)
 
       -- what a clause of a `try_table` hands on is what its label takes
       tag_carried : (ls : List Label) (c : Catch) → Catches (among p w ls) c → (ts : List ValueType) × HandsOn p (caught_by p a t vs c).tag ts
@@ -278,9 +278,9 @@ module _ (p : Program) (final : List ValueType) (a : Answer) where
           → (us : List ValueType) × (slice_get (map branch_type ls) (caught_by p a t vs c).label ≡ Some us) × AllFit p (caught_by p a t vs c).values (stack us)
       carried_fits ls (catch.One x l) i k = (k.2.0, k.2.1, below_label vs k.0 k.2.0 (hands_on_fits (Some x) k.0 i k.1) k.2.2)
       carried_fits ls (catch.OneRef x l) i k =
-          (k.2.0, k.2.1, below_label (ref_exn t ∷ vs) (k.0 ++ exception false ∷ []) k.2.0 (with_reference vs k.0 (hands_on_fits (Some x) k.0 i k.1)) k.2.2)
+          (k.2.0, k.2.1, below_label (ref_exn a.made t ∷ vs) (k.0 ++ exception false ∷ []) k.2.0 (with_reference vs k.0 (hands_on_fits (Some x) k.0 i k.1)) k.2.2)
       carried_fits ls (catch.All l) i k = (k.0, k.1, below_label [] [] k.0 tt k.2)
-      carried_fits ls (catch.AllRef l) i k = (k.0, k.1, below_label (ref_exn t ∷ []) (exception false ∷ []) k.0 (reference_fits, tt) k.2)
+      carried_fits ls (catch.AllRef l) i k = (k.0, k.1, below_label (ref_exn a.made t ∷ []) (exception false ∷ []) k.0 (reference_fits, tt) k.2)
 
       clause_there : (g : Context) (cs : List Catch) (i : ℕ) (c : Catch) → slice_get cs i ≡ Some c → EachCatches g cs → Catches g c
       clause_there g [] i c e k = absurd (none_is_some c e)
@@ -307,7 +307,7 @@ module _ (p : Program) (final : List ValueType) (a : Answer) where
           let r = clause_typed p w (l.block.results ∷ map branch_type ls) (map is_clause ls) l.block k.0 false frames.LegacyTry tt k.1 c k.3 n cl k.4 k.5 e in
           is_for_okay cl.tag r.carries _ r.hands_on
           (λ x.
-          done_okay p final (next (record act { innermost = record l { code = cl.code; values = tag_values p a t vs cl.tag; continuation = behind; handlers = no_handlers; caught = Some t }; around = ls } ∷ acts)) (
+          done_okay p final (next (record act { innermost = record l { code = cl.code; values = tag_values p a t vs cl.tag; continuation = behind; handlers = no_handlers; caught = Some (record { address = a.made; type = t }) }; around = ls } ∷ acts)) (
             record {
               locals = locals;
               results = results;
@@ -342,14 +342,14 @@ module _ (p : Program) (final : List ValueType) (a : Answer) where
       leave_okay l [] (suc n) further k z f = f n
       leave_okay l (m ∷ ls) (suc n) further k z f = leave_okay m ls n further z.0.handlers z.1 f
 
-  module _ (t : TypeTree) (vs : List Value) (b : Signature) (made : IsCaught (Some t)) (is : IsFunctionType t b) (fit : AllFit p vs (stack b.params)) where
+  module _ (t : TypeTree) (vs : List Value) (b : Signature) (made : IsThrown t) (is : IsFunctionType t b) (fit : AllFit p vs (stack b.params)) where
     pub unwind_okay : (acts : List Activation) (given : List Operand) (n : ℕ) → AllAwait p final acts given → Okay (unwind p a t vs acts n)
     unwind_okay [] given n k = done_okay p final (thrown t vs) (b, is, fit)
     unwind_okay (act ∷ acts) given n k =
         leave_okay act acts k.2.locals k.2.results k.3 t vs b made is fit act.innermost act.around n (unwind p a t vs acts) k.2.labels.0.handlers k.2.labels.1
         (λ j. unwind_okay acts (stack act.owed) j k.3)
 
-  pub throw_again_okay : (t : TypeTree) (acts : List Activation) (given : List Operand) → IsCaught (Some t) → AllAwait p final acts given → Okay (throw_again p a t acts)
+  pub throw_again_okay : (t : TypeTree) (acts : List Activation) (given : List Operand) → IsThrown t → AllAwait p final acts given → Okay (throw_again p a t acts)
   throw_again_okay t acts given made k =
       let s = has_signature t made.1 in
       found_okay p final (function_type t) s.0 (λ b. gives p a b.params (λ us. unwind p a t us acts a.leaves)) (signature_is t s.0 s.1)
@@ -362,7 +362,7 @@ module _ (p : Program) (final : List ValueType) (a : Answer) where
       → AllAwait p final acts (stack owed) → Okay (by_host p a o results owed acts)
   by_host_okay None results owed acts r k = may_trap_okay p final a (gives p a results (λ us. hand_back p a owed us acts))
       (gives_okay p final a results (λ us. hand_back p a owed us acts) (λ us f. hand_back_okay owed us acts (r us f) k))
-  by_host_okay (Some t) results owed acts r k = allows_okay p final (IsMade p (ref_exn t)) (throw_again p a t acts) (λ made. throw_again_okay t acts (stack owed) made k)
+  by_host_okay (Some t) results owed acts r k = allows_okay p final (IsMade p (ref_exn a.made t)) (throw_again p a t acts) (λ made. throw_again_okay t acts (stack owed) made k)
 
 -- ---- what a local is at first
 
@@ -438,7 +438,7 @@ first_fit p (t ∷ ps) ts [] f i = absurd f
 first_fit p (t ∷ ps) ts (v ∷ vs) f i = (f.0, first_fit p ps ts vs f.1 i)
 
 pub default_there : (t : ValueType) → IsTrue (is_defaulted (Some t)) → (v : Value) × (default_of t ≡ Some v)
-default_there (number n) i = (number_value n, refl)
+default_there (number n) i = (number_value n 0, refl)
 default_there (ref true h) i = (null_of h, refl)
 default_there (ref false h) i = absurd (true≢false (sym i))
 

@@ -13,12 +13,12 @@ use Rattle.wasm_operator_validator_rules.specs.Context.{Context, Initialised, Si
 use Rattle.wasm_operator_validator_rules.specs.Exceptions.{ExceptionRow, exception, IsExceptionTag}
 use Rattle.wasm_operator_validator_rules.specs.Typed.{Typed}
 use Rattle.wasm_operator_validator_soundness.specs.runs.Values.{Program, Value, number_value, ref_null, ref_function, ref_object, ref_i31, ref_host, ref_extern, ref_exn, Fits, AllFit}
-use Rattle.wasm_operator_validator_soundness.specs.runs.States.{Label, Activation, is_clause, Answer}
+use Rattle.wasm_operator_validator_soundness.specs.runs.States.{Exception, Label, Activation, is_clause, Answer}
 use Rattle.wasm_operator_validator_soundness.specs.runs.States.{trapped, Move}
 use Rattle.wasm_operator_validator_soundness.specs.runs.Machine.{function_type, unwind, throw_again}
 use Rattle.wasm_operator_validator_soundness.specs.runs.Machine.{throw_reference, caught_at, operate_exception}
 use Rattle.wasm_operator_validator_soundness.specs.runs.Soundness.{IsValidProgram}
-use Rattle.wasm_operator_validator_soundness.specs.runs.ValidStates.{AreSet, IsCaught, Around, around_of}
+use Rattle.wasm_operator_validator_soundness.specs.runs.ValidStates.{AreSet, IsCaught, IsThrown, Around, around_of}
 use Rattle.wasm_operator_validator_soundness.proofs.RunsInvariant.{none_is_some, some_same}
 use Rattle.wasm_operator_validator_soundness.specs.runs.ValidStates.{LabelsAwait}
 use Rattle.wasm_operator_validator_soundness.proofs.RunsInvariant.{here, IsOkay}
@@ -68,32 +68,32 @@ module _ (p : Program) (valid : IsValidProgram p) (final : List ValueType) (a : 
 
   -- ---- exceptions
 
-  pub tag_is : (x : ℕ) (ts : List ValueType) → IsExceptionTag g x ts → (t : TypeTree) × (slice_get p.«module».tags x ≡ Some t) × IsCaught (Some t) × (function_type t ≡ Some (record { params = ts; results = [] }))
+  pub tag_is : (x : ℕ) (ts : List ValueType) → IsExceptionTag g x ts → (t : TypeTree) × (slice_get p.«module».tags x ≡ Some t) × IsThrown t × (function_type t ≡ Some (record { params = ts; results = [] }))
   tag_is x ts e = (e.0, e.1, valid.tags x e.0 e.1, signature_is e.0 (record { params = ts; results = [] }) e.2)
 
   -- an exception that is thrown here
-  pub thrown_okay : (t : TypeTree) (us : List Value) (b : Signature) → IsCaught (Some t) → IsFunctionType t b → AllFit p us (stack b.params) → Okay (unwind p a t us (act ∷ acts) a.leaves)
+  pub thrown_okay : (t : TypeTree) (us : List Value) (b : Signature) → IsThrown t → IsFunctionType t b → AllFit p us (stack b.params) → Okay (unwind p a t us (act ∷ acts) a.leaves)
   thrown_okay t us b made is i =
       leave_okay p final a act acts h.locals h.results h.below t us b made is i act.innermost act.around a.leaves (unwind p a t us acts) h.handlers h.around
       (λ j. unwind_okay p final a t us b made is i acts (stack act.owed) j h.below)
 
-  pub thrown_again_okay : (t : TypeTree) → IsCaught (Some t) → Okay (throw_again p a t (act ∷ acts))
+  pub thrown_again_okay : (t : TypeTree) → IsThrown t → Okay (throw_again p a t (act ∷ acts))
   thrown_again_okay t made =
       let b = has_signature t made.1 in
       found_okay p final (function_type t) b.0 _ (signature_is t b.0 b.1) (gives_okay p final a (b.0).params _ (λ us i. thrown_okay t us b.0 made b.1 i))
 
   pub throw_reference_okay : (v : Value) → Fits p v (exception true) → Okay (throw_reference p a act acts v)
-  throw_reference_okay (ref_exn t) y = thrown_again_okay t y.0
+  throw_reference_okay (ref_exn id t) y = thrown_again_okay t y.0
   throw_reference_okay (ref_null c k) y = done_okay p final trapped tt
-  throw_reference_okay (number_value n) y = absurd y.1
+  throw_reference_okay (number_value n id) y = absurd y.1
   throw_reference_okay (ref_function i t) y = absurd (under_exn _ y.1.1.3 (constructor_apart (expanded y.1.1.0)))
-  throw_reference_okay (ref_object t) y = absurd (under_exn _ y.1.1.3 (constructor_apart (expanded y.1.1.0)))
-  throw_reference_okay ref_i31 y = absurd (under_exn i31 y.1.1.1 tt)
-  throw_reference_okay ref_host y = absurd (under_exn any y.1.1.1 tt)
-  throw_reference_okay ref_extern y = absurd (under_exn extern y.1.1.1 tt)
+  throw_reference_okay (ref_object id t) y = absurd (under_exn _ y.1.1.3 (constructor_apart (expanded y.1.1.0)))
+  throw_reference_okay (ref_i31 id) y = absurd (under_exn i31 y.1.1.1 tt)
+  throw_reference_okay (ref_host id) y = absurd (under_exn any y.1.1.1 tt)
+  throw_reference_okay (ref_extern id) y = absurd (under_exn extern y.1.1.1 tt)
 
   pub caught_there : (n : ℕ) (l : Label) (ls : List Label) (given : List Operand) → IsCaught l.caught → LabelsAwait p w act.locals act.owed ls given
-      → slice_get (is_clause l ∷ map is_clause ls) n ≡ Some true → (t : TypeTree) × (caught_at p a act acts n (l ∷ ls) ≡ Some t) × IsCaught (Some t)
+      → slice_get (is_clause l ∷ map is_clause ls) n ≡ Some true → (x : Exception) × (caught_at p a act acts n (l ∷ ls) ≡ Some x) × IsThrown x.type
   caught_there zero l ls given c k e = is_caught l.caught (some_same (is_clause l) true e) c
   caught_there (suc n) l [] given c k e = absurd (none_is_some true e)
   caught_there (suc n) l (m ∷ ls) given c k e = caught_there n m ls (stack m.block.results) k.0.caught k.1 e
@@ -111,5 +111,5 @@ module _ (p : Program) (valid : IsValidProgram p) (final : List ValueType) (a : 
       asks_okay p final (Fits p v (exception true)) _ i (throw_reference_okay v i))
   exception_okay (op.Rethrow n) more popped pushed rest m r b e t =
       let c = caught_there n act.innermost act.around (stack act.innermost.block.results) h.caught h.around r in
-      found_okay p final (caught_at p a act acts n (act.innermost ∷ act.around)) c.0 _ c.1 (thrown_again_okay c.0 c.2)
+      found_okay p final (caught_at p a act acts n (act.innermost ∷ act.around)) c.0 _ c.1 (thrown_again_okay c.0.type c.2)
   exception_okay o more popped pushed rest m r b e t = absurd r

@@ -42,7 +42,8 @@ use Rattle.wasm_operator_validator_rules.specs.Typed.{Typed}
 use Rattle.wasm_operator_validator_soundness.specs.runs.Values.{IsAReference, IsObject, IsStandard, Program, Value, number_value, ref_null, ref_function, ref_object, ref_i31, ref_host, ref_extern, ref_exn, least_type, is_null, IsNumberValue, IsMade, Fits, FitsOperand, AllFit}
 use Rattle.wasm_operator_validator_soundness.specs.runs.Machine.{type_meant, heap_meant, value_meant, gives_one, function_type_in, block_signature, second_part}
 use Rattle.wasm_operator_validator_soundness.proofs.RunsFitting.{below_on_top}
-use Rattle.wasm_operator_validator_soundness.specs.runs.ValidStates.{IsCaught}
+use Rattle.wasm_operator_validator_soundness.specs.runs.States.{Exception}
+use Rattle.wasm_operator_validator_soundness.specs.runs.ValidStates.{IsCaught, IsThrown}
 use Rattle.wasm_operator_validator_soundness.proofs.RunsInvariant.{none_is_some}
 use Rattle.wasm_operator_validator_soundness.proofs.Objects.{matches_along}
 use Rattle.wasm_operator_validator_soundness.proofs.Options.{if_some, map_some, used_is}
@@ -98,44 +99,44 @@ module _ (p : Program) where
   is_reference v bottom f i = absurd f
   is_reference v some_reference f i = absurd f
   is_reference v (known (number n)) f i = absurd i
-  is_reference (number_value m) (known (ref n h)) f i = absurd f.1
+  is_reference (number_value m id) (known (ref n h)) f i = absurd f.1
   is_reference (ref_null s a) (known (ref n h)) f i = tt
   is_reference (ref_function j t) (known (ref n h)) f i = tt
-  is_reference (ref_object t) (known (ref n h)) f i = tt
-  is_reference ref_i31 (known (ref n h)) f i = tt
-  is_reference ref_host (known (ref n h)) f i = tt
-  is_reference ref_extern (known (ref n h)) f i = tt
-  is_reference (ref_exn t) (known (ref n h)) f i = tt
+  is_reference (ref_object id t) (known (ref n h)) f i = tt
+  is_reference (ref_i31 id) (known (ref n h)) f i = tt
+  is_reference (ref_host id) (known (ref n h)) f i = tt
+  is_reference (ref_extern id) (known (ref n h)) f i = tt
+  is_reference (ref_exn id t) (known (ref n h)) f i = tt
 
   pub never_null : (v : Value) (n : Bool) (h : HeapOf TypeTree) → is_null v ≡ false → Fits p v (ref n h) → Fits p v (ref false h)
-  never_null (number_value m) n h e f = absurd f.1
+  never_null (number_value m id) n h e f = absurd f.1
   never_null (ref_null s a) n h e f = absurd (true≢false e)
   never_null (ref_function j t) n h e f = (f.0, (tt, f.1.1))
-  never_null (ref_object t) n h e f = (f.0, (tt, f.1.1))
-  never_null ref_i31 n h e f = (f.0, (tt, f.1.1))
-  never_null ref_host n h e f = (f.0, (tt, f.1.1))
-  never_null ref_extern n h e f = (f.0, (tt, f.1.1))
-  never_null (ref_exn t) n h e f = (f.0, (tt, f.1.1))
+  never_null (ref_object id t) n h e f = (f.0, (tt, f.1.1))
+  never_null (ref_i31 id) n h e f = (f.0, (tt, f.1.1))
+  never_null (ref_host id) n h e f = (f.0, (tt, f.1.1))
+  never_null (ref_extern id) n h e f = (f.0, (tt, f.1.1))
+  never_null (ref_exn id t) n h e f = (f.0, (tt, f.1.1))
 
   pub nullable_too : (v : Value) (n : Bool) (h : HeapOf TypeTree) → Fits p v (ref false h) → Fits p v (ref n h)
-  nullable_too (number_value m) n h f = absurd f.1
+  nullable_too (number_value m id) n h f = absurd f.1
   nullable_too (ref_null s a) n h f = absurd f.1.0
   nullable_too (ref_function j t) n h f = (f.0, (tt, f.1.1))
-  nullable_too (ref_object t) n h f = (f.0, (tt, f.1.1))
-  nullable_too ref_i31 n h f = (f.0, (tt, f.1.1))
-  nullable_too ref_host n h f = (f.0, (tt, f.1.1))
-  nullable_too ref_extern n h f = (f.0, (tt, f.1.1))
-  nullable_too (ref_exn t) n h f = (f.0, (tt, f.1.1))
+  nullable_too (ref_object id t) n h f = (f.0, (tt, f.1.1))
+  nullable_too (ref_i31 id) n h f = (f.0, (tt, f.1.1))
+  nullable_too (ref_host id) n h f = (f.0, (tt, f.1.1))
+  nullable_too (ref_extern id) n h f = (f.0, (tt, f.1.1))
+  nullable_too (ref_exn id t) n h f = (f.0, (tt, f.1.1))
 
   pub as_nullable : (v : Value) (n : Bool) (h : HeapOf TypeTree) → Fits p v (ref n h) → Fits p v (ref true h)
-  as_nullable (number_value m) n h f = absurd f.1
+  as_nullable (number_value m id) n h f = absurd f.1
   as_nullable (ref_null s a) n h f = (f.0, (tt, f.1.1))
   as_nullable (ref_function j t) n h f = (f.0, (tt, f.1.1))
-  as_nullable (ref_object t) n h f = (f.0, (tt, f.1.1))
-  as_nullable ref_i31 n h f = (f.0, (tt, f.1.1))
-  as_nullable ref_host n h f = (f.0, (tt, f.1.1))
-  as_nullable ref_extern n h f = (f.0, (tt, f.1.1))
-  as_nullable (ref_exn t) n h f = (f.0, (tt, f.1.1))
+  as_nullable (ref_object id t) n h f = (f.0, (tt, f.1.1))
+  as_nullable (ref_i31 id) n h f = (f.0, (tt, f.1.1))
+  as_nullable (ref_host id) n h f = (f.0, (tt, f.1.1))
+  as_nullable (ref_extern id) n h f = (f.0, (tt, f.1.1))
+  as_nullable (ref_exn id t) n h f = (f.0, (tt, f.1.1))
 
   pub non_null_fits : (v : Value) (t : Operand) → IsReference t → is_null v ≡ false → FitsOperand p v t → FitsOperand p v (not_null t)
   non_null_fits v bottom i e f = absurd f
@@ -147,27 +148,27 @@ module _ (p : Program) where
   pub is_a_number : (v : Value) (t : Operand) → FitsOperand p v t → IsNumber t → IsNumberValue v
   is_a_number v bottom f i = absurd f
   is_a_number v some_reference f i = absurd f
-  is_a_number (number_value m) (known (number n)) f i = tt
+  is_a_number (number_value m id) (known (number n)) f i = tt
   is_a_number (ref_null s a) (known (number n)) f i = absurd f.1
   is_a_number (ref_function j t) (known (number n)) f i = absurd f.1
-  is_a_number (ref_object t) (known (number n)) f i = absurd f.1
-  is_a_number ref_i31 (known (number n)) f i = absurd f.1
-  is_a_number ref_host (known (number n)) f i = absurd f.1
-  is_a_number ref_extern (known (number n)) f i = absurd f.1
-  is_a_number (ref_exn t) (known (number n)) f i = absurd f.1
+  is_a_number (ref_object id t) (known (number n)) f i = absurd f.1
+  is_a_number (ref_i31 id) (known (number n)) f i = absurd f.1
+  is_a_number (ref_host id) (known (number n)) f i = absurd f.1
+  is_a_number (ref_extern id) (known (number n)) f i = absurd f.1
+  is_a_number (ref_exn id t) (known (number n)) f i = absurd f.1
   is_a_number v (known (ref n h)) f i = absurd i
 
   pub as_other : (v x : Value) (t : Operand) → FitsOperand p v t → FitsOperand p x t → IsNumber t → Fits p v (least_type x)
   as_other v x bottom f k i = absurd f
   as_other v x some_reference f k i = absurd f
-  as_other v (number_value m) (known (number n)) f k i = subst (λ (q : Number). Fits p v (number q)) (sym k.1) f
+  as_other v (number_value m id) (known (number n)) f k i = subst (λ (q : Number). Fits p v (number q)) (sym k.1) f
   as_other v (ref_null s a) (known (number n)) f k i = absurd k.1
   as_other v (ref_function j t) (known (number n)) f k i = absurd k.1
-  as_other v (ref_object t) (known (number n)) f k i = absurd k.1
-  as_other v ref_i31 (known (number n)) f k i = absurd k.1
-  as_other v ref_host (known (number n)) f k i = absurd k.1
-  as_other v ref_extern (known (number n)) f k i = absurd k.1
-  as_other v (ref_exn t) (known (number n)) f k i = absurd k.1
+  as_other v (ref_object id t) (known (number n)) f k i = absurd k.1
+  as_other v (ref_i31 id) (known (number n)) f k i = absurd k.1
+  as_other v (ref_host id) (known (number n)) f k i = absurd k.1
+  as_other v (ref_extern id) (known (number n)) f k i = absurd k.1
+  as_other v (ref_exn id t) (known (number n)) f k i = absurd k.1
   as_other v x (known (ref n h)) f k i = absurd i
 
 -- ---- one label of a table of labels
@@ -212,8 +213,8 @@ calls_through u t b links d e =
 pub not_object : (x : InnerOf TypeTree) (b : Signature) → IsObject x → x ≡ function b.params b.results → ⊥
 not_object x b i e = subst IsObject e i
 
-pub no_object : (p : Program) (u t : TypeTree) (b : Signature) → IsMade p (ref_object u) → DeclaredBelow u t → IsFunctionType t b → ⊥
-no_object p u t b made d e =
+pub no_object : (p : Program) (k : ℕ) (u t : TypeTree) (b : Signature) → IsMade p (ref_object k u) → DeclaredBelow u t → IsFunctionType t b → ⊥
+no_object p k u t b made d e =
     let through = calls_through u t b (standard_links u made.0) d e in not_object (expanded u) through.own made.1 through.is
 
 abbrev pub IsBottom : Abstract → Type 0
@@ -248,7 +249,7 @@ constructor_apart (struct_of fs) = tt
 constructor_apart (continuation f) = tt
 
 -- what a marked label caught
-pub is_caught : (o : Option TypeTree) → is_some o ≡ true → IsCaught o → (t : TypeTree) × (o ≡ Some t) × IsCaught (Some t)
+pub is_caught : (o : Option Exception) → is_some o ≡ true → IsCaught o → (e : Exception) × (o ≡ Some e) × IsThrown e.type
 is_caught None e c = absurd (true≢false (sym e))
 is_caught (Some t) e c = (t, refl, c)
 

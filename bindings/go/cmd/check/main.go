@@ -1,5 +1,6 @@
-// Says of each file whether it is a valid WebAssembly module, by lines as those of wasm-check; with --vectors operators on vectors are
-// judged like all others, and after --entries it says what each imports and exports. Ends with 0 if all are valid, 1 if some file is not, and 2 if there is no verdict on some file.
+// Says of each file whether it is a valid WebAssembly module, by lines as those of wasm-check; the file - is standard input. With --vectors
+// operators on vectors are judged like all others, and after --entries it says what each imports and exports. Ends with 0 if all are valid, 1
+// if some file is not, and 2 if there is no verdict on some file, or no file.
 package main
 
 import (
@@ -8,6 +9,7 @@ import (
 	"fmt"
 	"io"
 	"os"
+	"strings"
 
 	"durskeyl"
 )
@@ -39,10 +41,31 @@ func list(out io.Writer, settings *durskeyl.Settings, module []byte) error {
 	return nil
 }
 
+// read gives the bytes of a file.
+func read(name string) ([]byte, error) {
+	if name == "-" {
+		return io.ReadAll(os.Stdin)
+	}
+	return os.ReadFile(name)
+}
+
+// isLost says whether standard output was closed. Newer runtimes of Go open /dev/null in its place, to read and write, so that lines would be
+// lost without a word.
+func isLost() bool {
+	to, err := os.Readlink("/proc/self/fd/1")
+	how, _ := os.ReadFile("/proc/self/fdinfo/1")
+	for _, line := range strings.Split(string(how), "\n") {
+		if strings.HasPrefix(line, "flags:") && strings.HasSuffix(line, "2") {
+			return err == nil && to == os.DevNull
+		}
+	}
+	return false
+}
+
 // check writes the lines of a file, and gives its status.
 func check(out io.Writer, settings *durskeyl.Settings, name string, lists bool) int {
 	shown := durskeyl.Shown(name)
-	module, err := os.ReadFile(name)
+	module, err := read(name)
 	switch {
 	case err != nil:
 	case lists:
@@ -75,6 +98,14 @@ func main() {
 	lists := len(words) > 0 && words[0] == "--entries"
 	if lists {
 		words = words[1:]
+	}
+	if len(words) == 0 {
+		fmt.Fprintln(os.Stderr, "usage: check [--vectors] [--entries] FILE...")
+		os.Exit(2)
+	}
+	if isLost() {
+		fmt.Fprintln(os.Stderr, "check: cannot write: standard output is closed")
+		os.Exit(2)
 	}
 	out := bufio.NewWriter(os.Stdout)
 	status := 0

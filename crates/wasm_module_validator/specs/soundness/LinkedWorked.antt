@@ -69,6 +69,6 @@ module _ (x : ℤ) where
     pub from : IsStarted program started []
     pub sound : RunsFrom linking linked hosts
     pub starts : MayStart program 1
-    pub throws : (t : State) × Runs program started (silent ∷ giving (number_value i32) ∷ []) t
+    pub throws : (t : State) × Runs program started (silent ∷ giving (number_value i32 0) ∷ []) t
         × (step program t leaving_all).is_answer
-        × ((step program t leaving_all).outcome ≡ thrown (type_at (types_in linked) 1) (number_value i32 ∷ []))
+        × ((step program t leaving_all).outcome ≡ thrown (type_at (types_in linked) 1) (number_value i32 0 ∷ []))

@@ -34,7 +34,7 @@ abbrev pub floats : List ValueType
 floats = number f32 ∷ []
 
 abbrev pub float : Value
-float = number_value f32
+float = number_value f32 0
 
 -- its function, with one argument
 abbrev pub started : State

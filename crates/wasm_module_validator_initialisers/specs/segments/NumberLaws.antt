@@ -24,7 +24,7 @@ use Rattle.wasm_module_validator_initialisers.specs.segments.Judged.{IsConstantT
 nothing_asked : (bits : ℕ) → bit_and bits (features_of Mvp) ≡ features_of Mvp
 nothing_asked bits = let h = and_le_r bits 0 in omega arith
 
-plainly : (bits : ℕ) (o : Op) → (info_of o).proposal ≡ Mvp → names_float o ≡ false → IsEnabled bits o
+pub plainly : (bits : ℕ) (o : Op) → (info_of o).proposal ≡ Mvp → names_float o ≡ false → IsEnabled bits o
 plainly bits o e f = record { proposal = rw e (nothing_asked bits); floats = λ t. let d : false ≡ true = sym f ∙ t in cc }
 
 -- one that needs no feature

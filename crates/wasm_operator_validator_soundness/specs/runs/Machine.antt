@@ -42,7 +42,7 @@ use Rattle.wasm_operator_validator_rules.specs.InstructionTypes.{i32_type}
 use Rattle.wasm_operator_validator_rules.specs.Numbers.{numbers}
 use Rattle.wasm_operator_validator_soundness.specs.runs.Values.{Body, Function, Program, Value, number_value, ref_null, ref_function, ref_object, ref_i31, ref_exn, least_type, is_null, IsNumberValue, IsAReference, IsMade, IsAkin, Fits, AllFit, EachFits, null_of, default_of}
 use Rattle.wasm_operator_validator_soundness.specs.runs.Names.{computed, accessed, argument_of}
-use Rattle.wasm_operator_validator_soundness.specs.runs.States.{Continuation, behind, again, Handlers, no_handlers, table, clauses, Label, Activation, branch_type, Answer}
+use Rattle.wasm_operator_validator_soundness.specs.runs.States.{Continuation, behind, again, Handlers, no_handlers, table, clauses, Exception, Label, Activation, branch_type, Answer}
 use Rattle.wasm_operator_validator_soundness.specs.runs.States.{next, returned, trapped, thrown, Move, done, stop, refused, asks, allows, choose, found, pops}
 
 -- ---- what the code means in a module
@@ -179,18 +179,18 @@ IsCallable v = ⊥
 -- what operators on abstract types find, if it is not null: an array, an unboxed scalar, and what can be compared
 abbrev pub IsArray : Value → Type 0
 IsArray (ref_null s h) = Unit {0}
-IsArray (ref_object t) = (f : FieldOf TypeTree) × (expanded t ≡ array_of f)
+IsArray (ref_object k t) = (f : FieldOf TypeTree) × (expanded t ≡ array_of f)
 IsArray v = ⊥
 
 abbrev pub IsUnboxed : Value → Type 0
 IsUnboxed (ref_null s h) = Unit {0}
-IsUnboxed ref_i31 = Unit {0}
+IsUnboxed (ref_i31 b) = Unit {0}
 IsUnboxed v = ⊥
 
 abbrev pub IsComparable : Value → Type 0
 IsComparable (ref_null s h) = Unit {0}
-IsComparable (ref_object t) = Unit {0}
-IsComparable ref_i31 = Unit {0}
+IsComparable (ref_object k t) = Unit {0}
+IsComparable (ref_i31 b) = Unit {0}
 IsComparable v = ⊥
 
 -- the address of a memory, and the index of a table, of 64 bits or of 32; a length for two of them is of the shorter
@@ -324,9 +324,9 @@ module _ (p : Program) (a : Answer) where
     -- what a clause is for, what it hands on, and to which label
     abbrev pub caught_by : Catch → Handing
     caught_by (catch.One x l) = record { tag = Some x; values = vs; label = l }
-    caught_by (catch.OneRef x l) = record { tag = Some x; values = ref_exn t ∷ vs; label = l }
+    caught_by (catch.OneRef x l) = record { tag = Some x; values = ref_exn a.made t ∷ vs; label = l }
     caught_by (catch.All l) = record { tag = None; values = []; label = l }
-    caught_by (catch.AllRef l) = record { tag = None; values = ref_exn t ∷ []; label = l }
+    caught_by (catch.AllRef l) = record { tag = None; values = ref_exn a.made t ∷ []; label = l }
 
     abbrev pub tag_values : Option ℕ → List Value
     tag_values None = []
@@ -350,7 +350,7 @@ module _ (p : Program) (a : Answer) where
         values = tag_values c.tag;
         continuation = behind;
         handlers = no_handlers;
-        caught = Some t;
+        caught = Some (record { address = a.made; type = t });
       };
       around = ls;
     } ∷ acts)))
@@ -380,7 +380,7 @@ module _ (p : Program) (a : Answer) where
   -- what the host does: it traps, throws an exception, or gives results
   abbrev pub by_host : Option TypeTree → List ValueType → List ValueType → List Activation → Move
   by_host None results owed acts = may_trap (gives results (λ us. hand_back owed us acts))
-  by_host (Some t) results owed acts = allows (IsMade p (ref_exn t)) (throw_again t acts)
+  by_host (Some t) results owed acts = allows (IsMade p (ref_exn a.made t)) (throw_again t acts)
 
   -- the function that a reference names, and its body
   abbrev pub named : Option ℕ → Option Function
@@ -504,12 +504,12 @@ module _ (p : Program) (a : Answer) where
     -- ---- exceptions
 
     abbrev pub throw_reference : Value → Move
-    throw_reference (ref_exn t) = throw_again t (act ∷ acts)
+    throw_reference (ref_exn k t) = throw_again t (act ∷ acts)
     throw_reference (ref_null s h) = done trapped
     throw_reference v = stop
 
     -- what a label caught
-    abbrev pub caught_at : ℕ → List Label → Option TypeTree
+    abbrev pub caught_at : ℕ → List Label → Option Exception
     caught_at n [] = None
     caught_at zero (l ∷ ls) = l.caught
     caught_at (suc n) (l ∷ ls) = caught_at n ls
@@ -519,7 +519,7 @@ module _ (p : Program) (a : Answer) where
         (λ t. found (function_type t) (λ b. takes b.params vs (λ us ws. unwind t us (act ∷ acts) a.leaves)))
     operate_exception op.ThrowRef = pops vs (λ v ws.
         asks (Fits p v (ref true (abstract false exn))) (throw_reference v))
-    operate_exception (op.Rethrow n) = found (caught_at n labels) (λ t. throw_again t (act ∷ acts))
+    operate_exception (op.Rethrow n) = found (caught_at n labels) (λ e. throw_again e.type (act ∷ acts))
     operate_exception o = stop
 
     -- ---- parametric and variable instructions
@@ -557,7 +557,7 @@ module _ (p : Program) (a : Answer) where
 
     abbrev pub operate_bulk : BulkOperator → Code → Move
     operate_bulk (bulk.RefNull h) more = found (meant_heap p.«module» h) (λ k. goes (null_of k ∷ vs) more)
-    operate_bulk bulk.RefIsNull more = pops vs (λ v ws. asks (IsAReference v) (goes (number_value i32 ∷ ws) more))
+    operate_bulk bulk.RefIsNull more = pops vs (λ v ws. asks (IsAReference v) (goes (number_value i32 a.made ∷ ws) more))
     operate_bulk (bulk.RefFunc x) more = function_there x (λ f. goes (ref_function (Some x) f.type ∷ vs) more)
     operate_bulk (bulk.TableInit e x) more = segment_there e (λ s. table_there x (λ t.
         takes (address t.table64 ∷ i32_type ∷ i32_type ∷ []) vs
@@ -599,7 +599,7 @@ module _ (p : Program) (a : Answer) where
 
     -- an object by what it was made to hold; a null traps
     abbrev pub object : Holding → Value → (List (FieldOf TypeTree) → Move) → Move
-    object of (ref_object t) f = found (of (expanded t)) f
+    object of (ref_object k t) f = found (of (expanded t)) f
     object of (ref_null s h) f = done trapped
     object of v f = stop
 
@@ -623,7 +623,7 @@ module _ (p : Program) (a : Answer) where
     abbrev pub make : Holding → ℕ → (List (FieldOf TypeTree) → List ValueType)
         → (List (FieldOf TypeTree) → Move → Move) → Code → Move
     make of x takes_for further more = type_there x (λ t. found (of (expanded t)) (λ fs.
-        takes (takes_for fs) vs (λ us ws. further fs (goes (ref_object t ∷ ws) more))))
+        takes (takes_for fs) vs (λ us ws. further fs (goes (ref_object a.made t ∷ ws) more))))
 
     -- bytes of a data segment are read as what is held
     abbrev pub FromData : ℕ → List (FieldOf TypeTree) → Type 0
@@ -658,7 +658,7 @@ module _ (p : Program) (a : Answer) where
 
     abbrev pub number_from : Abstract → (Value → Type 0) → Code → Move
     number_from h is more = pops vs
-        (λ v ws. asks (IsOf h v × is v) (may_trap (goes (number_value i32 ∷ ws) more)))
+        (λ v ws. asks (IsOf h v × is v) (may_trap (goes (number_value i32 a.made ∷ ws) more)))
 
     abbrev pub null_in : Abstract → Value → Value
     null_in h (ref_null s k) = ref_null s h
@@ -672,7 +672,7 @@ module _ (p : Program) (a : Answer) where
     abbrev pub operate_gc : GcOperator → Code → Move
     operate_gc gc.RefEq more = pops vs (λ v ws. pops ws
         (λ w us. asks ((IsOf eq v × IsComparable v) × (IsOf eq w × IsComparable w))
-        (goes (number_value i32 ∷ us) more)))
+        (goes (number_value i32 a.made ∷ us) more)))
     operate_gc (gc.StructNew x) more = make struct_fields x operands_of (λ fs m. m) more
     operate_gc (gc.StructNewDefault x) more = make struct_fields x (λ fs. [])
         (λ fs m. asks (HaveDefaults fs) m) more
@@ -704,8 +704,8 @@ module _ (p : Program) (a : Answer) where
         (λ fs ws. found (slice_get fs 0) (λ f. writes f (asks (FromData d fs) (goes ws more))))
     operate_gc (gc.ArrayInitElem x e) more = object_under array_fields (i32_type ∷ i32_type ∷ i32_type ∷ []) x vs
         (λ fs ws. stores_from e fs writes (goes ws more))
-    operate_gc (gc.RefTestNonNull h) more = cast_top false h (λ b v ws. goes (number_value i32 ∷ ws) more)
-    operate_gc (gc.RefTestNullable h) more = cast_top true h (λ b v ws. goes (number_value i32 ∷ ws) more)
+    operate_gc (gc.RefTestNonNull h) more = cast_top false h (λ b v ws. goes (number_value i32 a.made ∷ ws) more)
+    operate_gc (gc.RefTestNullable h) more = cast_top true h (λ b v ws. goes (number_value i32 a.made ∷ ws) more)
     operate_gc (gc.RefCastNonNull h) more = cast_top false h (λ b v ws. choose b (goes (v ∷ ws) more) (done trapped))
     operate_gc (gc.RefCastNullable h) more = cast_top true h (λ b v ws. choose b (goes (v ∷ ws) more) (done trapped))
     operate_gc (gc.BrOnCast n from to) more = cast_from from to

@@ -20,15 +20,20 @@ pub data Handlers : Type 0 where
   table : List Catch → Handlers
   clauses : Code → Handlers
 
+-- an exception, by its address and the type of its tag
+pub record Exception : Type 0 where
+  pub address : ℕ
+  pub type : TypeTree
+
 -- A label, with what lies above it: the instructions still to come, the values, the top first, the type of its block, how a
--- branch to it goes on, what catches exceptions in it, and the type of the exception that it caught, if it did.
+-- branch to it goes on, what catches exceptions in it, and the exception that it caught, if it did.
 pub record Label : Type 0 where
   pub code : Code
   pub values : List Value
   pub block : Signature
   pub continuation : Continuation
   pub handlers : Handlers
-  pub caught : Option TypeTree
+  pub caught : Option Exception
 
 -- A function that runs: the types of its locals, its results, whether it is shared; the locals, of which some may have no value
 -- yet; the results that its caller awaits; its innermost label, and those around it, of which the last is the function itself.
@@ -61,8 +66,8 @@ is_clause l = is_some l.caught
 
 -- What a step takes from outside: the values that are computed, read or given by a host, the top first; what a table holds where a
 -- call goes through it; whether a condition holds or a cast succeeds; which label of a table, or which clause, is meant; whether the
--- operator traps; whether a host throws an exception, by the type of its tag; and how many labels an exception leaves before a clause
--- catches it.
+-- operator traps; whether a host throws an exception, by the type of its tag; how many labels an exception leaves before a clause
+-- catches it; and the bits of the number that an operator makes, or the address of what it makes or throws.
 pub record Answer : Type 0 where
   pub values : List Value
   pub held : Value
@@ -71,6 +76,7 @@ pub record Answer : Type 0 where
   pub traps : Bool
   pub throws : Option TypeTree
   pub leaves : ℕ
+  pub made : ℕ
 
 pub data Outcome : Type 0 where
   next : State → Outcome

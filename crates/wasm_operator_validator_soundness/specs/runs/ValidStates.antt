@@ -12,7 +12,7 @@ use Rattle.wasm_operator_validator_rules.specs.Context.{Context, Initialised, Si
 use Rattle.wasm_operator_validator_rules.specs.Exceptions.{EachCatches}
 use Rattle.wasm_operator_validator_rules.specs.Typed.{Typed}
 use Rattle.wasm_operator_validator_soundness.specs.runs.Values.{Program, IsStandardType, Value, Fits, AllFit}
-use Rattle.wasm_operator_validator_soundness.specs.runs.States.{Continuation, behind, again, Handlers, no_handlers, table, clauses, Label, Activation, State, branch_type, is_clause}
+use Rattle.wasm_operator_validator_soundness.specs.runs.States.{Continuation, behind, again, Handlers, no_handlers, table, clauses, Exception, Label, Activation, State, branch_type, is_clause}
 use Rattle.wasm_operator_validator_soundness.specs.runs.States.{Outcome, next, returned, trapped, thrown, stuck}
 
 -- ---- locals
@@ -36,9 +36,12 @@ LocalsFit p (o ∷ os) (t ∷ ts) = LocalFits p o t × LocalsFit p os ts
 -- ---- labels
 
 -- what a label caught, if anything, is an exception of a tag's type
-abbrev pub IsCaught : Option TypeTree → Type 0
+abbrev pub IsThrown : TypeTree → Type 0
+IsThrown t = IsStandardType t × IsFunction (expanded t)
+
+abbrev pub IsCaught : Option Exception → Type 0
 IsCaught None = Unit {0}
-IsCaught (Some t) = IsStandardType t × IsFunction (expanded t)
+IsCaught (Some e) = IsThrown e.type
 
 -- all that the rules know at a place except the labels
 pub record Around : Type 0 where

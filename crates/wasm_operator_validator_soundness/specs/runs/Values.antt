@@ -1,5 +1,5 @@
--- Values at run time (WebAssembly 3.0, execution, runtime structure, values), by their types and nothing else: a number without
--- its bits, an object without its fields. A function, an object and an exception carry the type tree that they were made with.
+-- Values at run time (WebAssembly 3.0, execution, runtime structure, values), by their types and a mark: the bits of a number, the address
+-- of an object. What lies at an address is not said here. A function, an object and an exception carry the type tree that they were made with.
 use Rattle.std.specs.Prelude.{◌≡◌, ℕ, Bool, true, false, List, [], ◌∷◌, Contains, Option, Some, None, slice_get}
 use Rattle.wasm_types.specs.settings.Settings.{Settings}
 use Rattle.wasm_types.specs.settings.Features.{SharedEverythingThreads, StackSwitching, CustomDescriptors, has}
@@ -56,18 +56,18 @@ IsObject _ = ⊥
 
 -- ---- values
 
--- A number or vector of a type; a null of the hierarchy in which an abstract type is, shared or not; a function by its index, or
--- some other function of the host; a struct or an array; an unboxed scalar; what the host has in `any`; an external reference;
--- an exception, by the type of its tag.
+-- A number or vector of a type, with its bits; a null of the hierarchy in which an abstract type is, shared or not; a function by its
+-- index, or some other function of the host; a struct or an array, by its address; an unboxed scalar, with its bits; what the host has in
+-- `any`; an external reference; an exception, by its address and the type of its tag.
 pub data Value : Type 0 where
-  number_value : Number → Value
+  number_value : Number → ℕ → Value
   ref_null : Bool → Abstract → Value
   ref_function : Option ℕ → TypeTree → Value
-  ref_object : TypeTree → Value
-  ref_i31 : Value
-  ref_host : Value
-  ref_extern : Value
-  ref_exn : TypeTree → Value
+  ref_object : ℕ → TypeTree → Value
+  ref_i31 : ℕ → Value
+  ref_host : ℕ → Value
+  ref_extern : ℕ → Value
+  ref_exn : ℕ → TypeTree → Value
 
 -- the bottom of the hierarchy of each abstract type (validation, matching, heap types)
 abbrev pub bottom_under : Abstract → Abstract
@@ -83,25 +83,25 @@ bottom_under _ = none
 
 -- the least type of a value
 abbrev pub least_type : Value → ValueType
-least_type (number_value n) = number n
+least_type (number_value n b) = number n
 least_type (ref_null s h) = ref true (abstract s (bottom_under h))
 least_type (ref_function i t) = ref false (exact t)
-least_type (ref_object t) = ref false (exact t)
-least_type ref_i31 = ref false (abstract false i31)
-least_type ref_host = ref false (abstract false any)
-least_type ref_extern = ref false (abstract false extern)
-least_type (ref_exn t) = ref false (abstract false exn)
+least_type (ref_object k t) = ref false (exact t)
+least_type (ref_i31 b) = ref false (abstract false i31)
+least_type (ref_host k) = ref false (abstract false any)
+least_type (ref_extern k) = ref false (abstract false extern)
+least_type (ref_exn k t) = ref false (abstract false exn)
 
 abbrev pub is_null : Value → Bool
 is_null (ref_null s h) = true
 is_null v = false
 
 abbrev pub IsAReference : Value → Type 0
-IsAReference (number_value n) = ⊥
+IsAReference (number_value n b) = ⊥
 IsAReference v = Unit {0}
 
 abbrev pub IsNumberValue : Value → Type 0
-IsNumberValue (number_value n) = Unit {0}
+IsNumberValue (number_value n b) = Unit {0}
 IsNumberValue v = ⊥
 
 -- the function that an index names, if there is one, was made with this type
@@ -112,8 +112,8 @@ IsNamed p (Some x) t = (f : Function) × (slice_get p.functions x ≡ Some f) ×
 -- what a value carries is a type that it can be made with
 abbrev pub IsMade : Program → Value → Type 0
 IsMade p (ref_function i t) = IsStandardType t × IsFunction (expanded t) × IsNamed p i t
-IsMade p (ref_object t) = IsStandardType t × IsObject (expanded t)
-IsMade p (ref_exn t) = IsStandardType t × IsFunction (expanded t)
+IsMade p (ref_object k t) = IsStandardType t × IsObject (expanded t)
+IsMade p (ref_exn k t) = IsStandardType t × IsFunction (expanded t)
 IsMade p v = Unit {0}
 
 -- A value is of each type above its least type (appendix, soundness, values and results).
@@ -157,6 +157,6 @@ null_of (concrete t) = ref_null (is_shared t) (bottom_of (expanded t))
 null_of (exact t) = ref_null (is_shared t) (bottom_of (expanded t))
 
 abbrev pub default_of : ValueType → Option Value
-default_of (number n) = Some (number_value n)
+default_of (number n) = Some (number_value n 0)
 default_of (ref true h) = Some (null_of h)
 default_of (ref false h) = None

@@ -1,9 +1,9 @@
 use Rattle.std.proofs.Common.{◌∙◌, arith, sym, ap}
 use Rattle.std.proofs.lemmas.List.{length-map}
-use Rattle.wasm_check_command.specs.FeatureLists.{features_along}
-use Rattle.wasm_check_command.specs.Lists.{through_lists}
+use Rattle.wasm_check_faults.specs.FeatureLists.{features_along}
+use Rattle.wasm_check_faults.specs.Lists.{through_lists}
 use Rattle.wasm_check_command.specs.Files.{texts}
-use Rattle.wasm_check_command.proofs.ListLemmas.{list_taken, list_fault, list_there, lists_end}
+use Rattle.wasm_check_faults.proofs.ListLemmas.{list_taken, list_fault, list_there, lists_end}
 use Rattle.wasm_check_command.proofs.command.join_features.Goals as goal
 
 pub loop-place-init : goal.loop-place-init

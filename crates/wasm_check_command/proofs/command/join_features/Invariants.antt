@@ -1,8 +1,8 @@
 -- The lists that are left decide.
 use Rattle.std.proofs.Common.{◌≡◌, drop}
 use Rattle.wasm_check_command.specs.Settings.{features_by}
-use Rattle.wasm_check_command.specs.Lists.{through_lists}
-use Rattle.wasm_check_command.specs.FeatureLists.{features_along}
+use Rattle.wasm_check_faults.specs.Lists.{through_lists}
+use Rattle.wasm_check_faults.specs.FeatureLists.{features_along}
 use Rattle.wasm_check_command.specs.Files.{texts}
 use Rattle.wasm_check_command.proofs.command.join_features.Given as goal
 

@@ -2,8 +2,8 @@
 use Rattle.std.proofs.Common.{◌≡◌, drop}
 use Rattle.wasm_types.specs.settings.Limits.{IsWithinCeilings}
 use Rattle.wasm_check_command.specs.Settings.{limits_by}
-use Rattle.wasm_check_command.specs.Lists.{through_lists}
-use Rattle.wasm_check_command.specs.LimitLists.{limits_along}
+use Rattle.wasm_check_faults.specs.Lists.{through_lists}
+use Rattle.wasm_check_faults.specs.LimitLists.{limits_along}
 use Rattle.wasm_check_command.specs.Files.{texts}
 use Rattle.wasm_check_command.proofs.command.join_limits.Given as goal
 

@@ -1,7 +1,7 @@
 -- By the laws of one part after the other.
 use Rattle.std.proofs.Common.{◌≡◌, ◌<◌, ◌≤◌, ◌+◌, ◌-◌, ℕ, List, rules, subst, sym, arith, length, length-drop, take, drop}
-use Rattle.wasm_module_validator_streaming.specs.Handing.{HasRoom, Follows, DeniesBehind}
-use Rattle.wasm_module_validator_streaming.proofs.Handed.{none_follows, rest_denies, rest_follows, rest_has_room, turns_count}
+use Rattle.wasm_module_validator_streaming.specs.Handing.{HasRoom, Follows, DeniesBehind, LongBehind, Says}
+use Rattle.wasm_module_validator_streaming.proofs.Handed.{none_follows, rest_denies, rest_follows, rest_has_room, rest_long, says_so, turns_count}
 use Rattle.wasm_module_validator_streaming.proofs.OneItem.{all_left}
 use Rattle.wasm_module_validator_streaming.proofs.handing.take_handed.Goals as goal
 
@@ -21,10 +21,16 @@ take_some-requires-clause-room g c =
 
 pub returns-in-Err-clause-err : goal.returns-in-Err-clause-err
 returns-in-Err-clause-err g c =
-    rest_denies g.T.TakesBytes.stands c.args.pending.now.bytes.items c.args.taker.now c.args.bytes.now c.loop-turn.from c.loop-turn.invariant.within
-    c.loop-turn.pending.bytes.items c.loop-turn.taker c.loop-turn.invariant.follows g.T.TakesBytes.denied c.in-Err.error
-    (subst (λ (l : List ℕ). DeniesBehind g.T.TakesBytes.stands g.T.TakesBytes.denied c.loop-turn.pending.bytes.items c.loop-turn.taker l c.in-Err.error) (all_left c.loop-turn.from c.args.bytes.now)
-    c.in-Err.ensures.err)
+    let b = g.T.TakesBytes in
+    let held : List ℕ = c.loop-turn.pending.bytes.items in
+    let text : List ℕ = c.args.bytes.now in
+    says_so (DeniesBehind b.stands b.denied held c.loop-turn.taker (drop c.loop-turn.from text)) (DeniesBehind b.stands b.denied c.args.pending.now.bytes.items c.args.taker.now text)
+    (LongBehind b.stands b.waits c.args.most held c.loop-turn.taker (drop c.loop-turn.from text)) (LongBehind b.stands b.waits c.args.most c.args.pending.now.bytes.items c.args.taker.now text)
+    (λ e h. rest_denies b.stands c.args.pending.now.bytes.items c.args.taker.now text c.loop-turn.from c.loop-turn.invariant.within held c.loop-turn.taker c.loop-turn.invariant.follows b.denied e h)
+    (λ h. rest_long b.stands c.args.pending.now.bytes.items c.args.taker.now text c.loop-turn.from c.loop-turn.invariant.within held c.loop-turn.taker c.loop-turn.invariant.follows b.waits c.args.most h)
+    c.in-Err.error
+    (subst (λ (l : List ℕ). Says (DeniesBehind b.stands b.denied held c.loop-turn.taker l) (LongBehind b.stands b.waits c.args.most held c.loop-turn.taker l) c.in-Err.error)
+    (all_left c.loop-turn.from text) c.in-Err.ensures.err)
 
 pub loop-turn-preserved : goal.loop-turn-preserved
 loop-turn-preserved g c =

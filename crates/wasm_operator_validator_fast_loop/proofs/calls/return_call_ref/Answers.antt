@@ -17,4 +17,4 @@ returns-clause-leads c =
     (lower_more c.args.tables.now.known.order code c.args.stack.now c.take_below.new.self (with_all params m) (rw named at (c.if-not-take_below.ensures refl)) (c.if-not-take_all.ensures refl))
     (took_return_ref c.args.tables.now c.args.bytes.now c.args.at c.in-Some.end c.args.opens.now.inner c.args.opens.now.outer (code ∷ (with_all params m).0, m.1) c.put_all.new.self c.requires (sym c.tail_call.ensures ∙ c.if-not-tail_call.false) c.in-Some.ty c.in-Some.ensures
     _ (slice_get-get_or c.args.tables.now.known.named.items c.in-Some.ty (record { code = 0; defined = Other }) (rw named at c.if-index-named.false)) (rw named at c.if-code-ge-NO_CODE.false)
-    params c.in-Some-returned.ensures m c.in-Some-part.results.now refl (c.if-not-put_all.ensures refl ∙ ap (with_all c.in-Some-part.results.now) c.cut.ensures))
+    params c.in-Some-returned.ensures m c.in-Some-given.results.now refl (c.if-not-put_all.ensures refl ∙ ap (with_all c.in-Some-given.results.now) c.cut.ensures))

@@ -14,4 +14,4 @@ returns-clause-leads c =
     lowered c.args.tables.now c.args.bytes.now c.args.at c.in-Some.end c.args.opens.now.inner c.args.opens.now.outer (c.args.opens.now.inner ∷ c.args.opens.now.outer) c.args.stack.now (with_all params m) c.put_all.new.self (c.if-not-take_all.ensures refl)
     (took_throw c.args.tables.now c.args.bytes.now c.args.at c.in-Some.end c.args.opens.now.inner c.args.opens.now.outer (with_all params m) c.put_all.new.self c.if-not-tables.false c.requires c.in-Some.index c.in-Some.ensures
     _ (slice_get-get_or c.args.tables.now.known.tags.items c.in-Some.index (record { params = 0; param_count = 0; results = 0; result_count = 0 }) (rw tags at c.if-index-tags.false)) (rw (flat, tags) at c.in-Some-part.ensures.within)
-    params (rw (flat, tags) at c.in-Some-part.ensures.value) m c.in-Some-part-2.results.now refl (c.if-not-put_all.ensures refl ∙ ap (with_all c.in-Some-part-2.results.now) c.cut.ensures))
+    params (rw (flat, tags) at c.in-Some-part.ensures.value) m c.in-Some-given.results.now refl (c.if-not-put_all.ensures refl ∙ ap (with_all c.in-Some-given.results.now) c.cut.ensures))

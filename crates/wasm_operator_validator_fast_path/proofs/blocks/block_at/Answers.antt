@@ -6,7 +6,7 @@ use Rattle.wasm_operator_validator_fast_path.specs.Values.{types}
 use Rattle.wasm_operator_validator_fast_path.proofs.blocks.block_at.Goals as goal
 
 pub returns-in-64 : goal.returns-in-64
-returns-in-64 c = (Empty, empty_there c.args.bytes.now c.args.at c.if-at-bytes.false c.in-64.is, λ ids z g fits. c.bare.ensures ids c.args.tables.now.known.flat.items)
+returns-in-64 c = (Empty, empty_there c.args.bytes.now c.args.at c.if-at-bytes.false c.in-64.is, λ ids z g fits. c.bare.ensures.signature ids c.args.tables.now.known.flat.items)
 
 pub returns-in-127 : goal.returns-in-127
 returns-in-127 c = (

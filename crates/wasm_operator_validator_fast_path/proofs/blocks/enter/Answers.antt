@@ -1,5 +1,7 @@
-use Rattle.std.proofs.Common.{refl}
+use Rattle.std.proofs.Common.{refl, sym, subst}
 use Rattle.wasm_operator_validator_fast_path.specs.Stacks.{with_all}
+use Rattle.wasm_operator_validator_fast_path.specs.Nested.{Nested}
+use Rattle.wasm_operator_validator_fast_path.specs.Loop.{Enters}
 use Rattle.wasm_operator_validator_fast_path.proofs.Lowering.{lower_same}
 use Rattle.wasm_operator_validator_fast_path.proofs.Frames.{entered_with}
 use Rattle.wasm_operator_validator_fast_path.proofs.blocks.enter.Goals as goal
@@ -9,9 +11,11 @@ returns-then-sig-eq0 c = λ e. (c.args.stack.now, lower_same c.args.tables.now.k
 
 pub returns : goal.returns
 returns c = λ e.
-    let xs = c.in-Some.params.now in (
+    let xs = c.in-Some.params.now in
+    let flat = c.args.tables.now.known.flat.items in (
       with_all xs c.take_all.new.self,
       c.if-not-take_all.ensures refl,
-      entered_with c.args.tables.now.known.flat.items xs c.take_all.new.self c.enter-base.new.self c.put_all.new.self c.args.kind c.args.sig _ _ _ _ refl refl (c.if-not-push.ensures refl)
-          (rw c.as_slice.ensures.value at c.in-Some.ensures.value) c.enter-base.ensures.under c.enter-base.ensures.own (c.if-not-put_all.ensures refl),
+      subst (λ (n : Nested). Enters flat c.args.kind c.args.sig (with_all xs c.take_all.new.self) c.put_all.new.self c.args.opens.now.inner c.args.opens.now.outer n.inner n.outer) (sym (c.nest.ensures e))
+          (entered_with flat xs c.take_all.new.self c.enter-base.new.self c.put_all.new.self c.args.kind c.args.sig _ _ _ _ refl refl refl
+          (rw c.as_slice.ensures.value at c.in-Some.ensures.value) c.enter-base.ensures.under c.enter-base.ensures.own (c.if-not-put_all.ensures refl)),
     )

@@ -1,16 +1,18 @@
 use Rattle.std.proofs.Common.{refl}
 use Rattle.wasm_operator_validator_fast_path.specs.Stacks.{with_all}
 use Rattle.wasm_operator_validator_fast_path.proofs.Lowering.{lower_same}
-use Rattle.wasm_operator_validator_fast_path.proofs.Frames.{left_bare, left_with}
+use Rattle.wasm_operator_validator_fast_path.proofs.Frames.{bare_closes, left_bare, left_with}
 use Rattle.wasm_operator_validator_fast_path.proofs.blocks.leave.Goals as goal
 
-pub returns-then-frame-eq0 : goal.returns-then-frame-eq0
-returns-then-frame-eq0 c = λ e.
+pub returns-then-is_bare : goal.returns-then-is_bare
+returns-then-is_bare c = λ e.
+    let flat = c.args.tables.now.known.flat.items in
+    let frame = c.args.frame.now in
+    let (params, results) = c.is_bare.ensures c.if-is_bare.true in
     let (none, ended) = c.leave.ensures e in (
       c.args.stack.now,
       lower_same c.args.tables.now.known.order _ _ refl,
-      left_bare c.args.tables.now.known.flat.items c.args.stack.now c.leave.new.self c.args.frame.now (λ ids. c.if-not-may_close.ensures refl ids c.args.tables.now.known.flat.items)
-          c.if-frame-eq0.true none ended,
+      left_bare flat c.args.stack.now c.leave.new.self frame (λ ids. bare_closes flat frame.sig params results ids frame.kind) results none ended,
     )
 
 pub returns : goal.returns

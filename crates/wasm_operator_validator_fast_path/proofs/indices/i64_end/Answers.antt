@@ -6,8 +6,7 @@ use Rattle.wasm_operator_validator_fast_path.proofs.indices.i64_end.Goals as goa
 pub returns-then-bytes-at-lt128 : goal.returns-then-bytes-at-lt128
 returns-then-bytes-at-lt128 c =
     let a = c.requires in
-    let b = c.if-bytes-at-ge5.true in
-    ends_at_one 8 1 c.args.bytes.now c.args.at (omega (arith, a, b)) c.if-bytes-at-lt128.true
+    ends_at_one 8 1 c.args.bytes.now c.args.at (omega (arith, a)) c.if-bytes-at-lt128.true
 
 pub returns-then-bytes-at-lt128-2 : goal.returns-then-bytes-at-lt128-2
 returns-then-bytes-at-lt128-2 c =

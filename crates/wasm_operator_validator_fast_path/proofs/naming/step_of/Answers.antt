@@ -15,5 +15,5 @@ returns c = λ m t fields n sound o alone is heap.
     let first : slice_get c.args.ty.now.supertype_idxs.items 0 ≡ Some above =
     subst (λ (xs : List UnpackedIndex). slice_get xs 0 ≡ Some above) c.deref.ensures.value
     (slice_get_read c.deref.result.now _ 0 above refl c.in-Some-get.ensures.lookup.3.0 c.in-Some-get.ensures.lookup.1) in
-    step_declared m.ids t n c.in-Some.around sound alone heap (c.in-Some.ensures m.ids fields (expanded t) is) (16 + c.number-2.result) c.in-Some-as_core_type_id.id.0
-    (ap (λ (k : ℕ). 16 + k) c.number-2.ensures) (supertype_is m c.args.ty.now t above c.in-Some-as_core_type_id.id o first c.in-Some-as_core_type_id.ensures)
+    step_declared m.ids t n c.in-Some.around sound alone heap (c.in-Some.ensures m.ids fields (expanded t) is) (16 + c.number-above.result) c.in-Some-as_core_type_id.id.0
+    (ap (λ (k : ℕ). 16 + k) c.number-above.ensures) (supertype_is m c.args.ty.now t above c.in-Some-as_core_type_id.id o first c.in-Some-as_core_type_id.ensures)

@@ -13,5 +13,5 @@ returns-clause-leads c =
     (took_return_call c.args.tables.now c.args.bytes.now c.args.at c.in-Some.end c.args.opens.now.inner c.args.opens.now.outer (with_all c.in-Some-returned.params.now c.take_all.new.self) c.put_all.new.self c.requires
     (sym c.tail_call.ensures ∙ c.if-not-tail_call.false) c.in-Some.index c.in-Some.ensures
     _ (slice_get-get_or c.args.tables.now.known.functions.items c.in-Some.index 0 (rw functions at c.if-index-functions.false))
-    c.in-Some-returned.params.now (rw functions at c.in-Some-returned.ensures) c.take_all.new.self c.in-Some-part.results.now
-    refl (c.if-not-put_all.ensures refl ∙ ap (with_all c.in-Some-part.results.now) c.cut.ensures))
+    c.in-Some-returned.params.now (rw functions at c.in-Some-returned.ensures) c.take_all.new.self c.in-Some-inner_results.results.now
+    refl (c.if-not-put_all.ensures refl ∙ ap (with_all c.in-Some-inner_results.results.now) c.cut.ensures))

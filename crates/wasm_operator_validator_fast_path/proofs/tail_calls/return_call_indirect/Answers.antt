@@ -14,8 +14,8 @@ returns-clause-leads c =
     (took_return_indirect c.args.tables.now c.args.bytes.now c.args.at c.in-Some-index_at.end c.args.opens.now.inner c.args.opens.now.outer (0 ∷ (with_all c.in-Some-returned.params.now c.take_all.new.self).0, c.take_all.new.self.1) c.put_all.new.self c.requires
     (sym c.tail_call.ensures ∙ c.if-not-tail_call.false) c.if-not-tables.false c.in-Some.ty c.in-Some.middle c.in-Some.ensures
     (subst (λ (n : ℕ). GivesAt u32 c.args.bytes.now c.in-Some.middle n c.in-Some-index_at.end) zero c.in-Some-index_at.ensures)
-    c.in-Some-returned.params.now c.in-Some-returned.ensures (with_all c.in-Some-returned.params.now c.take_all.new.self) c.take_all.new.self c.in-Some-part.results.now
-    refl refl (c.if-not-put_all.ensures refl ∙ ap (with_all c.in-Some-part.results.now) c.cut.ensures))
+    c.in-Some-returned.params.now c.in-Some-returned.ensures (with_all c.in-Some-returned.params.now c.take_all.new.self) c.take_all.new.self c.in-Some-inner_results.results.now
+    refl refl (c.if-not-put_all.ensures refl ∙ ap (with_all c.in-Some-inner_results.results.now) c.cut.ensures))
 
 pub returns-clause-forward : goal.returns-clause-forward
 returns-clause-forward c = omega (arith, c.in-Some.ensures.forward, c.in-Some-index_at.ensures.forward)

@@ -4,5 +4,5 @@ use Rattle.wasm_operator_validator_fast_path.proofs.variables.local_get.Goals as
 
 pub returns-clause-leads : goal.returns-clause-leads
 returns-clause-leads c =
-    took_local_get c.args.tables.now c.args.bytes.now c.args.at c.in-Some.end c.args.opens.now.inner c.args.opens.now.outer c.args.stack.now c.put.new.self c.requires c.in-Some.index c.in-Some.ensures.found
-    (rw c.as_slice-locals.ensures.value at c.if-index-locals.false) (rw c.as_slice-locals.ensures.value at (c.if-not-put.ensures refl))
+    took_local_get c.args.tables.now c.args.bytes.now c.args.at c.in-Some.end c.args.opens.now.inner c.args.opens.now.outer c.args.stack.now c.put.new.self c.requires.begins c.in-Some.index c.in-Some.ensures
+    (rw c.requires.locals at c.if-index-locals.false) (rw c.requires.locals at (c.if-not-put.ensures refl))

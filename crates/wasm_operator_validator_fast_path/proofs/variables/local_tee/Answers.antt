@@ -5,7 +5,7 @@ use Rattle.wasm_operator_validator_fast_path.proofs.variables.local_tee.Goals as
 
 pub returns-clause-leads : goal.returns-clause-leads
 returns-clause-leads c =
-    let (rest, put, below) = rw c.as_slice-locals.ensures.value at (c.if-not-change_below.ensures refl) in
+    let (rest, put, below) = rw c.requires.locals at (c.if-not-change_below.ensures refl) in
     let w = c.change_below.new.self in
     lowered c.args.tables.now c.args.bytes.now c.args.at c.in-Some.end c.args.opens.now.inner c.args.opens.now.outer (c.args.opens.now.inner ∷ c.args.opens.now.outer) c.args.stack.now w w below
-    (took_local_tee c.args.tables.now c.args.bytes.now c.args.at c.in-Some.end c.args.opens.now.inner c.args.opens.now.outer w w c.requires c.in-Some.index c.in-Some.ensures.found (rw c.as_slice-locals.ensures.value at c.if-index-locals.false) rest put refl)
+    (took_local_tee c.args.tables.now c.args.bytes.now c.args.at c.in-Some.end c.args.opens.now.inner c.args.opens.now.outer w w c.requires.begins c.in-Some.index c.in-Some.ensures (rw c.requires.locals at c.if-index-locals.false) rest put refl)

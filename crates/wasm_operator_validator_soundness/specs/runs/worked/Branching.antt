@@ -99,13 +99,14 @@ module _ (x : ℤ) where
     traps = false;
     throws = None;
     leaves = 0;
+    made = 0;
   }
 
   abbrev pub giving : Answer
-  giving = record silent { values = number_value i32 ∷ [] }
+  giving = record silent { values = number_value i32 0 ∷ [] }
 
   abbrev pub giving_scalar : Answer
-  giving_scalar = record silent { values = ref_i31 ∷ [] }
+  giving_scalar = record silent { values = (ref_i31 0) ∷ [] }
 
   -- the first label of a table, and the default
   abbrev pub choosing_first : Answer
@@ -130,10 +131,10 @@ module _ (x : ℤ) where
       × ((step branching t a).outcome ≡ o)
 
   abbrev pub number_returned : Outcome
-  number_returned = returned (number_value i32 ∷ [])
+  number_returned = returned (number_value i32 0 ∷ [])
 
   abbrev pub number_thrown : Outcome
-  number_thrown = thrown tag_type (number_value i32 ∷ [])
+  number_thrown = thrown tag_type (number_value i32 0 ∷ [])
 
   pub record BranchingWorked : Type 0 where
     pub valid : IsValidProgram branching

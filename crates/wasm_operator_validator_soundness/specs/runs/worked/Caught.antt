@@ -117,10 +117,11 @@ module _ (x : ℤ) where
     traps = false;
     throws = None;
     leaves = 0;
+    made = 0;
   }
 
   abbrev pub giving : Answer
-  giving = record silent { values = number_value i32 ∷ [] }
+  giving = record silent { values = number_value i32 0 ∷ [] }
 
   abbrev pub holding : Answer
   holding = record silent { held = ref_function (Some 0) below_type; condition = true }
@@ -144,7 +145,7 @@ module _ (x : ℤ) where
     pub catching_from : IsStarted guards (started catching) (number i32 ∷ [])
     pub passing_from : IsStarted guards (started passing) (number i32 ∷ [])
     pub caught : Ends (started catching) (silent ∷ silent ∷ silent ∷ giving ∷ holding ∷ giving ∷ leaving ∷ []) silent
-        (returned (number_value i32 ∷ []))
+        (returned (number_value i32 0 ∷ []))
     pub thrown_out : Ends (started passing) (giving ∷ holding ∷ giving ∷ []) leaving
-        (thrown tag_type (number_value i32 ∷ []))
+        (thrown tag_type (number_value i32 0 ∷ []))
     pub call_trapped : Ends (started passing) (giving ∷ []) trapping trapped

@@ -134,13 +134,14 @@ module _ (x : ℤ) where
     traps = false;
     throws = None;
     leaves = 0;
+    made = 0;
   }
 
   abbrev pub giving : Answer
-  giving = record silent { values = number_value i32 ∷ [] }
+  giving = record silent { values = number_value i32 0 ∷ [] }
 
   abbrev pub giving_long : Answer
-  giving_long = record silent { values = number_value i64 ∷ [] }
+  giving_long = record silent { values = number_value i64 0 ∷ [] }
 
   abbrev pub deciding : Answer
   deciding = record silent { condition = true }
@@ -157,7 +158,7 @@ module _ (x : ℤ) where
       × ((step objects t a).outcome ≡ o)
 
   abbrev pub number_returned : Outcome
-  number_returned = returned (number_value i32 ∷ [])
+  number_returned = returned (number_value i32 0 ∷ [])
 
   pub record ObjectsWorked : Type 0 where
     pub valid : IsValidProgram objects
@@ -166,11 +167,11 @@ module _ (x : ℤ) where
     pub measuring_from : IsStarted objects (started measuring) (number i32 ∷ [])
     pub testing_from : IsStarted objects (started testing) (number i32 ∷ [])
     pub casting_from : IsStarted objects (started casting) (number i32 ∷ [])
-    pub struct_fits : Fits objects (ref_object triple) (ref false (exact triple))
-    pub below_fits : Fits objects (ref_object triple) (ref true (concrete pair))
-    pub abstract_fits : Fits objects (ref_object pair) (ref false (abstract false eq))
-    pub array_fits : Fits objects (ref_object octets) (ref true (abstract false array))
-    pub not_below : Fits objects (ref_object pair) (ref false (abstract false array)) → ⊥
+    pub struct_fits : Fits objects (ref_object 0 triple) (ref false (exact triple))
+    pub below_fits : Fits objects (ref_object 0 triple) (ref true (concrete pair))
+    pub abstract_fits : Fits objects (ref_object 0 pair) (ref false (abstract false eq))
+    pub array_fits : Fits objects (ref_object 0 octets) (ref true (abstract false array))
+    pub not_below : Fits objects (ref_object 0 pair) (ref false (abstract false array)) → ⊥
     pub read : Ends (started reading) (giving ∷ giving ∷ silent ∷ giving ∷ []) silent number_returned
     pub read_trapped : Ends (started reading) (giving ∷ giving ∷ silent ∷ []) trapping trapped
     pub read_above : Ends (started through_above) (giving ∷ giving ∷ giving_long ∷ silent ∷ giving ∷ []) silent

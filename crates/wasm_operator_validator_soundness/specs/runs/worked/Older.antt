@@ -89,7 +89,7 @@ older = record {
 }
 
 abbrev pub one : Value
-one = number_value i32
+one = number_value i32 0
 
 abbrev pub silent : Answer
 silent = record {
@@ -100,6 +100,7 @@ silent = record {
   traps = false;
   throws = None;
   leaves = 0;
+  made = 0;
 }
 
 abbrev pub giving : Answer

@@ -104,7 +104,7 @@ abbrev pub made : Code → Function
 made c = record { type = gives_i32; body = Some (record { locals = []; code = c }) }
 
 abbrev pub one : Value
-one = number_value i32
+one = number_value i32 0
 
 -- ---- answers
 
@@ -117,6 +117,7 @@ silent = record {
   traps = false;
   throws = None;
   leaves = 0;
+  made = 0;
 }
 
 abbrev pub giving : Value → Answer

@@ -114,10 +114,11 @@ module _ (x : ℤ) where
     traps = false;
     throws = None;
     leaves = 0;
+    made = 0;
   }
 
   abbrev pub giving : Answer
-  giving = record silent { values = number_value i32 ∷ [] }
+  giving = record silent { values = number_value i32 0 ∷ [] }
 
   -- the segment has two null references
   abbrev pub giving_nulls : Answer
@@ -125,7 +126,7 @@ module _ (x : ℤ) where
 
   -- bytes are copied
   abbrev pub giving_bytes : Answer
-  giving_bytes = record silent { values = number_value i32 ∷ number_value i32 ∷ [] }
+  giving_bytes = record silent { values = number_value i32 0 ∷ number_value i32 0 ∷ [] }
 
   abbrev pub trapping : Answer
   trapping = record silent { traps = true }
@@ -139,7 +140,7 @@ module _ (x : ℤ) where
       × ((step segments t a).outcome ≡ o)
 
   abbrev pub number_returned : Outcome
-  number_returned = returned (number_value i32 ∷ [])
+  number_returned = returned (number_value i32 0 ∷ [])
 
   pub record SegmentsWorked : Type 0 where
     pub valid : IsValidProgram segments

@@ -46,10 +46,10 @@ abbrev pub argument : MemArg
 argument = record { align = 0; max_align = 0; offset = 0; memory = 0; ordering = None; target = target.Memory }
 
 abbrev pub long : Value
-long = number_value i64
+long = number_value i64 0
 
 abbrev pub vector : Value
-vector = number_value v128
+vector = number_value v128 0
 
 -- with a constant of this number
 module _ (x : ℤ) where
@@ -87,15 +87,15 @@ module _ (x : ℤ) where
     pub lane_of_number : IsStuck (at (long ∷ []) (op.Simd (simd.I32x4ExtractLane 0)))
     pub vector_missing : IsStuck (at (vector ∷ vector ∷ []) (op.SimdNumeric lanes.V128Bitselect))
     pub nothing_dropped : IsStuck (at [] (op.Parametric op.Drop))
-    pub reference_selected : IsStuck (at (one ∷ ref_i31 ∷ ref_i31 ∷ []) (op.Parametric op.Select))
+    pub reference_selected : IsStuck (at (one ∷ (ref_i31 0) ∷ (ref_i31 0) ∷ []) (op.Parametric op.Select))
     pub no_reference : IsStuck (at (one ∷ []) (op.Bulk bulk.RefIsNull))
     pub parameter_missing : IsStuck (at_code [] (nested (op.Control (control.Block (block.FuncType 1))) end end))
     pub condition_wrong : IsStuck (at_code (long ∷ []) (nested (op.Control (control.If block.Empty)) end end))
     -- arguments, results, and what the caller awaits, whatever the function itself gives
     pub argument_wrong : IsStuck (at (ref_function None takes_i32 ∷ long ∷ []) (op.Control (control.CallRef 1)))
-    pub no_function : IsStuck (at (ref_object pair ∷ []) (op.Control (control.CallRef 0)))
+    pub no_function : IsStuck (at (ref_object 0 pair ∷ []) (op.Control (control.CallRef 0)))
     pub no_function_in_table : IsStuck (step (small x) (standing (number i32 ∷ []) (one ∷ [])
-        (plain (op.Control (control.CallIndirect 0 0)) end)) (record silent { held = ref_i31 }))
+        (plain (op.Control (control.CallIndirect 0 0)) end)) (record silent { held = (ref_i31 0) }))
     pub result_wrong : IsStuck (at_code (long ∷ []) end)
     pub result_left : IsStuck (at_code (one ∷ one ∷ []) end)
     pub owed_wrong : IsStuck (step (small x) (standing (number i64 ∷ []) (one ∷ []) end) silent)
@@ -128,27 +128,27 @@ module _ (x : ℤ) where
     pub type_unknown : IsStuck (at (one ∷ []) (op.Gc (gc.StructNew 9)))
     pub block_unknown : IsStuck (at_code [] (nested (op.Control (control.Block (block.FuncType 9))) end end))
     pub null_unknown : IsStuck (at [] (op.Bulk (bulk.RefNull nowhere)))
-    pub cast_unknown : IsStuck (at (ref_i31 ∷ []) (op.Gc (gc.RefTestNullable nowhere)))
+    pub cast_unknown : IsStuck (at ((ref_i31 0) ∷ []) (op.Gc (gc.RefTestNullable nowhere)))
     -- structs and arrays
     pub array_as_struct : IsStuck (at (one ∷ []) (op.Gc (gc.StructNew 4)))
     pub struct_as_array : IsStuck (at (one ∷ one ∷ []) (op.Gc (gc.ArrayNew 2)))
-    pub no_object : IsStuck (at (ref_i31 ∷ []) (op.Gc (gc.StructGet 2 0)))
-    pub field_unknown : IsStuck (at (ref_object pair ∷ []) (op.Gc (gc.StructGet 2 1)))
-    pub field_wrong : IsStuck (at (one ∷ ref_object triple ∷ []) (op.Gc (gc.StructSet 3 1)))
-    pub packed_as_whole : IsStuck (at (one ∷ ref_object octets ∷ []) (op.Gc (gc.ArrayGet 6)))
-    pub whole_as_packed : IsStuck (at (ref_object pair ∷ []) (op.Gc (gc.StructGetS 2 0)))
-    pub copied_apart : IsStuck (at (one ∷ one ∷ ref_object octets ∷ one ∷ ref_object halves ∷ [])
+    pub no_object : IsStuck (at ((ref_i31 0) ∷ []) (op.Gc (gc.StructGet 2 0)))
+    pub field_unknown : IsStuck (at (ref_object 0 pair ∷ []) (op.Gc (gc.StructGet 2 1)))
+    pub field_wrong : IsStuck (at (one ∷ ref_object 0 triple ∷ []) (op.Gc (gc.StructSet 3 1)))
+    pub packed_as_whole : IsStuck (at (one ∷ ref_object 0 octets ∷ []) (op.Gc (gc.ArrayGet 6)))
+    pub whole_as_packed : IsStuck (at (ref_object 0 pair ∷ []) (op.Gc (gc.StructGetS 2 0)))
+    pub copied_apart : IsStuck (at (one ∷ one ∷ ref_object 0 octets ∷ one ∷ ref_object 0 halves ∷ [])
         (op.Gc (gc.ArrayCopy 7 6)))
-    pub field_immutable : IsStuck (at (one ∷ one ∷ ref_object fixed ∷ []) (op.Gc (gc.ArraySet 8)))
-    pub initialised_immutable : IsStuck (at (one ∷ one ∷ one ∷ ref_object fixed ∷ []) (op.Gc (gc.ArrayInitData 8 0)))
-    pub no_array : IsStuck (at (ref_object pair ∷ []) (op.Gc gc.ArrayLen))
-    pub not_unboxed : IsStuck (at (ref_object pair ∷ []) (op.Gc gc.I31GetS))
-    pub not_compared : IsStuck (at (ref_i31 ∷ ref_function None takes_i32 ∷ []) (op.Gc gc.RefEq))
+    pub field_immutable : IsStuck (at (one ∷ one ∷ ref_object 0 fixed ∷ []) (op.Gc (gc.ArraySet 8)))
+    pub initialised_immutable : IsStuck (at (one ∷ one ∷ one ∷ ref_object 0 fixed ∷ []) (op.Gc (gc.ArrayInitData 8 0)))
+    pub no_array : IsStuck (at (ref_object 0 pair ∷ []) (op.Gc gc.ArrayLen))
+    pub not_unboxed : IsStuck (at (ref_object 0 pair ∷ []) (op.Gc gc.I31GetS))
+    pub not_compared : IsStuck (at ((ref_i31 0) ∷ ref_function None takes_i32 ∷ []) (op.Gc gc.RefEq))
     pub no_default : IsStuck (at [] (op.Gc (gc.StructNewDefault 5)))
     pub bytes_as_references : IsStuck (at (one ∷ one ∷ []) (op.Gc (gc.ArrayNewData 4 0)))
     pub data_unknown : IsStuck (at (one ∷ one ∷ []) (op.Gc (gc.ArrayNewData 6 9)))
     pub cast_elsewhere : IsStuck (at (ref_function None takes_i32 ∷ []) (op.Gc (gc.RefTestNullable a_struct)))
-    pub cast_across : IsStuck (at (ref_i31 ∷ []) (op.Gc (gc.BrOnCast 0 (to_heap heap.Any) (to_heap heap.Func))))
+    pub cast_across : IsStuck (at ((ref_i31 0) ∷ []) (op.Gc (gc.BrOnCast 0 (to_heap heap.Any) (to_heap heap.Func))))
     -- no activation is left
     pub nothing_runs : IsStuck (step (small x) [] silent)
 
@@ -160,16 +160,16 @@ module _ (x : ℤ) where
     pub own_results : (step (small x) (standing [] (ref_function None gives_i64 ∷ [])
         (plain (op.Control (control.CallRef 0)) end)) (giving one)).is_answer
         → Fits (small x) one (number i64)
-    pub own_field_written : (at (one ∷ ref_object wide ∷ []) (op.Gc (gc.StructSet 2 0))).needs
+    pub own_field_written : (at (one ∷ ref_object 0 wide ∷ []) (op.Gc (gc.StructSet 2 0))).needs
         → Fits (small x) one (number i64)
-    pub own_field_read : (step (small x) (standing [] (ref_object wide ∷ []) (plain (op.Gc (gc.StructGet 2 0)) end))
+    pub own_field_read : (step (small x) (standing [] (ref_object 0 wide ∷ []) (plain (op.Gc (gc.StructGet 2 0)) end))
         (giving one)).is_answer
         → Fits (small x) one (number i64)
-    pub inherited_field : (at (one ∷ ref_object triple ∷ []) (op.Gc (gc.StructSet 2 0))).outcome ≡ next
+    pub inherited_field : (at (one ∷ ref_object 0 triple ∷ []) (op.Gc (gc.StructSet 2 0))).outcome ≡ next
         (standing (number i32 ∷ []) [] end)
-    pub cast_fits : (step (small x) (standing [] (ref_i31 ∷ []) (plain (op.Gc (gc.RefCastNullable a_struct)) end))
+    pub cast_fits : (step (small x) (standing [] ((ref_i31 0) ∷ []) (plain (op.Gc (gc.RefCastNullable a_struct)) end))
         deciding).is_answer
-        → Fits (small x) ref_i31 (ref false (abstract false struct))
+        → Fits (small x) (ref_i31 0) (ref false (abstract false struct))
     pub null_passes : (at (ref_null false any ∷ []) (op.Gc (gc.RefCastNullable a_struct))).outcome ≡ next
         (standing (number i32 ∷ []) (ref_null false any ∷ []) end)
     pub null_falls : (step (small x) (standing [] (ref_null false any ∷ [])

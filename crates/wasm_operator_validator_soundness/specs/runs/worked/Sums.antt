@@ -78,7 +78,7 @@ module _ (x : ℤ) where
   }
 
   abbrev pub one : Value
-  one = number_value i32
+  one = number_value i32 0
 
   abbrev pub silent : Answer
   silent = record {
@@ -89,6 +89,7 @@ module _ (x : ℤ) where
     traps = false;
     throws = None;
     leaves = 0;
+    made = 0;
   }
 
   abbrev pub giving : Answer

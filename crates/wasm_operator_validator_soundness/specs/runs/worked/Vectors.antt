@@ -72,13 +72,14 @@ module _ (x : ℤ) (c : V128) where
     traps = false;
     throws = None;
     leaves = 0;
+    made = 0;
   }
 
   abbrev pub giving : Answer
-  giving = record silent { values = number_value i32 ∷ [] }
+  giving = record silent { values = number_value i32 0 ∷ [] }
 
   abbrev pub giving_vector : Answer
-  giving_vector = record silent { values = number_value v128 ∷ [] }
+  giving_vector = record silent { values = number_value v128 0 ∷ [] }
 
   abbrev pub trapping : Answer
   trapping = record silent { traps = true }
@@ -92,14 +93,14 @@ module _ (x : ℤ) (c : V128) where
       × ((step vectors t a).outcome ≡ o)
 
   abbrev pub number_returned : Outcome
-  number_returned = returned (number_value i32 ∷ [])
+  number_returned = returned (number_value i32 0 ∷ [])
 
   pub record VectorsWorked : Type 0 where
     pub valid : IsValidProgram vectors
     pub adding_from : IsStarted vectors (started adding) (number i32 ∷ [])
     pub moving_from : IsStarted vectors (started moving) (number i32 ∷ [])
-    pub vector_fits : Fits vectors (number_value v128) (number v128)
-    pub no_number : Fits vectors (number_value v128) (number i64) → ⊥
+    pub vector_fits : Fits vectors (number_value v128 0) (number v128)
+    pub no_number : Fits vectors (number_value v128 0) (number i64) → ⊥
     pub added : Ends (started adding) (giving_vector ∷ giving ∷ giving_vector ∷ giving_vector ∷ giving ∷ giving_vector
         ∷ giving ∷ []) silent number_returned
     pub added_trapped : Ends (started adding) (giving_vector ∷ giving ∷ []) trapping trapped

@@ -1,13 +1,13 @@
 -- By the laws of one piece more.
-use Rattle.std.proofs.Common.{◌≡◌, ◌<◌, ◌+◌, ◌^◌, ℕ, List, ◌++◌, length, rules, ap}
-use Rattle.wasm_types.specs.decoding.ErrorValue.{ErrorValue}
+use Rattle.std.proofs.Common.{◌≡◌, ◌<◌, ◌≤◌, ◌+◌, ◌^◌, ◌++◌, length, rules}
 use Rattle.wasm_module_validator_streaming.specs.declared.pieces.ModuleInPieces.{ModuleInPieces}
-use Rattle.wasm_module_validator_streaming.proofs.HandedModule.{judged_of, came_of, memory_refuses, has_room, is_pending, piece_judged, piece_refused}
+use Rattle.wasm_module_validator_streaming.proofs.HandedModule.{judged_of, came_of, has_room, is_pending, piece_judged, piece_refused, too_many}
 use Rattle.wasm_module_validator_streaming.proofs.pieces.ModuleInPieces.advance.Goals as goal
 
 pub returns-in_default-clause-err : goal.returns-in_default-clause-err
 returns-in_default-clause-err c z id got h =
-    memory_refuses z id (got ++ c.args.bytes.now) c.args.self.now c.out_of_memory.result (ap (λ (e : ErrorValue). e.kind) c.out_of_memory.ensures)
+    let many : 2 ^ 64 ≤ c.args.self.now.came + length c.args.bytes.now = search rules in
+    too_many z id got c.args.self.now c.requires.going h c.args.bytes.now many
 
 pub take_handed-requires-clause-room : goal.take_handed-requires-clause-room
 take_handed-requires-clause-room c =
@@ -32,4 +32,4 @@ pub returns-in-Err-clause-err : goal.returns-in-Err-clause-err
 returns-in-Err-clause-err c z id got h =
     let p : ModuleInPieces = c.args.self.now in
     let few : p.came + length c.args.bytes.now < 2 ^ 64 = search rules in
-    piece_refused z id got p (judged_of z id got p c.requires.going h) c.args.bytes.now few c.in-Err.error c.in-Err.ensures.err
+    piece_refused z id got p (judged_of z id got p c.requires.going h) c.args.bytes.now few p.most c.in-Err.error c.in-Err.ensures.err

@@ -2,16 +2,21 @@
 use Rattle.std.proofs.Common.{ℕ, false, List, sym, subst}
 use Rattle.wasm_module_validator_streaming.specs.Taking.{IsMidst}
 use Rattle.wasm_module_validator_streaming.specs.Verdicts.{StandsAt}
-use Rattle.wasm_module_validator_streaming.proofs.HandedModule.{end_refused, end_told, last_midst, refusal_of}
+use Rattle.wasm_module_validator_streaming.proofs.HandedModule.{end_accepted, end_denied, end_refused, last_midst, refusal_of}
 use Rattle.wasm_module_validator_streaming.proofs.pieces.ModuleInPieces.end.Goals as goal
 
 pub conclude-requires : goal.conclude-requires
 conclude-requires c = subst (λ (l : List ℕ). IsMidst StandsAt false l c.args.self.judging) (sym c.as_slice.ensures.value) (last_midst c.args.self c.in-None.is c.requires)
 
 pub returns-in-Some-clause-told : goal.returns-in-Some-clause-told
-returns-in-Some-clause-told c z id got h room = end_refused z got c.in-Some.error room (refusal_of z id got c.args.self c.in-Some.error c.in-Some.is h)
+returns-in-Some-clause-told c z id got h room = end_refused z id c.args.self.most got c.in-Some.error room (refusal_of z id got c.args.self c.in-Some.error c.in-Some.is h)
+
+pub returns-in-Ok-clause-told : goal.returns-in-Ok-clause-told
+returns-in-Ok-clause-told c z id got h room =
+    end_accepted z id got c.args.self c.in-None.is h c.in-Ok.types
+    (λ first before s fits. c.in-Ok.ensures first before (subst (λ (l : List ℕ). StandsAt first before false l c.args.self.judging) (sym c.as_slice.ensures.value) s) fits)
 
 pub returns-clause-told : goal.returns-clause-told
 returns-clause-told c z id got h room =
-    end_told z id got c.args.self c.in-None.is h c.conclude.result
-    (λ first before s fits. c.conclude.ensures first before (subst (λ (l : List ℕ). StandsAt first before false l c.args.self.judging) (sym c.as_slice.ensures.value) s) fits)
+    end_denied z id got c.args.self c.in-None.is h c.in-Err.error
+    (λ first before s fits. c.in-Err.ensures first before (subst (λ (l : List ℕ). StandsAt first before false l c.args.self.judging) (sym c.as_slice.ensures.value) s) fits)

@@ -1,5 +1,8 @@
-use Rattle.wasm_module_validator_type_storage.specs.displays.Entries.{AreDisplays}
+use Rattle.std.specs.Prelude.{◌≡◌, ℕ, length}
+use Rattle.wasm_module_validator_type_storage.specs.displays.Entries.{AreSoFar}
 use Rattle.wasm_module_validator_type_storage.proofs.displays.filling.fill.Given as goal
 
 abbrev pub invariant-types : goal.invariant-types
-invariant-types l = AreDisplays l.supertypes.items l.entries.items l.displays.items
+invariant-types l = AreSoFar l.supertypes.items l.displays l.entries 0
+    × ((further : ℕ) → AreSoFar l.supertypes.items l.fn.displays l.fn.entries further → AreSoFar l.supertypes.items l.displays l.entries further)
+    × (l.number ≡ length l.displays.items)

@@ -3,5 +3,5 @@ use Rattle.wasm_operator_validator_fast_loop.proofs.judge.Room.accepts.Goals as 
 
 pub returns : goal.returns
 returns c = λ e ids z g fits params others.
-    whole_body c.args.tables.now c.args.bytes.now c.args.start c.replace-stack.result (rw c.replace-stack.ensures.value (c.begin-else-not-begin.ensures c.if-not-begin-2.false)) ids z g fits
-    (rw (c.body_frame-frame.ensures, c.begin.ensures c.if-not-begin.false) at (c.run-valid.ensures e ids z g fits)) params others
+    whole_body c.args.tables.now c.args.bytes.now c.args.start c.replace-stack.result (rw c.replace-stack.ensures.value (c.begin.ensures c.if-not-begin.false)) ids z g fits
+    (rw (c.in-Some.ensures, c.body_frame.ensures) at (c.run-valid.ensures e ids z g fits)) params others

@@ -1,0 +1,5 @@
+pub mod InLine
+pub mod ListLemmas
+pub mod FeatureLemmas
+pub mod RowsOfLists
+pub mod LimitLemmas

@@ -1,0 +1,16 @@
+use Rattle.std.proofs.Common.{refl, rules}
+use Rattle.wasm_check_lines.specs.FeatureWords.{feature_words}
+use Rattle.wasm_check_faults.specs.FeatureLists.{word_of}
+use Rattle.wasm_check_faults.proofs.FeatureLemmas.{rows_are, named_here, named_nowhere}
+use Rattle.wasm_check_faults.proofs.features.feature_meant.Goals as goal
+
+pub returns-then-is_meant : goal.returns-then-is_meant
+unfolding feature_words
+returns-then-is_meant c =
+    named_here c.flags-flags.result.now (word_of c.args.word.now) c.loop-flag.flag-index (rows_are c.flags-flags.result.now _ (c.flags-flags.ensures tt) refl) c.loop-flag.invariant
+    _ c.name.result.now c.value.result.now (search rules) c.name.ensures c.value.ensures (search rules)
+
+pub returns : goal.returns
+unfolding feature_words
+returns c =
+    named_nowhere c.flags-flags.result.now (word_of c.args.word.now) c.loop-flag.flag-index (rows_are c.flags-flags.result.now _ (c.flags-flags.ensures tt) refl) c.loop-flag.invariant (search rules)

@@ -1,0 +1,117 @@
+-- What fits in a store (WebAssembly 3.0, appendix, soundness, store validity), and what becomes of a store (store extension).
+use Rattle.std.specs.Prelude.{◌≡◌, ◌≤◌, ℕ, false, List, [], ◌∷◌, length, Option, Some, None, slice_get}
+use Rattle.wasm_types.specs.trees.Types.{any, abstract, ref, FieldOf, InnerOf, array_of, struct_of}
+use Rattle.wasm_types.specs.trees.Trees.{TypeTree}
+use Rattle.wasm_types.specs.trees.Below.{expanded}
+use Rattle.wasm_operator_validator_rules.specs.Operands.{ValueType, stack}
+use Rattle.wasm_operator_validator_rules.specs.Context.{Table, Global, Signature, IsFunctionType}
+use Rattle.wasm_operator_validator_soundness.specs.runs.Values.{Program, Value, ref_object, ref_exn, ref_extern, Fits, AllFit}
+use Rattle.wasm_operator_validator_soundness.specs.runs.States.{Exception, Label, Activation, State, Outcome, next, returned, trapped, thrown, stuck}
+use Rattle.wasm_operator_validator_soundness.specs.runs.ValidStates.{IsThrown}
+use Rattle.wasm_operator_validator_soundness.specs.runs.Machine.{operand_of}
+use Rattle.wasm_operator_validator_store.specs.Stores.{ObjectInstance, ExceptionInstance, Store, field_at, table_in}
+
+-- each of a list, and each with what stands in the same place of another list
+abbrev pub Each : {A : Type 0} → (A → Type 0) → List A → Type 0
+Each P [] = Unit {0}
+Each P (x ∷ xs) = P x × Each P xs
+
+abbrev pub Pairs : {A B : Type 0} → (A → B → Type 0) → List A → List B → Type 0
+Pairs P [] [] = Unit {0}
+Pairs P [] (y ∷ ys) = ⊥
+Pairs P (x ∷ xs) [] = ⊥
+Pairs P (x ∷ xs) (y ∷ ys) = P x y × Pairs P xs ys
+
+-- ---- what is there
+
+-- what a reference names is in the store, and of the type that it was made with
+abbrev pub Knows : Store → Value → Type 0
+Knows s (ref_object k t) = (o : ObjectInstance) × (slice_get s.objects k ≡ Some o) × (o.type ≡ t)
+Knows s (ref_exn k t) = (x : ExceptionInstance) × (slice_get s.exceptions k ≡ Some x)
+    × (slice_get s.tags x.tag ≡ Some t)
+Knows s (ref_extern k) = (v : Value) × (slice_get s.externs k ≡ Some v)
+Knows s v = Unit {0}
+
+module _ (K : Value → Type 0) where
+  abbrev pub HasLocal : Option Value → Type 0
+  HasLocal None = Unit {0}
+  HasLocal (Some v) = K v
+
+  abbrev pub HasCaught : Option Exception → Type 0
+  HasCaught None = Unit {0}
+  HasCaught (Some e) = K (ref_exn e.address e.type)
+
+  pub record HasLabel (l : Label) : Type 0 where
+    pub values : Each K l.values
+    pub caught : HasCaught l.caught
+
+  pub record HasActivation (act : Activation) : Type 0 where
+    pub locals : Each HasLocal act.locals
+    pub innermost : HasLabel act.innermost
+    pub around : Each HasLabel act.around
+
+  -- each value of a state, and of what a step comes to
+  abbrev pub HasState : State → Type 0
+  HasState s = Each HasActivation s
+
+  abbrev pub HasOutcome : Outcome → Type 0
+  HasOutcome (next s) = HasState s
+  HasOutcome (returned vs) = Each K vs
+  HasOutcome (thrown t vs) = Each K vs
+  HasOutcome trapped = Unit {0}
+  HasOutcome stuck = Unit {0}
+
+-- ---- what fits
+
+module _ (p : Program) (s : Store) where
+  -- a value of a type, which is in the store
+  abbrev pub Has : ValueType → Value → Type 0
+  Has t v = Fits p v t × Knows s v
+
+  abbrev pub HasField : FieldOf TypeTree → Value → Type 0
+  HasField f v = Has (operand_of f.storage) v
+
+  -- a value for each field of a struct; any number of elements of an array
+  abbrev pub FieldsFit : InnerOf TypeTree → List Value → Type 0
+  FieldsFit (struct_of fs) vs = Pairs HasField fs vs
+  FieldsFit (array_of f) vs = Each (HasField f) vs
+  FieldsFit _ vs = ⊥
+
+  abbrev pub ObjectFits : ObjectInstance → Type 0
+  ObjectFits o = FieldsFit (expanded o.type) o.fields
+
+  abbrev pub ThrownFits : ExceptionInstance → Type 0
+  ThrownFits x = (t : TypeTree) × (slice_get s.tags x.tag ≡ Some t)
+      × ((b : Signature) → IsFunctionType t b → AllFit p x.values (stack b.params)) × Each (Knows s) x.values
+
+  pub record StoreFits : Type 0 where
+    pub globals : Pairs (λ (g : Global) v. Has g.content v) p.«module».globals s.globals
+    pub tables : Pairs (λ (t : Table) vs. Each (Has t.element) vs) p.«module».tables s.tables
+    pub segments : Pairs (λ t vs. Each (Has t) vs) p.«module».elements s.segments
+    pub objects : Each ObjectFits s.objects
+    pub exceptions : Each ThrownFits s.exceptions
+    pub tags : Each IsThrown s.tags
+    pub externs : Each (Has (ref false (abstract false any))) s.externs
+    pub addresses : Pairs (λ t k. slice_get s.tags k ≡ Some t) p.«module».tags s.tag_addresses
+
+-- ---- what becomes of a store
+
+-- an object keeps its type, its size and what is immutable in it
+pub record IsLater (o q : ObjectInstance) : Type 0 where
+  pub type : q.type ≡ o.type
+  pub size : length q.fields ≡ length o.fields
+  pub kept : (i : ℕ) (f : FieldOf TypeTree) → field_at (expanded o.type) i ≡ Some f → f.mutable ≡ false
+      → slice_get q.fields i ≡ slice_get o.fields i
+
+-- Whatever is in a store stays in it. Objects are later ones, exceptions and the like do not change, and neither do immutable globals.
+pub record Evolves (p : Program) (s u : Store) : Type 0 where
+  pub globals : (x : ℕ) (g : Global) → slice_get p.«module».globals x ≡ Some g → g.mutable ≡ false
+      → slice_get u.globals x ≡ slice_get s.globals x
+  pub tables : (x : ℕ) → length (table_in s x) ≤ length (table_in u x)
+  pub objects : (k : ℕ) (o : ObjectInstance) → slice_get s.objects k ≡ Some o → (q : ObjectInstance)
+      × (slice_get u.objects k ≡ Some q) × IsLater o q
+  pub exceptions : (k : ℕ) (x : ExceptionInstance) → slice_get s.exceptions k ≡ Some x
+      → slice_get u.exceptions k ≡ Some x
+  pub tags : (k : ℕ) (t : TypeTree) → slice_get s.tags k ≡ Some t → slice_get u.tags k ≡ Some t
+  pub externs : (k : ℕ) (v : Value) → slice_get s.externs k ≡ Some v → slice_get u.externs k ≡ Some v
+  pub addresses : u.tag_addresses ≡ s.tag_addresses

@@ -1,0 +1,160 @@
+-- What runs in the worked rows, over which store: a small program with one of each.
+use Rattle.std.specs.Prelude.{◌≡◌, ℕ, ℤ, pos, true, false, List, [], ◌∷◌, ◌++◌, Some, None}
+use Rattle.wasm_types.specs.trees.Types.{any, func, abstract, number, ref, i32}
+use Rattle.wasm_types.specs.trees.Trees.{TypeTree}
+use Rattle.wasm_types.specs.externs.declared.memory.MemoryType.{MemoryType}
+use Rattle.wasm_operators_immediates.specs.declared.block.BlockType.TheVariants as block
+use Rattle.wasm_operators_immediates.specs.declared.handlers.Catch.TheVariants as catch
+use Rattle.wasm_operators_enums.specs.declared.bulk.BulkOperator.{BulkOperator}
+use Rattle.wasm_operators_enums.specs.declared.constant.ConstOperator.TheVariants as const
+use Rattle.wasm_operators_enums.specs.declared.control.ControlOperator.{ControlOperator}
+use Rattle.wasm_operators_enums.specs.declared.control.ControlOperator.TheVariants as control
+use Rattle.wasm_operators_enums.specs.declared.gc.GcOperator.{GcOperator}
+use Rattle.wasm_operators_enums.specs.declared.memory.MemoryOperator.{MemoryOperator}
+use Rattle.wasm_operators_enums.specs.Op as op
+use Rattle.wasm_operators_enums.specs.Op.{Op}
+use Rattle.wasm_operators_encoding.specs.expressions.Code.{Code, plain}
+use Rattle.wasm_operator_validator_rules.specs.Operands.{ValueType}
+use Rattle.wasm_operator_validator_soundness.specs.runs.Values.{Function, Program, Value, number_value, ref_null, ref_function, ref_object, ref_i31}
+use Rattle.wasm_operator_validator_soundness.specs.runs.States.{Activation, State, Answer, Outcome, returned}
+use Rattle.wasm_operator_validator_soundness.specs.runs.Machine.{begun_with}
+use Rattle.wasm_operator_validator_soundness.specs.runs.Soundness.{step}
+use Rattle.wasm_operator_validator_soundness.specs.runs.worked.Runs.{small, standing, silent, end, gives_i32, takes_i32, pair, cells, octets}
+use Rattle.wasm_operator_validator_store.specs.Stores.{ObjectInstance, Store, nothing}
+use Rattle.wasm_operator_validator_store.specs.Giving.{GivesStep}
+use Rattle.wasm_operator_validator_store.specs.Soundness.{StoreRuns}
+
+-- ---- values
+
+abbrev pub num : ℕ → Value
+num b = number_value i32 b
+
+abbrev pub first_pair : Value
+first_pair = ref_object 0 pair
+
+abbrev pub other_pair : Value
+other_pair = ref_object 1 pair
+
+abbrev pub some_cells : Value
+some_cells = ref_object 2 cells
+
+abbrev pub some_octets : Value
+some_octets = ref_object 3 octets
+
+abbrev pub scalar : Value
+scalar = ref_i31 4
+
+-- ---- a store
+
+abbrev pub object : TypeTree → List Value → ObjectInstance
+object t vs = record { type = t; fields = vs }
+
+abbrev pub objects : List ObjectInstance
+objects = object pair (num 7 ∷ []) ∷ object pair (num 8 ∷ []) ∷ object cells (nothing ∷ nothing ∷ nothing ∷ [])
+    ∷ object octets (num 511 ∷ num 128 ∷ []) ∷ []
+
+abbrev pub own : Value
+own = ref_function (Some 0) gives_i32
+
+abbrev pub store : Store
+store = record {
+  globals = num 1 ∷ num 2 ∷ [];
+  tables = (ref_null false func ∷ ref_null false func ∷ []) ∷ [];
+  segments = (own ∷ own ∷ []) ∷ (first_pair ∷ scalar ∷ []) ∷ [];
+  objects = objects;
+  exceptions = record { tag = 1; values = num 6 ∷ [] } ∷ [];
+  tags = takes_i32 ∷ takes_i32 ∷ [];
+  externs = [];
+  tag_addresses = 1 ∷ 0 ∷ [];
+}
+
+-- ---- answers
+
+abbrev pub giving : List Value → Answer
+giving vs = record silent { values = vs }
+
+abbrev pub making : ℕ → Answer
+making b = record silent { made = b }
+
+abbrev pub trapping : Answer
+trapping = record silent { traps = true }
+
+-- a call through a table finds this, of the right type
+abbrev pub finding : Value → Answer
+finding v = record silent { held = v; condition = true }
+
+-- an exception at this address leaves so many labels, and this clause catches it
+abbrev pub throwing : ℕ → ℕ → ℕ → Answer
+throwing k leaves clause = record silent { made = k; leaves = leaves; index = clause }
+
+abbrev pub numbers : List ValueType
+numbers = number i32 ∷ []
+
+-- a handler whose first clause is for the other tag
+abbrev pub guarded : Op
+guarded = op.Exception (op.TryTable (record { ty = block.Empty; catches = catch.OneRef 1 0 ∷ catch.One 0 0 ∷ [] }))
+
+-- ---- what runs
+
+-- a page of memory, and a function of the host
+abbrev pub one_page : MemoryType
+one_page = record { memory64 = false; shared = false; initial = 1; maximum = None; page_size_log2 = None }
+
+abbrev pub of_host : Function
+of_host = record { type = gives_i32; body = None }
+
+-- The small program and a function of the host, with a table of functions, a segment of them and one of references, two globals, two tags
+-- of one type, and a memory.
+abbrev pub program : Program
+program = record (small (pos 5)) {
+  «module» = record (small (pos 5)).«module» {
+    functions = (small (pos 5)).«module».functions ++ gives_i32 ∷ [];
+    tables = record { element = ref true (abstract false func); table64 = false; shared = false } ∷ [];
+    memories = one_page ∷ [];
+    elements = ref true (abstract false func) ∷ ref true (abstract false any) ∷ [];
+    globals = record { content = number i32; mutable = true; shared = false }
+        ∷ record { content = number i32; mutable = false; shared = false } ∷ [];
+    tags = takes_i32 ∷ takes_i32 ∷ [];
+  };
+  functions = (small (pos 5)).functions ++ of_host ∷ [];
+}
+
+-- one activation that gives these types, with a local, over these values
+abbrev pub in_place : List ValueType → List Value → Code → State
+in_place ts vs c =
+    let act : Activation = begun_with (number i32 ∷ []) ts false (Some (num 0) ∷ []) ts c in record act
+    { innermost = record act.innermost { values = vs } } ∷ []
+
+-- A state comes, under answers that the store gives, to this outcome; and so does code above these values.
+abbrev pub LeadsFrom : State → List Answer → Answer → Outcome → Type 0
+LeadsFrom x answers a o = (w : Store) × (y : State) × (u : Store) × StoreRuns program store x answers w y
+    × GivesStep program y w a u × ((step program y a).outcome ≡ o)
+
+abbrev pub Leads : Code → List Value → List Answer → Answer → Outcome → Type 0
+Leads c vs answers a o = LeadsFrom (standing numbers vs c) answers a o
+
+abbrev pub returns : ℕ → Outcome
+returns b = returned (num b ∷ [])
+
+-- ---- code
+
+abbrev pub gc_then : GcOperator → Code → Code
+gc_then o more = plain (op.Gc o) more
+
+abbrev pub bulk_then : BulkOperator → Code → Code
+bulk_then o more = plain (op.Bulk o) more
+
+abbrev pub control_then : ControlOperator → Code → Code
+control_then o more = plain (op.Control o) more
+
+abbrev pub memory_then : MemoryOperator → Code → Code
+memory_then o more = plain (op.Memory o) more
+
+abbrev pub const_then : ℤ → Code → Code
+const_then n more = plain (op.Const (const.I32Const n)) more
+
+abbrev pub drop_then : Code → Code
+drop_then more = plain (op.Parametric op.Drop) more
+
+abbrev pub unreachable : Code
+unreachable = control_then control.Unreachable end

@@ -1,0 +1,45 @@
+//! Runs of a valid program over a store: globals, tables, segments, objects and exceptions hold what was written last.
+//!
+//! There is no code here but the laws, each on the contract of a function that does nothing. `specs/` is read in the order of its
+//! `Lib.antt`: the store, which clause catches, what fits in a store, what a store gives to each operator, and the laws.
+#![tactic(auto)]
+
+ghost use Rattle.wasm_operator_validator_store.specs.Instantiation.{FirstStoresFit};
+ghost use Rattle.wasm_operator_validator_store.specs.Soundness.{ImmutableIsKept, StoreConstantsAreSound, StoreRunsAreSound, StoreStepsAreSound};
+ghost use Rattle.wasm_operator_validator_store.specs.worked.Arms.{ArmsWorked};
+ghost use Rattle.wasm_operator_validator_store.specs.worked.Rows.{RowsWorked};
+
+/// What a store gives at a step is an answer of the machine that has no store. The step has what it needs, and all fits again.
+pub fn store_steps_are_sound()
+    ensures { StoreStepsAreSound }
+{}
+
+/// A run over a store is a run of the machine that has none, is never stuck, and all fits on the way.
+pub fn store_runs_are_sound()
+    ensures { StoreRunsAreSound }
+{}
+
+/// A constant over a store gives a value of its type, and leaves a store in which all fits.
+pub fn store_constants_are_sound()
+    ensures { StoreConstantsAreSound }
+{}
+
+/// In the first store of a program all fits: what the host gives, and what constants come to.
+pub fn first_stores_fit()
+    ensures { FirstStoresFit }
+{}
+
+/// An immutable global, field or element is what it was.
+pub fn immutable_is_kept()
+    ensures { ImmutableIsKept }
+{}
+
+/// Steps over a store: what is read is what was written last, and what traps.
+pub fn rows_are_worked()
+    ensures { RowsWorked }
+{}
+
+/// Steps over a store: each way in which an operator goes on.
+pub fn arms_are_worked()
+    ensures { ArmsWorked }
+{}
