@@ -121,6 +121,7 @@ pub record IsLawful {A : Type 0} (d : Decoder A) : Type 0 where
 
 -- ---- grammars
 
+-- standard: binary-grammar: productions and their attributes
 -- which bytes spell a value; a grammar knows nothing of states
 abbrev pub Grammar : Type 0 → Type 1
 Grammar A = A → List ℕ → Type 0
@@ -139,6 +140,7 @@ pub record Then {A B : Type 0} (g : Grammar A) (h : A → Grammar B) (y : B) (te
   pub second : h value y back
   pub whole : text ≡ front ++ back
 
+-- standard: binary-grammar: A^n
 -- each of the values, one after the other, n of them
 abbrev pub Many : {A : Type 0} → Grammar A → ℕ → Grammar (List A)
 Many g zero [] text = text ≡ []

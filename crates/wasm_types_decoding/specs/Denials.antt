@@ -4,6 +4,7 @@ use Rattle.wasm_types_decoding.specs.ErrorValue.{ErrorValue}
 use Rattle.wasm_types_decoding.specs.declared.error.ErrorKind.{ErrorKind}
 use Rattle.wasm_types_decoding.specs.declared.error.ErrorKind.TheVariants.{EndOfData, MissingFeature, OutOfMemory, Failed, Other}
 
+-- standard: none: what a refusal says, by its kind
 -- the fact does not hold, unless memory ran out
 abbrev pub Denies : ErrorKind → Type 0 → Type 0
 Denies (EndOfData h) P = ¬ P
@@ -12,6 +13,7 @@ Denies OutOfMemory P = Unit {0}
 Denies Failed P = ¬ P
 Denies Other P = ¬ P
 
+-- standard: none: what an answer says
 -- Ok exactly where the fact holds, unless memory ran out
 abbrev pub Tells : {X : Type 0} → Result X ErrorValue → Type 0 → Type 0
 Tells (Ok x) P = P

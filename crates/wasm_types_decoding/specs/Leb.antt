@@ -3,6 +3,7 @@ use Rattle.std.specs.Prelude.{◌≡◌, ℕ, zero, suc, ◌+◌, ◌-◌, ◌*�
 use Rattle.wasm_types_decoding.specs.declared.Refusal.TheVariants.{Other}
 use Rattle.wasm_types_decoding.specs.Decoder.{Decoder, Grammar, ◌>>=◌, pure, refuse, byte, repeated, Many}
 
+-- standard: binary-int: uN
 -- uN ::= n:byte         => n                          if n < 2^7 and n < 2^N
 --      | n:byte m:u(N-7) => 2^7 * m + (n - 2^7)        if n >= 2^7 and N > 7
 pub data IsUnsigned : ℕ → ℕ → List ℕ → Type 0 where
@@ -23,6 +24,7 @@ u32 = unsigned 4 4
 abbrev pub u64 : Decoder ℕ
 u64 = unsigned 9 1
 
+-- standard: binary-int: sN
 -- sN ::= n:byte           => n                         if n < 2^6 and n < 2^(N-1)
 --      | n:byte           => n - 2^7                   if 2^6 <= n < 2^7 and n >= 2^7 - 2^(N-1)
 --      | n:byte m:s(N-7)  => 2^7 * m + (n - 2^7)       if n >= 2^7 and N > 7
@@ -63,6 +65,7 @@ s64 = signed 9 1
 unfoldable pub listed : {A : Type 0} → Decoder A → Decoder (List A)
 listed d = u32 >>= λ n. repeated n d
 
+-- standard: binary-list: list(X)
 -- list(X) ::= n:u32 (x:X)^n => x^n (binary format, conventions, lists)
 pub record IsListed {A : Type 0} (g : Grammar A) (xs : List A) (text : List ℕ) : Type 0 where
   pub count : List ℕ

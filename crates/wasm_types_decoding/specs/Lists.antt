@@ -28,6 +28,7 @@ pub record IsSizeWithin (limit n : ℕ) (text : List ℕ) : Type 0 where
   pub number : IsUnsigned 32 n text
   pub within : n ≤ limit
 
+-- standard: impl: list(X) with at most as many values as the limit
 -- a list of at most limit values (appendix, implementation limitations)
 pub record IsListedWithin {A : Type 0} (limit : ℕ) (g : Grammar A) (xs : List A) (text : List ℕ) : Type 0 where
   pub listed : IsListed g xs text

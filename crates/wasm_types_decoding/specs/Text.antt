@@ -8,11 +8,13 @@ use Rattle.wasm_types_decoding.specs.Leb.{IsUnsigned, u32}
 
 -- ---- words
 
+-- standard: binary-float: little-endian bytes
 -- littleendian: the number whose bytes these are, the lowest first
 abbrev pub little_endian : List ℕ → ℕ
 little_endian [] = 0
 little_endian (b ∷ text) = b + 256 * little_endian text
 
+-- standard: binary-float: fN, and other numbers of fixed width
 -- a number in n bytes, the lowest first
 pub record IsWord (n v : ℕ) (text : List ℕ) : Type 0 where
   pub count : length text ≡ n
@@ -40,6 +42,7 @@ skipped n = bytes n >>= λ text. pure tt
 unfoldable pub counted_within : {A : Type 0} → ℕ → (ℕ → Decoder A) → Decoder A
 counted_within limit f = u32 >>= λ n. if nat_lt limit n then refuse Other 1 else f n
 
+-- standard: binary-name: name
 -- name ::= b*:list(byte) => name  if utf8(name) = b*
 pub record IsAnyName (content text : List ℕ) : Type 0 where
   pub count : List ℕ
@@ -47,6 +50,7 @@ pub record IsAnyName (content text : List ℕ) : Type 0 where
   pub utf8 : IsUtf8 content
   pub whole : text ≡ count ++ content
 
+-- standard: impl: name of at most as many bytes as the limit
 -- the same, of at most limit bytes
 pub record IsName (limit : ℕ) (content text : List ℕ) : Type 0 where
   pub name : IsAnyName content text
@@ -70,6 +74,7 @@ skipped_name limit = counted_within limit skipped
 abbrev pub Within : {A : Type 0} → ℕ → Grammar A → Grammar A
 Within n g x text = (length text ≡ n) × g x text
 
+-- standard: binary-section: size and content, as of a section and of a function's code
 -- a size, and x in exactly as many bytes
 pub record IsSized {A : Type 0} (g : Grammar A) (x : A) (text : List ℕ) : Type 0 where
   pub size : List ℕ

@@ -9,6 +9,7 @@ use Rattle.wasm_types_values.specs.Spelled.{SpelledValue, SpelledStorage}
 use Rattle.wasm_types_fields.specs.declared.field.FieldType.{FieldType}
 use Rattle.wasm_types_fields.specs.Signatures.{Signature}
 
+-- standard: binary-mut: mut
 -- whether a field may be written
 abbrev pub IsMutability : Grammar Bool
 IsMutability false text = text ≡ 0x00 ∷ []

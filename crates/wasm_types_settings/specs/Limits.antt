@@ -3,6 +3,7 @@
 use Rattle.std.specs.Prelude.{ℕ, ◌≤◌}
 use Rattle.wasm_types_settings.specs.declared.Limits.{Limits}
 
+-- standard: impl: implementation limitations
 -- by default
 unfoldable pub default_limits : Limits
 default_limits = record {
