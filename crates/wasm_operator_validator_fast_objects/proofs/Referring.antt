@@ -24,18 +24,16 @@ use Rattle.wasm_operators_enums.specs.declared.gc.GcOperator.TheVariants as gc
 use Rattle.wasm_operators_enums.specs.Op as op
 use Rattle.wasm_operator_validator_rules.specs.Operands.{ValueType, Operand, known, all_known, IsReference}
 use Rattle.wasm_operator_validator_rules.specs.Row.{not_null, of_type}
-use Rattle.wasm_operator_validator_fast_tables.specs.declared.order.Step.{Step}
 use Rattle.wasm_operator_validator_fast_tables.specs.declared.tables.Open.{Open}
 use Rattle.wasm_operator_validator_fast_tables.specs.declared.tables.Named.{Named}
 use Rattle.wasm_operator_validator_fast_tables.specs.declared.tables.Tables.{Tables}
 use Rattle.wasm_operator_validator_fast_tables.specs.Stacks.{Values, with_all}
-use Rattle.wasm_operator_validator_fast_tables.specs.Values.{heap_of, type_of, types, IsLowered}
+use Rattle.wasm_operator_validator_fast_tables.specs.Values.{heap_of, type_of, types}
 use Rattle.wasm_operator_validator_fast_tables.specs.Tables.{no_code}
 use Rattle.wasm_operator_validator_fast_steps.specs.Labels.{Takes}
 use Rattle.wasm_operator_validator_fast_tables.specs.Written.{IsHeapAt}
 use Rattle.wasm_operator_validator_fast_tables.specs.Loop.{Leads}
 use Rattle.wasm_operator_validator_fast_steps.proofs.Coded.{of_feature}
-use Rattle.wasm_operator_validator_fast_tables.proofs.Lowering.{lower_trans, lower_under}
 use Rattle.wasm_operator_validator_fast_steps.proofs.Rows.{last_on, took, alone, stands, uses, some_is, Here, label_there}
 
 -- ---- codes of references
@@ -76,10 +74,6 @@ module _ (ids : List TypeTree) (n : ℕ) (h : 8 ≤ n) where
   even_under odd = ref_by ids (n - 1) ((n - 8) / 2) true (omega (arith, odd, h)) (is_even (n - 1) (omega (arith, odd, h))) (omega (arith, odd, h))
 
 -- ---- operands
-
--- others may be taken for those under the first
-pub lower_more : (steps : List Step) (k : ℕ) (v m n : Values) → IsLowered steps v (k ∷ m.0, m.1) → IsLowered steps m n → IsLowered steps v (k ∷ n.0, n.1)
-lower_more steps k v m n h g = lower_trans steps v (k ∷ m.0, m.1) (k ∷ n.0, n.1) h (lower_under steps k m n g)
 
 -- types and another on top of them
 pub types_on : (ids : List TypeTree) (ts : List ℕ) (k : ℕ) → all_known (types ids (ts ++ k ∷ [])) ≡ all_known (types ids ts) ++ known (type_of ids k) ∷ []

@@ -33,6 +33,10 @@ module _ (steps : List Step) where
   pub lower_top : (k n : ℕ) (r u : List ℕ) → AreBelow steps (k ∷ []) (n ∷ []) → IsLowered steps (k ∷ r, u) (n ∷ r, u)
   lower_top k n r u b = (refl, λ ids are. ((b ids are).0, all_below_refl (operands ids r)))
 
+-- others may be taken for those under the first
+pub lower_more : (steps : List Step) (k : ℕ) (v m n : Values) → IsLowered steps v (k ∷ m.0, m.1) → IsLowered steps m n → IsLowered steps v (k ∷ n.0, n.1)
+lower_more steps k v m n h g = lower_trans steps v (k ∷ m.0, m.1) (k ∷ n.0, n.1) h (lower_under steps k m n g)
+
 -- the bytes that may follow on the others may follow on these
 pub lowered_goes : (t : Tables) (text : List ℕ) (i : ℕ) (o : Open) (outer : List Open) (v m : Values) → IsLowered t.known.order v m
     → (ids : List TypeTree) (z : Settings) (g : Context) → Fits ids z text t g → Goes ids z text t g i (o ∷ outer) m → Goes ids z text t g i (o ∷ outer) v

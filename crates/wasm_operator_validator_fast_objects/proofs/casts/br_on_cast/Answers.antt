@@ -1,7 +1,6 @@
 use Rattle.std.proofs.Common.{◌∷◌, ◌∙◌, ap, refl, arith}
 use Rattle.wasm_operator_validator_fast_tables.specs.Stacks.{Values, with_all}
-use Rattle.wasm_operator_validator_fast_tables.proofs.Lowering.{lowered}
-use Rattle.wasm_operator_validator_fast_objects.proofs.Referring.{lower_more}
+use Rattle.wasm_operator_validator_fast_tables.proofs.Lowering.{lower_more, lowered}
 use Rattle.wasm_operator_validator_fast_objects.proofs.Branching.{took_branch}
 use Rattle.wasm_operator_validator_fast_objects.proofs.casts.br_on_cast.Goals as goal
 

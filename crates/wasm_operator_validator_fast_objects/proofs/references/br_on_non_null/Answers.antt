@@ -1,7 +1,7 @@
 use Rattle.std.proofs.Common.{◌∷◌, refl}
 use Rattle.wasm_operator_validator_fast_tables.specs.Stacks.{with_all}
-use Rattle.wasm_operator_validator_fast_tables.proofs.Lowering.{lowered}
-use Rattle.wasm_operator_validator_fast_objects.proofs.Referring.{lower_more, took_br_on_non_null}
+use Rattle.wasm_operator_validator_fast_tables.proofs.Lowering.{lower_more, lowered}
+use Rattle.wasm_operator_validator_fast_objects.proofs.Referring.{took_br_on_non_null}
 use Rattle.wasm_operator_validator_fast_objects.proofs.references.br_on_non_null.Goals as goal
 
 pub returns-clause-leads : goal.returns-clause-leads

@@ -1,6 +1,6 @@
 use Rattle.std.proofs.Common.{◌+◌, ◌∷◌, refl}
-use Rattle.wasm_operator_validator_fast_tables.proofs.Lowering.{lowered}
-use Rattle.wasm_operator_validator_fast_objects.proofs.Referring.{lower_more, took_ref_eq}
+use Rattle.wasm_operator_validator_fast_tables.proofs.Lowering.{lower_more, lowered}
+use Rattle.wasm_operator_validator_fast_objects.proofs.Referring.{took_ref_eq}
 use Rattle.wasm_operator_validator_fast_objects.proofs.references.ref_eq.Goals as goal
 
 pub returns-clause-leads : goal.returns-clause-leads

@@ -1,6 +1,5 @@
 use Rattle.std.proofs.Common.{◌∷◌, refl, arith}
-use Rattle.wasm_operator_validator_fast_tables.proofs.Lowering.{lowered, lower_past}
-use Rattle.wasm_operator_validator_fast_objects.proofs.Referring.{lower_more}
+use Rattle.wasm_operator_validator_fast_tables.proofs.Lowering.{lower_more, lowered, lower_past}
 use Rattle.wasm_operator_validator_fast_objects.proofs.Selecting.{took_typed_select}
 use Rattle.wasm_operator_validator_fast_objects.proofs.references.select_typed.Goals as goal
 

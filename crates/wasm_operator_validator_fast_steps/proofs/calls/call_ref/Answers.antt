@@ -2,8 +2,7 @@ use Rattle.std.proofs.Common.{get_or, ◌∷◌, refl}
 use Rattle.std.proofs.lemmas.Option.{slice_get-get_or}
 use Rattle.wasm_operator_validator_fast_tables.specs.declared.tables.Defined.TheVariants.{Other}
 use Rattle.wasm_operator_validator_fast_tables.specs.Stacks.{with_all}
-use Rattle.wasm_operator_validator_fast_tables.proofs.Lowering.{lowered}
-use Rattle.wasm_operator_validator_fast_objects.proofs.Referring.{lower_more}
+use Rattle.wasm_operator_validator_fast_tables.proofs.Lowering.{lower_more, lowered}
 use Rattle.wasm_operator_validator_fast_steps.proofs.Calling.{took_call_ref}
 use Rattle.wasm_operator_validator_fast_steps.proofs.calls.call_ref.Goals as goal
 
