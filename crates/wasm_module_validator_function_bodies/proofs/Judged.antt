@@ -25,14 +25,14 @@ use Rattle.wasm_operator_validator_rules.specs.Context.{Context, Module, IsType,
 use Rattle.wasm_operator_validator_rules.specs.Typed.{IsBody}
 use Rattle.wasm_module_validator_section_order.specs.rules.Spaces.{value_in, with_types}
 use Rattle.wasm_module_validator_section_order.specs.rules.Valid.{Each, IsValidValueType, locals_in, body_context}
-use Rattle.wasm_operator_validator_fast_path.specs.declared.tables.Known.{Known}
-use Rattle.wasm_operator_validator_fast_path.specs.declared.tables.Sig.{Sig}
-use Rattle.wasm_operator_validator_fast_path.specs.declared.tables.Tables.{Tables}
-use Rattle.wasm_operator_validator_fast_path.specs.Values.{type_of, types}
-use Rattle.wasm_operator_validator_fast_path.specs.Tables.{Knows, AllowsLists, HasDefault, BeginSet, Fits, params_in, results_in, signature_in}
-use Rattle.wasm_operator_validator_fast_path.specs.Written.{IsValueAt}
-use Rattle.wasm_operator_validator_fast_path.proofs.Spelled.{many_more, unsigned_at, all_cons, all_tail}
-use Rattle.wasm_operator_validator_fast_path.proofs.Writing.{spelled_at}
+use Rattle.wasm_operator_validator_fast_tables.specs.declared.tables.Known.{Known}
+use Rattle.wasm_operator_validator_fast_tables.specs.declared.tables.Sig.{Sig}
+use Rattle.wasm_operator_validator_fast_tables.specs.declared.tables.Tables.{Tables}
+use Rattle.wasm_operator_validator_fast_tables.specs.Values.{type_of, types}
+use Rattle.wasm_operator_validator_fast_tables.specs.Tables.{Knows, AllowsLists, HasDefault, BeginSet, Fits, params_in, results_in, signature_in}
+use Rattle.wasm_operator_validator_fast_tables.specs.Written.{IsValueAt}
+use Rattle.wasm_operator_validator_fast_steps.proofs.Spelled.{many_more, unsigned_at, all_cons, all_tail}
+use Rattle.wasm_operator_validator_fast_tables.proofs.Writing.{spelled_at}
 use Rattle.wasm_module_validator_function_bodies.specs.Functions.{SpellsValidFunction}
 use Rattle.wasm_module_validator_function_bodies.specs.Plain.{MayTell, AreOfSame, AreLocals, TakesGroup, TakesAll, Begins}
 

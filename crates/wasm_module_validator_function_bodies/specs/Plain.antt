@@ -6,10 +6,10 @@ use Rattle.wasm_types.specs.trees.Trees.{TypeTree}
 use Rattle.wasm_operators_bodies.specs.Locals.{LocalGroup, total, SpelledGroup}
 use Rattle.wasm_operator_validator_rules.specs.Context.{Module, IsType}
 use Rattle.wasm_module_validator_section_order.specs.rules.Valid.{Each, IsValidValueType, locals_in}
-use Rattle.wasm_operator_validator_fast_path.specs.declared.tables.Sig.{Sig}
-use Rattle.wasm_operator_validator_fast_path.specs.declared.tables.Tables.{Tables}
-use Rattle.wasm_operator_validator_fast_path.specs.Values.{type_of, types}
-use Rattle.wasm_operator_validator_fast_path.specs.Tables.{Knows, Allows, AllowsReferences, HasDefault, params_in}
+use Rattle.wasm_operator_validator_fast_tables.specs.declared.tables.Sig.{Sig}
+use Rattle.wasm_operator_validator_fast_tables.specs.declared.tables.Tables.{Tables}
+use Rattle.wasm_operator_validator_fast_tables.specs.Values.{type_of, types}
+use Rattle.wasm_operator_validator_fast_tables.specs.Tables.{Knows, Allows, AllowsReferences, HasDefault, params_in}
 use Rattle.wasm_module_validator_function_bodies.specs.declared.plain.PlainJudge.{PlainJudge}
 
 -- tables stand for what they name of a module, by the types behind its ids, and these features are those that they ask

@@ -1,7 +1,7 @@
 //! Bodies judged in one loop over codes of operands.
 
 ghost use Rattle.std.specs.Prelude.{◌≡◌, ◌≤◌, ◌++◌, true, IfSome, length, replicate};
-ghost use Rattle.wasm_operator_validator_fast_path.specs.Tables.{Allows, AllowsLists, AllowsReferences, HasDefault};
+ghost use Rattle.wasm_operator_validator_fast_tables.specs.Tables.{Allows, AllowsLists, AllowsReferences, HasDefault};
 ghost use Rattle.wasm_module_validator_function_bodies.specs.Locals.{judged_by};
 ghost use Rattle.wasm_module_validator_function_bodies.specs.Functions.{SpellsValidFunction};
 ghost use Rattle.wasm_module_validator_function_bodies.specs.Plain.{AreOfSame, TakesGroup, TakesAll, Begins, IsJudgeOf};
@@ -9,7 +9,7 @@ ghost use Rattle.wasm_module_validator_function_bodies.specs.Plain.{AreOfSame, T
 use std::alloc::Global;
 use wasm_operator_validator_driver::WasmModuleResources;
 use wasm_operator_validator_fast_loop::Room;
-use wasm_operator_validator_fast_path::{Known, Order, Sig, Tables, known_of, part, value_at};
+use wasm_operator_validator_fast_tables::{Known, Order, Sig, Tables, known_of, part, value_at};
 use wasm_operators_bodies::FunctionBody;
 use wasm_types::{Limits, WasmFeatures};
 use wasm_types_decoding::short_u32_at;

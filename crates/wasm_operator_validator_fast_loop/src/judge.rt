@@ -8,40 +8,42 @@ ghost use Rattle.wasm_operators_encoding.specs.expressions.Spelling.{SpelledExpr
 ghost use Rattle.wasm_operator_validator_rules.specs.Context.{Context};
 ghost use Rattle.wasm_operator_validator_rules.specs.Typed.{IsBody};
 ghost use Rattle.wasm_operators_frequent.specs.Short.{Begins};
-ghost use Rattle.wasm_operator_validator_fast_path.specs.Tables.{Fits, BeginSet};
-ghost use Rattle.wasm_operator_validator_fast_path.specs.Loop.{Goes, Leads, all, outermost};
+ghost use Rattle.wasm_operator_validator_fast_tables.specs.Tables.{Fits, BeginSet};
+ghost use Rattle.wasm_operator_validator_fast_tables.specs.Loop.{Goes, Leads, all, outermost};
 
-use crate::arrays::{
+use std::alloc::Global;
+use std::mem;
+use wasm_operator_validator_fast_objects::arrays::{
     array_copy, array_fill, array_get, array_get_s, array_get_u, array_len, array_new,
     array_new_data, array_new_default, array_new_fixed, array_set,
 };
-use crate::calls::{call_ref, return_call_ref};
-use crate::casts::{br_on_cast, convert, i31_get, ref_cast, ref_i31, ref_test};
-use crate::exceptions::{throw, throw_ref, try_table};
-use crate::references::{
+use wasm_operator_validator_fast_objects::casts::{
+    br_on_cast, convert, i31_get, ref_cast, ref_i31, ref_test,
+};
+use wasm_operator_validator_fast_objects::exceptions::{throw, throw_ref, try_table};
+use wasm_operator_validator_fast_objects::references::{
     br_on_non_null, br_on_null, ref_as_non_null, ref_eq, ref_func, ref_is_null, ref_null,
     select_typed,
 };
-use crate::structs::{
+use wasm_operator_validator_fast_objects::structs::{
     struct_get, struct_get_s, struct_get_u, struct_new, struct_new_default, struct_set,
 };
-use std::alloc::Global;
-use std::mem;
-use wasm_operator_validator_fast_path::blocks::{begin_if, begin_loop, block, end, finish, turn};
-use wasm_operator_validator_fast_path::constants::{f32_const, f64_const, i32_const, i64_const};
-use wasm_operator_validator_fast_path::control::{
-    br, br_if, br_table, call, call_indirect, drop_top, nop, return_all, select, unreachable,
+use wasm_operator_validator_fast_steps::blocks::{begin_if, begin_loop, block, end, finish, turn};
+use wasm_operator_validator_fast_steps::branches::{br, br_if, br_table, return_all};
+use wasm_operator_validator_fast_steps::calls::{
+    call, call_indirect, call_ref, return_call, return_call_indirect, return_call_ref,
 };
-use wasm_operator_validator_fast_path::memory::{
+use wasm_operator_validator_fast_steps::constants::{f32_const, f64_const, i32_const, i64_const};
+use wasm_operator_validator_fast_steps::memory::{
     load, memory_copy, memory_fill, memory_grow, memory_size, store,
 };
-use wasm_operator_validator_fast_path::numbers::{change, change_prefixed, combine};
-use wasm_operator_validator_fast_path::shape::{Class, class_of, saturating_of};
-use wasm_operator_validator_fast_path::tail_calls::{return_call, return_call_indirect};
-use wasm_operator_validator_fast_path::variables::{
+use wasm_operator_validator_fast_steps::numbers::{change, change_prefixed, combine};
+use wasm_operator_validator_fast_steps::parametric::{drop_top, nop, select, unreachable};
+use wasm_operator_validator_fast_steps::shape::{Class, class_of, saturating_of};
+use wasm_operator_validator_fast_steps::variables::{
     global_get, global_set, local_get, local_set, local_tee,
 };
-use wasm_operator_validator_fast_path::{Open, Opens, Pile, Sig, Stack, Tables};
+use wasm_operator_validator_fast_tables::{Open, Opens, Pile, Sig, Stack, Tables};
 use wasm_operator_validator_state::FrameKind;
 use wasm_types_decoding::short_u32_at;
 

@@ -1,5 +1,5 @@
 -- Each step begins at a code of its class.
-use Rattle.wasm_operator_validator_fast_path.specs.declared.shape.Class.TheVariants as class
+use Rattle.wasm_operator_validator_fast_steps.specs.declared.shape.Class.TheVariants as class
 use Rattle.wasm_operator_validator_fast_loop.proofs.Classes.{at_class}
 use Rattle.wasm_operator_validator_fast_loop.proofs.judge.next.Goals as goal
 

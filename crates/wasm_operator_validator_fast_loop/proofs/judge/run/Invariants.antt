@@ -1,5 +1,5 @@
 use Rattle.std.proofs.Common.{◌∷◌, ◌≤◌, ◌<◌, ◌-◌, length}
-use Rattle.wasm_operator_validator_fast_path.specs.Loop.{Leads}
+use Rattle.wasm_operator_validator_fast_tables.specs.Loop.{Leads}
 use Rattle.wasm_operator_validator_fast_loop.proofs.judge.run.Given as goal
 
 abbrev pub invariant-loop-at : goal.invariant-loop-at

@@ -1,4 +1,4 @@
-use Rattle.wasm_operator_validator_fast_path.proofs.Frames.{whole_body}
+use Rattle.wasm_operator_validator_fast_steps.proofs.Frames.{whole_body}
 use Rattle.wasm_operator_validator_fast_loop.proofs.judge.Room.accepts.Goals as goal
 
 pub returns : goal.returns

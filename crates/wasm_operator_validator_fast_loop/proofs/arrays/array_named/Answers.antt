@@ -1,4 +1,0 @@
-use Rattle.wasm_operator_validator_fast_loop.proofs.arrays.array_named.Goals as goal
-
-pub returns : goal.returns
-returns c = record { type = c.in-Some.index; read = c.in-Some.ensures; is = c.in-Some-array_at.ensures }

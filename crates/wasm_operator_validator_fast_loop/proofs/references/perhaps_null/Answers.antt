@@ -1,9 +1,0 @@
-use Rattle.std.proofs.Common.{arith}
-use Rattle.wasm_operator_validator_fast_loop.proofs.Referring.{even_itself, even_under}
-use Rattle.wasm_operator_validator_fast_loop.proofs.references.perhaps_null.Goals as goal
-
-pub returns-then-code-eq0 : goal.returns-then-code-eq0
-returns-then-code-eq0 c high ids = even_itself ids c.args.code high c.if-code-eq0.true
-
-pub returns : goal.returns
-returns c high ids = even_under ids c.args.code high (let other = c.if-code-eq0.false in omega (arith, other))

@@ -1,8 +1,0 @@
-use Rattle.std.proofs.Common.{◌+◌, refl}
-use Rattle.wasm_operator_validator_fast_loop.proofs.Referring.{took_is_null}
-use Rattle.wasm_operator_validator_fast_loop.proofs.references.ref_is_null.Goals as goal
-
-pub returns-clause-leads : goal.returns-clause-leads
-returns-clause-leads c =
-    let (rest, taken, put) = c.if-not-change.ensures refl in
-    took_is_null c.args.tables.now c.args.bytes.now c.args.at (c.args.at + 1) c.args.opens.now.inner c.args.opens.now.outer c.args.stack.now c.change.new.self c.if-not-tables.false c.requires refl c.in-Some.code rest c.if-code-lt8.false taken put

@@ -1,0 +1,10 @@
+-- Proofs: the rows of operators of this crate.
+mod ArrayRows
+mod Branching
+mod Casting
+mod Clauses
+mod Objects
+mod Referring
+mod Selecting
+mod StructRows
+mod Throwing

@@ -1,0 +1,16 @@
+use Rattle.std.proofs.Common.{refl, arith}
+use Rattle.wasm_operator_validator_fast_steps.proofs.Rows.{not_not}
+use Rattle.wasm_operator_validator_fast_objects.proofs.StructRows.{took_struct_get_s}
+use Rattle.wasm_operator_validator_fast_objects.proofs.structs.struct_get_s.Goals as goal
+
+pub returns-clause-leads : goal.returns-clause-leads
+returns-clause-leads c =
+    let under = c.take_below.new.self in
+    took_struct_get_s c.args.tables.now c.args.bytes.now c.args.at c.args.middle c.in-Some.end c.args.opens.now.inner c.args.opens.now.outer c.args.stack.now c.put.new.self c.in-Some.code c.requires
+    c.in-Some.field c.in-Some.ensures (not_not _ c.if-not-field.false) under.0 under.1 (c.if-not-take_below.ensures refl) (c.if-not-put.ensures refl)
+
+pub returns-clause-forward : goal.returns-clause-forward
+returns-clause-forward c = omega (arith, c.requires.code_there.forward, c.in-Some.ensures.struct.read.forward, c.in-Some.ensures.read.forward)
+
+pub returns-clause-inside : goal.returns-clause-inside
+returns-clause-inside c = c.in-Some.ensures.read.inside

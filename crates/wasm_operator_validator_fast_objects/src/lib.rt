@@ -1,0 +1,11 @@
+//! Steps of the fast loop on what references lead to: references, structures, arrays, casts and exceptions.
+//!
+//! Branches on references are here: `br_on_null` and `br_on_non_null` in `references`, `br_on_cast` in `casts`, `try_table` in `exceptions`. A step
+//! is what `wasm_operator_validator_fast_steps` says.
+#![tactic(auto)]
+
+pub mod arrays;
+pub mod casts;
+pub mod exceptions;
+pub mod references;
+pub mod structs;

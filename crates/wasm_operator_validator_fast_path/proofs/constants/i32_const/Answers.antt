@@ -1,7 +1,0 @@
-use Rattle.std.proofs.Common.{refl}
-use Rattle.wasm_operator_validator_fast_path.proofs.Rows.{took_i32_const}
-use Rattle.wasm_operator_validator_fast_path.proofs.constants.i32_const.Goals as goal
-
-pub returns-clause-leads : goal.returns-clause-leads
-returns-clause-leads c =
-    took_i32_const c.args.tables.now c.args.bytes.now c.args.at c.in-Some.end c.args.opens.now.inner c.args.opens.now.outer c.args.stack.now c.put.new.self c.requires.begins c.in-Some.ensures.0 c.in-Some.ensures.1 (c.if-not-put.ensures refl)

@@ -1,7 +1,0 @@
-use Rattle.std.proofs.Common.{◌≡◌, length}
-use Rattle.wasm_operator_validator_fast_path.specs.Known.{AreGlobalsIn}
-use Rattle.wasm_operator_validator_fast_path.proofs.known.globals_of.Given as goal
-
-abbrev pub invariant-loop-at : goal.invariant-loop-at
-invariant-loop-at g l =
-    let m = g.R.WasmModuleResources.meaning l.resources in AreGlobalsIn m.ids m.«module» l.globals.items × (length l.globals.items ≡ l.at)

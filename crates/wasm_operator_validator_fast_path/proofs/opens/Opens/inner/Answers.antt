@@ -1,5 +1,0 @@
-use Rattle.wasm_operator_validator_fast_path.proofs.Nesting.{inner_is}
-use Rattle.wasm_operator_validator_fast_path.proofs.opens.Opens.inner.Goals as goal
-
-pub returns : goal.returns
-returns c = inner_is c.self.inside.frames c.args.self.now c.self.view_is c.under.result c.under.ensures

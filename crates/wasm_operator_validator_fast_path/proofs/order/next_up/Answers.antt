@@ -1,7 +1,0 @@
-use Rattle.wasm_operator_validator_fast_path.proofs.order.next_up.Goals as goal
-
-pub returns-then-steps-far : goal.returns-then-steps-far
-returns-then-steps-far c ids n h = h.far
-
-pub returns : goal.returns
-returns c ids n h = h.up

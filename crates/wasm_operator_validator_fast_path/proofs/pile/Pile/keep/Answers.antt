@@ -1,5 +1,0 @@
-use Rattle.wasm_operator_validator_fast_path.proofs.Tops.{kept}
-use Rattle.wasm_operator_validator_fast_path.proofs.pile.Pile.keep.Goals as goal
-
-pub returns : goal.returns
-returns g c = kept c.self.inside.places.items c.self.inside.count c.args.count c.args.self.now c.self.view_is c.self.invariant c.requires

@@ -1,0 +1,320 @@
+//! Calls, also through tables and references, and in the place of a return.
+
+ghost use Rattle.std.specs.Prelude.{◌≡◌, ◌<◌, ◌≤◌, length, IfSome};
+ghost use Rattle.wasm_types.specs.decoding.Numbers.{GivesAt};
+ghost use Rattle.wasm_operators_immediates.specs.Kinds.{Tables as TableSpace};
+ghost use Rattle.wasm_operators_encoding.specs.immediates.Bytes.{index_or_zero};
+ghost use Rattle.wasm_operators_encoding.specs.immediates.Immediates.{may_index};
+ghost use Rattle.wasm_operators_frequent.specs.Short.{Begins};
+ghost use Rattle.wasm_operator_validator_fast_tables.specs.Tables.{ReturnsBy};
+ghost use Rattle.wasm_operator_validator_fast_tables.specs.Loop.{Leads, all};
+
+use crate::indices::index_at;
+use crate::labels::same;
+use wasm_operator_validator_fast_tables::{
+    NO_CODE, Opens, Stack, Tables, given, inner_results, part,
+};
+use wasm_operators_frequent::zero_at;
+use wasm_types::WasmFeatures;
+
+/// A call of a function.
+#[inline(always)]
+pub fn call(
+    tables: &Tables,
+    bytes: &[u8],
+    at: usize,
+    stack: &mut Stack,
+    opens: &Opens,
+) -> Option<usize>
+    requires { Begins bytes.now at 0x10 }
+    ensures leads { IfSome result (λ end. Leads bytes.now tables.now at (all opens.now) stack.old
+        end (all opens.now) stack.new) }
+    ensures forward { IfSome result (λ end. at < end) }
+    ensures inside { IfSome result (λ end. end ≤ length bytes.now) }
+{
+    let Some((index, end)) = index_at(bytes, at + 1) else {
+        return None;
+    };
+    let index = index as usize;
+    let functions = tables.known.functions.as_slice();
+    if index >= functions.len() {
+        return None;
+    }
+    let ty = functions[index] as usize;
+    let types = tables.known.types.as_slice();
+    if ty >= types.len() {
+        return None;
+    }
+    let sig = types[ty];
+    let flat = tables.known.flat.as_slice();
+    let Some(params) = part(flat, sig.params, sig.param_count) else {
+        return None;
+    };
+    let Some(results) = part(flat, sig.results, sig.result_count) else {
+        return None;
+    };
+    if !stack.take_all(&tables.known.order, params) || !stack.put_all(results) {
+        return None;
+    }
+    Some(end)
+}
+
+// The offset behind the index 0 of a table. Linkers write it in five bytes, which the features may allow.
+#[inline(always)]
+fn first_table_at(bytes: &[u8], at: usize, features: WasmFeatures) -> Option<usize>
+    requires { at ≤ length bytes.now }
+    ensures { IfSome result (λ end. GivesAt (index_or_zero (may_index features.0 TableSpace)) bytes.now at 0 end) }
+{
+    if let Some((_table, end)) = zero_at(bytes, at) {
+        return Some(end);
+    }
+    if !features.call_indirect_overlong() {
+        return None;
+    }
+    let Some((table, end)) = index_at(bytes, at) else {
+        return None;
+    };
+    if table != 0 {
+        return None;
+    }
+    Some(end)
+}
+
+/// A call through table 0.
+#[inline(always)]
+pub fn call_indirect(
+    tables: &Tables,
+    bytes: &[u8],
+    at: usize,
+    stack: &mut Stack,
+    opens: &Opens,
+) -> Option<usize>
+    requires { Begins bytes.now at 0x11 }
+    ensures leads { IfSome result (λ end. Leads bytes.now tables.now at (all opens.now) stack.old
+        end (all opens.now) stack.new) }
+    ensures forward { IfSome result (λ end. at < end) }
+    ensures inside { IfSome result (λ end. end ≤ length bytes.now) }
+{
+    let Some((index, middle)) = index_at(bytes, at + 1) else {
+        return None;
+    };
+    let Some(end) = first_table_at(bytes, middle, tables.features) else {
+        return None;
+    };
+    let index = index as usize;
+    let types = tables.known.types.as_slice();
+    if !tables.known.table || index >= types.len() {
+        return None;
+    }
+    let sig = types[index];
+    let flat = tables.known.flat.as_slice();
+    let Some(params) = part(flat, sig.params, sig.param_count) else {
+        return None;
+    };
+    let Some(results) = part(flat, sig.results, sig.result_count) else {
+        return None;
+    };
+    if !stack.take(0) || !stack.take_all(&tables.known.order, params) || !stack.put_all(results) {
+        return None;
+    }
+    Some(end)
+}
+
+/// What a function of the type at an index takes, if it gives what the function that is judged gives. Out of line, so that the loop has
+/// no more to look up than for a call.
+#[inline(never)]
+pub fn returned(tables: &Tables, ty: u32) -> Option<&[u32]>
+    ensures { IfSome result (λ params. ReturnsBy tables.now ty params.now) }
+{
+    let index = ty as usize;
+    let types = tables.known.types.as_slice();
+    if index >= types.len() {
+        return None;
+    }
+    let sig = types[index];
+    let flat = tables.known.flat.as_slice();
+    let Some(params) = part(flat, sig.params, sig.param_count) else {
+        return None;
+    };
+    let Some(results) = part(flat, sig.results, sig.result_count) else {
+        return None;
+    };
+    let Some(wanted) = part(flat, tables.results.results, tables.results.result_count) else {
+        return None;
+    };
+    if !same(results, wanted) {
+        return None;
+    }
+    Some(params)
+}
+
+/// A call of a function, in the place of a return.
+#[inline(always)]
+pub fn return_call(
+    tables: &Tables,
+    bytes: &[u8],
+    at: usize,
+    stack: &mut Stack,
+    opens: &Opens,
+) -> Option<usize>
+    requires { Begins bytes.now at 0x12 }
+    ensures leads { IfSome result (λ end. Leads bytes.now tables.now at (all opens.now) stack.old
+        end (all opens.now) stack.new) }
+    ensures forward { IfSome result (λ end. at < end) }
+    ensures inside { IfSome result (λ end. end ≤ length bytes.now) }
+{
+    if !tables.features.tail_call() {
+        return None;
+    }
+    let Some((index, end)) = index_at(bytes, at + 1) else {
+        return None;
+    };
+    let index = index as usize;
+    let functions = tables.known.functions.as_slice();
+    if index >= functions.len() {
+        return None;
+    }
+    let Some(params) = returned(tables, functions[index]) else {
+        return None;
+    };
+    let Some(results) = inner_results(tables.known.flat.as_slice(), opens) else {
+        return None;
+    };
+    if !stack.take_all(&tables.known.order, params) {
+        return None;
+    }
+    stack.cut();
+    if !stack.put_all(results) {
+        return None;
+    }
+    Some(end)
+}
+
+/// A call through table 0, in the place of a return.
+#[inline(always)]
+pub fn return_call_indirect(
+    tables: &Tables,
+    bytes: &[u8],
+    at: usize,
+    stack: &mut Stack,
+    opens: &Opens,
+) -> Option<usize>
+    requires { Begins bytes.now at 0x13 }
+    ensures leads { IfSome result (λ end. Leads bytes.now tables.now at (all opens.now) stack.old
+        end (all opens.now) stack.new) }
+    ensures forward { IfSome result (λ end. at < end) }
+    ensures inside { IfSome result (λ end. end ≤ length bytes.now) }
+{
+    if !tables.features.tail_call() || !tables.known.table {
+        return None;
+    }
+    let Some((ty, middle)) = index_at(bytes, at + 1) else {
+        return None;
+    };
+    let Some((table, end)) = index_at(bytes, middle) else {
+        return None;
+    };
+    if table != 0 {
+        return None;
+    }
+    let Some(params) = returned(tables, ty) else {
+        return None;
+    };
+    let Some(results) = inner_results(tables.known.flat.as_slice(), opens) else {
+        return None;
+    };
+    if !stack.take(0) || !stack.take_all(&tables.known.order, params) {
+        return None;
+    }
+    stack.cut();
+    if !stack.put_all(results) {
+        return None;
+    }
+    Some(end)
+}
+
+/// A call of the function that a reference leads to.
+pub fn call_ref(
+    tables: &Tables,
+    bytes: &[u8],
+    at: usize,
+    stack: &mut Stack,
+    opens: &Opens,
+) -> Option<usize>
+    requires { Begins bytes.now at 0x14 }
+    ensures leads { IfSome result (λ end. Leads bytes.now tables.now at (all opens.now) stack.old
+        end (all opens.now) stack.new) }
+    ensures forward { IfSome result (λ end. at < end) }
+    ensures inside { IfSome result (λ end. end ≤ length bytes.now) }
+{
+    let Some((index, end)) = index_at(bytes, at + 1) else {
+        return None;
+    };
+    let index = index as usize;
+    let named = tables.known.named.as_slice();
+    let types = tables.known.types.as_slice();
+    if !tables.references || index >= named.len() || index >= types.len() {
+        return None;
+    }
+    let code = named[index].code;
+    let sig = types[index];
+    let flat = tables.known.flat.as_slice();
+    let Some(params) = part(flat, sig.params, sig.param_count) else {
+        return None;
+    };
+    let Some(results) = part(flat, sig.results, sig.result_count) else {
+        return None;
+    };
+    let order = &tables.known.order;
+    if code >= NO_CODE
+        || !stack.take_below(order, code)
+        || !stack.take_all(order, params)
+        || !stack.put_all(results)
+    {
+        return None;
+    }
+    Some(end)
+}
+
+/// A call of the function that a reference leads to, in the place of a return.
+pub fn return_call_ref(
+    tables: &Tables,
+    bytes: &[u8],
+    at: usize,
+    stack: &mut Stack,
+    opens: &Opens,
+) -> Option<usize>
+    requires { Begins bytes.now at 0x15 }
+    ensures leads { IfSome result (λ end. Leads bytes.now tables.now at (all opens.now) stack.old
+        end (all opens.now) stack.new) }
+    ensures forward { IfSome result (λ end. at < end) }
+    ensures inside { IfSome result (λ end. end ≤ length bytes.now) }
+{
+    if !tables.features.tail_call() {
+        return None;
+    }
+    let Some((ty, end)) = index_at(bytes, at + 1) else {
+        return None;
+    };
+    let index = ty as usize;
+    let named = tables.known.named.as_slice();
+    if index >= named.len() {
+        return None;
+    }
+    let code = named[index].code;
+    let Some(params) = returned(tables, ty) else {
+        return None;
+    };
+    let Some(results) = given(tables.known.flat.as_slice(), opens, params.len()) else {
+        return None;
+    };
+    let order = &tables.known.order;
+    if code >= NO_CODE || !stack.take_below(order, code) || !stack.take_all(order, params) {
+        return None;
+    }
+    stack.cut();
+    if !stack.put_all(results) {
+        return None;
+    }
+    Some(end)
+}

@@ -1,0 +1,188 @@
+//! Memory 0.
+
+ghost use Rattle.std.specs.Prelude.{◌≡◌, ◌<◌, ◌≤◌, ◌∷◌, ℕ, List, length, [], IfSome};
+ghost use Rattle.wasm_operators_frequent.specs.Short.{Begins, BeginsPrefixed};
+ghost use Rattle.wasm_operator_validator_fast_tables.specs.Loop.{Leads, all};
+
+use crate::indices::argument_at;
+use crate::shape::{load_shape, store_shape};
+use wasm_operator_validator_fast_tables::{NO_CODE, Opens, Stack, Tables};
+use wasm_operators_frequent::zero_at;
+use wasm_types_decoding::short_u32_at;
+
+/// A load.
+#[inline(always)]
+pub fn load(
+    code: u8,
+    tables: &Tables,
+    bytes: &[u8],
+    at: usize,
+    stack: &mut Stack,
+    opens: &Opens,
+) -> Option<usize>
+    requires { Begins bytes.now at code }
+    ensures leads { IfSome result (λ end. Leads bytes.now tables.now at (all opens.now) stack.old
+        end (all opens.now) stack.new) }
+    ensures forward { IfSome result (λ end. at < end) }
+    ensures inside { IfSome result (λ end. end ≤ length bytes.now) }
+{
+    let (natural, gives) = load_shape(code);
+    if gives >= NO_CODE || !tables.known.memory {
+        return None;
+    }
+    let Some(end) = argument_at(bytes, at + 1, natural, tables.features) else {
+        return None;
+    };
+    if !stack.change(0, gives) {
+        return None;
+    }
+    Some(end)
+}
+
+/// A store.
+#[inline(always)]
+pub fn store(
+    code: u8,
+    tables: &Tables,
+    bytes: &[u8],
+    at: usize,
+    stack: &mut Stack,
+    opens: &Opens,
+) -> Option<usize>
+    requires { Begins bytes.now at code }
+    ensures leads { IfSome result (λ end. Leads bytes.now tables.now at (all opens.now) stack.old
+        end (all opens.now) stack.new) }
+    ensures forward { IfSome result (λ end. at < end) }
+    ensures inside { IfSome result (λ end. end ≤ length bytes.now) }
+{
+    let (natural, takes) = store_shape(code);
+    if takes >= NO_CODE || !tables.known.memory {
+        return None;
+    }
+    let Some(end) = argument_at(bytes, at + 1, natural, tables.features) else {
+        return None;
+    };
+    if !stack.take(takes) || !stack.take(0) {
+        return None;
+    }
+    Some(end)
+}
+
+/// How large it is.
+#[inline(always)]
+pub fn memory_size(
+    tables: &Tables,
+    bytes: &[u8],
+    at: usize,
+    stack: &mut Stack,
+    opens: &Opens,
+) -> Option<usize>
+    requires { Begins bytes.now at 0x3f }
+    ensures leads { IfSome result (λ end. Leads bytes.now tables.now at (all opens.now) stack.old
+        end (all opens.now) stack.new) }
+    ensures forward { IfSome result (λ end. at < end) }
+    ensures inside { IfSome result (λ end. end ≤ length bytes.now) }
+{
+    if !tables.known.memory {
+        return None;
+    }
+    let Some((_memory, end)) = zero_at(bytes, at + 1) else {
+        return None;
+    };
+    if !stack.put(0) {
+        return None;
+    }
+    Some(end)
+}
+
+/// It grows.
+#[inline(always)]
+pub fn memory_grow(
+    tables: &Tables,
+    bytes: &[u8],
+    at: usize,
+    stack: &mut Stack,
+    opens: &Opens,
+) -> Option<usize>
+    requires { Begins bytes.now at 0x40 }
+    ensures leads { IfSome result (λ end. Leads bytes.now tables.now at (all opens.now) stack.old
+        end (all opens.now) stack.new) }
+    ensures forward { IfSome result (λ end. at < end) }
+    ensures inside { IfSome result (λ end. end ≤ length bytes.now) }
+{
+    if !tables.known.memory {
+        return None;
+    }
+    let Some((_memory, end)) = zero_at(bytes, at + 1) else {
+        return None;
+    };
+    if !stack.has(0) {
+        return None;
+    }
+    Some(end)
+}
+
+/// A part of it is copied.
+#[inline(always)]
+pub fn memory_copy(
+    middle: usize,
+    tables: &Tables,
+    bytes: &[u8],
+    at: usize,
+    stack: &mut Stack,
+    opens: &Opens,
+) -> Option<usize>
+    requires { BeginsPrefixed bytes.now at 0xfc 0x0a middle }
+    ensures leads { IfSome result (λ end. Leads bytes.now tables.now at (all opens.now) stack.old
+        end (all opens.now) stack.new) }
+    ensures forward { IfSome result (λ end. at < end) }
+    ensures inside { IfSome result (λ end. end ≤ length bytes.now) }
+{
+    if !tables.known.memory {
+        return None;
+    }
+    let Some((to, next)) = short_u32_at(bytes, middle) else {
+        return None;
+    };
+    let Some((from, end)) = short_u32_at(bytes, next) else {
+        return None;
+    };
+    if to != 0 || from != 0 {
+        return None;
+    }
+    if !stack.take(0) || !stack.take(0) || !stack.take(0) {
+        return None;
+    }
+    Some(end)
+}
+
+/// A part of it is filled.
+#[inline(always)]
+pub fn memory_fill(
+    middle: usize,
+    tables: &Tables,
+    bytes: &[u8],
+    at: usize,
+    stack: &mut Stack,
+    opens: &Opens,
+) -> Option<usize>
+    requires { BeginsPrefixed bytes.now at 0xfc 0x0b middle }
+    ensures leads { IfSome result (λ end. Leads bytes.now tables.now at (all opens.now) stack.old
+        end (all opens.now) stack.new) }
+    ensures forward { IfSome result (λ end. at < end) }
+    ensures inside { IfSome result (λ end. end ≤ length bytes.now) }
+{
+    if !tables.known.memory {
+        return None;
+    }
+    let Some((memory, end)) = short_u32_at(bytes, middle) else {
+        return None;
+    };
+    if memory != 0 {
+        return None;
+    }
+    if !stack.take(0) || !stack.take(0) || !stack.take(0) {
+        return None;
+    }
+    Some(end)
+}

@@ -1,0 +1,152 @@
+//! Locals and globals.
+
+ghost use Rattle.std.specs.Prelude.{◌≡◌, ◌<◌, ◌≤◌, ◌+◌, ◌∷◌, ℕ, List, length, [], IfSome};
+ghost use Rattle.wasm_operators_frequent.specs.Short.{Begins};
+ghost use Rattle.wasm_operator_validator_fast_tables.specs.Loop.{Leads, all};
+
+use crate::indices::{index_at, near_index_at};
+use wasm_operator_validator_fast_tables::{NO_CODE, Opens, Stack, Tables};
+
+/// The value of a local.
+#[inline(always)]
+pub fn local_get(
+    tables: &Tables,
+    locals: &[u32],
+    bytes: &[u8],
+    at: usize,
+    stack: &mut Stack,
+    opens: &Opens,
+) -> Option<usize>
+    requires begins { Begins bytes.now at 0x20 }
+    requires more { at + 1 < length bytes.now }
+    requires locals { locals.now ≡ tables.now.locals.items }
+    ensures leads { IfSome result (λ end. Leads bytes.now tables.now at (all opens.now) stack.old
+        end (all opens.now) stack.new) }
+    ensures forward { IfSome result (λ end. at < end) }
+    ensures inside { IfSome result (λ end. end ≤ length bytes.now) }
+{
+    let Some((index, end)) = near_index_at(bytes, at + 1) else {
+        return None;
+    };
+    let index = index as usize;
+    if index >= locals.len() || !stack.put(locals[index]) {
+        return None;
+    }
+    Some(end)
+}
+
+/// A local takes a value.
+#[inline(always)]
+pub fn local_set(
+    tables: &Tables,
+    locals: &[u32],
+    bytes: &[u8],
+    at: usize,
+    stack: &mut Stack,
+    opens: &Opens,
+) -> Option<usize>
+    requires begins { Begins bytes.now at 0x21 }
+    requires more { at + 1 < length bytes.now }
+    requires locals { locals.now ≡ tables.now.locals.items }
+    ensures leads { IfSome result (λ end. Leads bytes.now tables.now at (all opens.now) stack.old
+        end (all opens.now) stack.new) }
+    ensures forward { IfSome result (λ end. at < end) }
+    ensures inside { IfSome result (λ end. end ≤ length bytes.now) }
+{
+    let Some((index, end)) = near_index_at(bytes, at + 1) else {
+        return None;
+    };
+    let index = index as usize;
+    if index >= locals.len() || !stack.take_below(&tables.known.order, locals[index]) {
+        return None;
+    }
+    Some(end)
+}
+
+/// A local takes a value, which stays.
+#[inline(always)]
+pub fn local_tee(
+    tables: &Tables,
+    locals: &[u32],
+    bytes: &[u8],
+    at: usize,
+    stack: &mut Stack,
+    opens: &Opens,
+) -> Option<usize>
+    requires begins { Begins bytes.now at 0x22 }
+    requires more { at + 1 < length bytes.now }
+    requires locals { locals.now ≡ tables.now.locals.items }
+    ensures leads { IfSome result (λ end. Leads bytes.now tables.now at (all opens.now) stack.old
+        end (all opens.now) stack.new) }
+    ensures forward { IfSome result (λ end. at < end) }
+    ensures inside { IfSome result (λ end. end ≤ length bytes.now) }
+{
+    let Some((index, end)) = near_index_at(bytes, at + 1) else {
+        return None;
+    };
+    let index = index as usize;
+    if index >= locals.len() || !stack.change_below(&tables.known.order, locals[index]) {
+        return None;
+    }
+    Some(end)
+}
+
+/// The value of a global.
+#[inline(always)]
+pub fn global_get(
+    tables: &Tables,
+    bytes: &[u8],
+    at: usize,
+    stack: &mut Stack,
+    opens: &Opens,
+) -> Option<usize>
+    requires { Begins bytes.now at 0x23 }
+    ensures leads { IfSome result (λ end. Leads bytes.now tables.now at (all opens.now) stack.old
+        end (all opens.now) stack.new) }
+    ensures forward { IfSome result (λ end. at < end) }
+    ensures inside { IfSome result (λ end. end ≤ length bytes.now) }
+{
+    let Some((index, end)) = index_at(bytes, at + 1) else {
+        return None;
+    };
+    let index = index as usize;
+    let globals = tables.known.globals.as_slice();
+    if index >= globals.len() {
+        return None;
+    }
+    let held = globals[index];
+    if held.ty >= NO_CODE || !stack.put(held.ty) {
+        return None;
+    }
+    Some(end)
+}
+
+/// A global takes a value.
+#[inline(always)]
+pub fn global_set(
+    tables: &Tables,
+    bytes: &[u8],
+    at: usize,
+    stack: &mut Stack,
+    opens: &Opens,
+) -> Option<usize>
+    requires { Begins bytes.now at 0x24 }
+    ensures leads { IfSome result (λ end. Leads bytes.now tables.now at (all opens.now) stack.old
+        end (all opens.now) stack.new) }
+    ensures forward { IfSome result (λ end. at < end) }
+    ensures inside { IfSome result (λ end. end ≤ length bytes.now) }
+{
+    let Some((index, end)) = index_at(bytes, at + 1) else {
+        return None;
+    };
+    let index = index as usize;
+    let globals = tables.known.globals.as_slice();
+    if index >= globals.len() {
+        return None;
+    }
+    let held = globals[index];
+    if held.ty >= NO_CODE || !held.mutable || !stack.take_below(&tables.known.order, held.ty) {
+        return None;
+    }
+    Some(end)
+}

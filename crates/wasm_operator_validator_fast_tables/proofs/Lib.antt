@@ -1,0 +1,11 @@
+pub mod Tops
+pub mod Lying
+pub mod Nesting
+pub mod Knowing
+pub mod Reaching
+pub mod Standing
+pub mod Climbing
+pub mod Defining
+pub mod Lowering
+pub mod Writing
+pub mod Tagging

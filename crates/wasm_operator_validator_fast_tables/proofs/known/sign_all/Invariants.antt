@@ -1,0 +1,11 @@
+use Rattle.std.proofs.Common.{◌≡◌, ◌≤◌, length}
+use Rattle.wasm_operator_validator_fast_tables.specs.Known.{IsMore, AreSigsIn}
+use Rattle.wasm_operator_validator_fast_tables.proofs.known.sign_all.Given as goal
+
+abbrev pub invariant-loop-at : goal.invariant-loop-at
+invariant-loop-at g l = let m = g.R.WasmModuleResources.meaning l.resources in record {
+  sigs : AreSigsIn m.ids m.«module» l.flat.items l.types.items;
+  many : length l.types.items ≡ l.at;
+  more : IsMore l.fn.flat.items l.flat.items l.most;
+  within : length l.flat.items ≤ l.most;
+}
