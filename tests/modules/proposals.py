@@ -1,5 +1,5 @@
 """Modules with operators of proposals that are off by default, each valid or refused at a place and for a reason: custom descriptors,
-shared everything, stack switching. bench/proposal-lines writes them into tests/methods, where features may be named."""
+shared everything, stack switching. tests/methods/make writes them into tests/methods, where features may be named."""
 
 from spelling import *
 
