@@ -1,5 +1,5 @@
 /* A program with what compiled modules are made of: imports, exports, memory, data, globals, a table of functions, structures, switches,
-   loops over bytes, numbers of 32 and 64 bits and floats. bench/worked-modules --compile makes clang-O0.wasm and clang-O2.wasm of it. */
+   loops over bytes, numbers of 32 and 64 bits and floats. tests/modules/make --compile makes clang-O0.wasm and clang-O2.wasm of it. */
 typedef unsigned char u8;
 typedef unsigned long long u64;
 struct account { u8 kind; short branch; int count; u64 total; float rate; double sum; struct account *next; };

@@ -1,5 +1,5 @@
 """Modules with operators of proposals that are off by default, each valid or refused at a place and for a reason: custom descriptors,
-shared everything, stack switching. bench/proposal-lines writes them into tests/methods, where features may be named."""
+shared everything, stack switching. tests/methods/make writes them into tests/methods, where features may be named."""
 
 from spelling import *
 
@@ -43,7 +43,7 @@ OF_ALL = ft(["6300", "6301", "636201", "636203", "636200", "6e"], [])
 desc = in_module(5, [PAIR, FULL, STRUCT, OF_ALL], 6)
 
 desc("struct.new_desc", "d06e", "d4", "2003", "fb2002", "1a", E)
-desc("struct.new_desc of an inexact descriptor", "2001", AT, "fb2000", "1a", E, message=mismatch("(ref null (exact (module 1)))", "(ref null (module 1))"))
+desc("struct.new_desc of an inexact descriptor", "2001", AT, "fb2000", "1a", E, message=mismatch("(ref null (exact $type))", "(ref null $type)"))
 desc("struct.new_desc without a descriptor", "2002", AT, "fb2004", "1a", E, message="expected a type with a descriptor")
 desc("struct.new of a type with a descriptor", AT, "fb0000", "1a", E, message="a type with a descriptor requires an allocation with the descriptor")
 desc("struct.new_default_desc", "2002", "fb2100", "1a", E)
@@ -138,7 +138,7 @@ F = "44" + "00" * 8
 cont("cont.new", "2000", "e001", "1a", "4100", E)
 cont("cont.new of a function type", "2000", AT, "e000", "1a", "4100", E, message="non-continuation type 0")
 cont("cont.bind", "4200", "2003", "e10503", "1a", "4100", E)
-cont("cont.bind to other parameters", "4200", "2003", AT, "e10301", "1a", "4100", E, message=mismatch("(ref null (module 3))", "(ref null (module 5))"))
+cont("cont.bind to other parameters", "4200", "2003", AT, "e10301", "1a", "4100", E, message=mismatch("(ref null $type)", "(ref null $type)"))
 cont("cont.bind to more parameters", "2002", AT, "e10305", "1a", "4100", E, message="type mismatch in continuation arguments")
 cont("suspend", "4200", "e201", "1a", "4100", E)
 cont("suspend by no tag", AT, "e203", "4100", E, message="unknown tag 3: tag index out of bounds")
@@ -149,6 +149,6 @@ cont("resume with a handler of switches that gives something else", "2001", AT, 
 cont("resume_throw", "4100", "2001", "e4010000", E)
 cont("resume_throw of a tag that gives something", "4200", "2001", AT, "e4010100", E, message="invalid exception type: non-empty tag result type")
 cont("resume_throw_ref", "2005", "2001", "e50100", E)
-cont("resume_throw_ref of something else", "2000", "2001", AT, "e50100", E, message=mismatch("exnref", "(ref null (module 0))"))
+cont("resume_throw_ref of something else", "2000", "2001", AT, "e50100", E, message=mismatch("exnref", "(ref null $type)"))
 cont("switch", "4200", "2004", "e60702", "1a", "4100", E)
 cont("switch to a continuation that takes none", F, "2002", AT, "e60302", "1a", "4100", E, message="type mismatch: non-continuation type as the last parameter")

@@ -1,0 +1,36 @@
+"""Standard streams that are closed."""
+import tempfile
+
+from common import answered, compare, kinds
+
+
+def run(program):
+    """Standard streams that are closed: no file is read or written in their place."""
+    header, empty = bytes.fromhex("0061736d01000000"), "invalid at 0x0: unexpected end-of-file"
+    unwritten = ["--", "wasm-check: cannot write", "2"]
+    differ = 0
+
+    def want(what, closed, words, lines):
+        nonlocal differ
+        differ += compare(what, answered(program, words, cwd=room, closed=closed), lines)
+
+    with tempfile.TemporaryDirectory(prefix="tests-") as room:
+        for name, contents in (("a.wasm", header), ("wrong.wasm", header + b"\x63")):
+            with open(f"{room}/{name}", "wb") as it:
+                it.write(contents)
+        want("standard input closed", [0], ["-"], [f"-: {empty}", "--", "1"])
+        want("standard input closed, a file after it", [0], ["-", "a.wasm"], [f"-: {empty}", "a.wasm: valid", "--", "1"])
+        want("standard input closed, a file before it", [0], ["a.wasm", "-", "-"], ["a.wasm: valid", f"-: {empty}", f"-: {empty}", "--", "1"])
+        want("standard input and error closed", [0, 2], ["-", "a.wasm"], [f"-: {empty}", "a.wasm: valid", "--", "1"])
+        want("standard output closed", [1], ["a.wasm"], unwritten)
+        want("standard input and output closed", [0, 1], ["a.wasm", "-"], unwritten)
+        want("standard error closed", [2], ["a.wasm"], ["a.wasm: valid", "--", "0"])
+        want("standard error closed, a file gone", [2], ["a.wasm", "gone.wasm"], ["--", "2"])
+        # Three files hold the standard streams: if the system lets fewer be open beside these, another may be read in the place of `-`.
+        differ += compare("streams that can be held", answered(program, ["-"], given=header, most_open=6), ["-: valid", "--", "0"])
+        for words in (["-"], ["--keep-going", "-"], ["--quiet", "-"]):
+            got = answered(program, words, given=header, most_open=5)
+            differ += compare(f"streams that cannot be held, {words}", got, ["--", "wasm-check: /dev/null: cannot open", "2"])
+        got = answered(program, ["--pieces=4", "-", "wrong.wasm", "a.wasm"], cwd=room, closed=[0])
+        differ += compare("standard input closed, in pieces", kinds(got), ["-: invalid", "wrong.wasm: invalid", "a.wasm: valid", "--", "1"])
+    return differ
