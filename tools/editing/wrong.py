@@ -1,7 +1,6 @@
-#!/usr/bin/env python3
 """Puts wrong rules of operators in the place of the right ones, one at a time, and says which proofs notice.
 
-usage: tools/wrong-rules [NAME..]
+usage: tools/edits wrong [NAME..]
 
 An edit of tools/wrong is written as those of crates/NAME/must-fail are, and changes files of crates/wasm_operator_validator_rules/specs. With it
 that crate and wasm_operator_validator_soundness are checked in one run, both from their sources, except for the module `accepted`, which stands
@@ -10,33 +9,20 @@ rules alone. Those in tools/wrong/unseen are known to be noticed by no law of th
 crates/wasm_operator_validator_store/specs: that crate is checked alone, and a law or a row of it has to refuse each. NAME is the name of an
 edit without `.edit`, as ref_eq-of-any or store/ref_eq-always; with none all are tried.
 
-The crates below have to be built (tools/take-kept, or tools/build-proved). Nothing in the clone is changed. An edit takes some 10 CPU
+The crates below have to be built (tools/kit kept, or tools/build-proved). Nothing in the clone is changed. An edit takes some 10 CPU
 seconds. Ends with 1 where an edit comes to something else.
 """
-import importlib.machinery
-import importlib.util
 import os
 import re
-import resource
 import shutil
 import subprocess
 import sys
 import tempfile
 
-sys.dont_write_bytecode = True
-ROOT = os.path.dirname(os.path.dirname(os.path.abspath(__file__)))
+from kit import ROOT, load_rt, spent
+
 WRONG = f"{ROOT}/tools/wrong"
 RULES, RUNS, STORE = "wasm_operator_validator_rules", "wasm_operator_validator_soundness", "wasm_operator_validator_store"
-
-
-def load_rt():
-    """The command `rt`, which asks each crate once what lies below it."""
-    loader = importlib.machinery.SourceFileLoader("rt_beside", f"{ROOT}/tools/rt-beside")
-    beside = importlib.util.module_from_spec(importlib.util.spec_from_loader("rt_beside", loader))
-    loader.exec_module(beside)
-    rt = beside.load_rt()
-    beside.ask_once(rt)
-    return rt
 
 
 def leave_out(part, folder):
@@ -70,11 +56,6 @@ def words_of(rt, rules, runs, room):
 
 def check(rt, words, folder, kept):
     """The functions of each crate that are not proved, all verdicts, what the prover said, and the CPU seconds."""
-
-    def spent():
-        used = resource.getrusage(resource.RUSAGE_CHILDREN)
-        return used.ru_utime + used.ru_stime
-
     before = spent()
     how = {"cwd": folder, "stdin": subprocess.DEVNULL, "stdout": subprocess.PIPE, "stderr": subprocess.STDOUT, "errors": "replace"}
     said = subprocess.run([*rt.rtlib.guarded(), rt.rtlib.RATTLE, "check", *words, "--incremental", kept], text=True, **how).stdout
@@ -116,7 +97,7 @@ def try_all(rt, names, crate, words, room, folder, laws, rows):
     """Tries these edits of a crate, once all is proved as it stands. Returns how many came to something else."""
     broken, verdicts, said, seconds = check(rt, words, folder, f"{room}/seed")
     if not verdicts or any(broken.values()):
-        sys.exit(f"{said}\ntools/wrong-rules: {crate.name} is not proved as it stands")
+        sys.exit(f"{said}\ntools/edits wrong: {crate.name} is not proved as it stands")
     print(f"{seconds:6.1f} s  all is proved as it stands", flush=True)
     wrong = 0
     for name in names:
@@ -133,7 +114,7 @@ def try_all(rt, names, crate, words, room, folder, laws, rows):
 def rules_tried(rt, crates, names):
     """Wrong rules, which the laws of the runs have to notice."""
     rules, runs = crates[RULES], crates[RUNS]
-    with tempfile.TemporaryDirectory(prefix="wrong-rules-") as room:
+    with tempfile.TemporaryDirectory(prefix="wrong-") as room:
         for crate in (rules, runs):
             for part in ("src", "specs", "proofs"):
                 shutil.copytree(f"{crate.folder}/{part}", f"{room}/{crate.name}/{part}")
@@ -144,7 +125,7 @@ def rules_tried(rt, crates, names):
 def store_tried(rt, crates, names):
     """Wrong lines of what a store gives, which the laws or the rows of that crate have to notice."""
     store = crates[STORE]
-    with tempfile.TemporaryDirectory(prefix="wrong-rules-") as room:
+    with tempfile.TemporaryDirectory(prefix="wrong-") as room:
         for part in ("src", "specs", "proofs"):
             shutil.copytree(f"{store.folder}/{part}", f"{room}/{STORE}/{part}")
         return try_all(rt, names, store, store.words(["--jobs", "1"], keeps=False), room, f"{room}/{STORE}", STORE, None)
@@ -159,16 +140,12 @@ def main():
         edits += [f"{part}{it.removesuffix('.edit')}" for it in sorted(os.listdir(f"{WRONG}/{part}")) if it.endswith(".edit")]
     unknown = [it for it in asked if it not in edits]
     if unknown:
-        sys.exit(f"tools/wrong-rules: there is no tools/wrong/{unknown[0]}.edit")
+        sys.exit(f"tools/edits wrong: there is no tools/wrong/{unknown[0]}.edit")
     parts = [[it for it in asked or edits if it.startswith("store/") is of_store] for of_store in (False, True)]
     below = [*(crates[RULES].below() if parts[0] else []), *(crates[STORE].below() if parts[1] else [])]
     lacking = dict.fromkeys(it.name for it in below if not it.is_built())
     if lacking:
-        sys.exit(f"tools/wrong-rules: build first what lies below: {' '.join(lacking)}")
+        sys.exit(f"tools/edits wrong: build first what lies below: {' '.join(lacking)}")
     wrong = rules_tried(rt, crates, parts[0]) if parts[0] else 0
     wrong += store_tried(rt, crates, parts[1]) if parts[1] else 0
     return 1 if wrong else 0
-
-
-if __name__ == "__main__":
-    sys.exit(main())

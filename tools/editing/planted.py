@@ -1,48 +1,28 @@
-#!/usr/bin/env python3
 """Tries the wrong bodies of tools/planted on demand: the prover must refuse each crate with each of its edits.
 
-usage: tools/try-planted [--jobs N] [CRATE..]
+usage: tools/edits planted [--jobs N] [CRATE..]
 
 An edit of tools/planted/CRATE is written as those of crates/CRATE/must-fail are, which the gate tries. These stand apart because their
 crates are dear to check, so the gate tries none of them: run this when such a crate changes. With no CRATE all of tools/planted are tried,
 N crates side by side (1).
 
-The crates below have to be built (tools/take-kept, or tools/build-proved). Each crate is checked once as it stands, over what
-crates/CRATE/out/incremental holds where that exists, and each edit over a copy of what that check left, which is kept there for the next run
-where nothing was. Prints the CPU seconds of each, and ends with 1 where an edit is not refused.
+The crates below have to be built (tools/kit kept, or tools/build-proved). Each crate is checked once as it stands, over what
+crates/CRATE/out/incremental holds, and each edit over a copy of what that check left, which is kept there for the next run if nothing was. Prints the CPU seconds of each, and ends with 1 if an edit is not refused.
 """
 import argparse
 import contextlib
-import importlib.machinery
-import importlib.util
 import os
-import resource
 import shutil
 import sys
 from concurrent.futures import ProcessPoolExecutor
 
-sys.dont_write_bytecode = True
-ROOT = os.path.dirname(os.path.dirname(os.path.abspath(__file__)))
+from kit import ROOT, load_rt, spent
+
 PLANTED = f"{ROOT}/tools/planted"
-
-
-def load_rt():
-    """The command `rt`, which asks each crate once what lies below it."""
-    loader = importlib.machinery.SourceFileLoader("rt_beside", f"{ROOT}/tools/rt-beside")
-    beside = importlib.util.module_from_spec(importlib.util.spec_from_loader("rt_beside", loader))
-    loader.exec_module(beside)
-    rt = beside.load_rt()
-    beside.ask_once(rt)
-    return rt
 
 
 def timed(call, *given):
     """What the call gives, and the CPU seconds of the processes that it ran."""
-
-    def spent():
-        used = resource.getrusage(resource.RUSAGE_CHILDREN)
-        return used.ru_utime + used.ru_stime
-
     before = spent()
     return call(*given), spent() - before
 
@@ -100,14 +80,10 @@ def main():
     planted = sorted(it.name for it in os.scandir(PLANTED) if it.is_dir())
     lacking = [it for it in asked.crate if it not in planted]
     if lacking:
-        sys.exit(f"tools/try-planted: tools/planted has no edits of {lacking[0]}")
+        sys.exit(f"tools/edits planted: tools/planted has no edits of {lacking[0]}")
     os.chdir(ROOT)
     with ProcessPoolExecutor(asked.jobs) as lanes:
         found = list(lanes.map(try_crate, asked.crate or planted))
     missed = sum(it for _, it in found)
     print(f"{sum(it for it, _ in found)} refused, {missed} not")
     return 1 if missed else 0
-
-
-if __name__ == "__main__":
-    sys.exit(main())
