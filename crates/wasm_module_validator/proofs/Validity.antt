@@ -20,7 +20,7 @@ use Rattle.wasm_types.specs.values.Trees.{heap_of}
 use Rattle.wasm_types.specs.values.Values.{value_of}
 use Rattle.wasm_types.specs.externs.declared.table.TableType.{TableType}
 use Rattle.wasm_types.specs.externs.declared.tag.TagType.{TagType}
-use Rattle.wasm_operators_bodies.specs.Locals.{LocalGroup}
+use Rattle.wasm_operators_encoding.specs.Locals.{LocalGroup}
 use Rattle.wasm_sections_items.specs.declared.imports.type_ref.TypeRef.{TypeRef}
 use Rattle.wasm_sections_items.specs.declared.imports.type_ref.TypeRef.TheVariants as import
 use Rattle.wasm_sections_items.specs.imports.Spells.{ImportTree}

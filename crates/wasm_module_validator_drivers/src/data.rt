@@ -1,7 +1,7 @@
 //! Data segments checked in a module that is shared: the check changes nothing that is kept.
 
 ghost use Rattle.std.specs.Prelude.{◌≡◌, ◌≤◌, List, length, IfSome, IfNone, OnOk};
-ghost use Rattle.wasm_operators_bodies.specs.ConstantDecoder.{ConstantText};
+ghost use Rattle.wasm_operators_encoding.specs.ConstantDecoder.{ConstantText};
 ghost use Rattle.wasm_module_validator_section_order.specs.items.Adding.{AddsShort};
 ghost use Rattle.wasm_module_validator_section_order.specs.sections.Sections.{AddsIn};
 ghost use Rattle.wasm_module_validator_section_order.specs.sections.Kinds.{data_read};

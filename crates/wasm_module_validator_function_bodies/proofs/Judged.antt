@@ -17,7 +17,7 @@ use Rattle.wasm_types.specs.values.ValueLaws.{decides-value_type}
 use Rattle.wasm_types.specs.values.Values.{value_of}
 use Rattle.wasm_types.specs.trees.Below.{is_shared}
 use Rattle.wasm_types.specs.decoding.Numbers.{GivesAt}
-use Rattle.wasm_operators_bodies.specs.Locals.{LocalGroup, group_of, total, SpelledGroup}
+use Rattle.wasm_operators_encoding.specs.Locals.{LocalGroup, group_of, total, SpelledGroup}
 use Rattle.wasm_operators_encoding.specs.expressions.Code.{Code}
 use Rattle.wasm_operators_encoding.specs.expressions.Spelling.{SpelledExpression}
 use Rattle.wasm_operator_validator_rules.specs.Operands.{ValueType}

@@ -5,7 +5,7 @@ use Rattle.wasm_types.specs.decoding.Leb.{u32}
 use Rattle.wasm_types.specs.values.declared.value.ValType.{ValType}
 use Rattle.wasm_types.specs.values.declared.value.ValType.TheVariants.{I32, I64, F32, F64}
 use Rattle.wasm_types.specs.values.DecodeValues.{value_type, value_type_after}
-use Rattle.wasm_operators_bodies.specs.Locals.{group, group_of}
+use Rattle.wasm_operators_encoding.specs.Locals.{group, group_of}
 
 pub group_is : (n b : ℕ) (t : ValType) (s u v : Bytes) → u32 s ≡ Done n u → byte u ≡ Done b v → value_type_after b v ≡ Done t v → group s ≡ Done (group_of n t) v
 unfolding group value_type

@@ -8,7 +8,7 @@ use Rattle.wasm_types.specs.decoding.Denials.{Tells}
 use Rattle.wasm_types.specs.decoding.ErrorValue.{ErrorValue}
 use Rattle.wasm_types.specs.decoding.declared.error.ErrorKind.TheVariants as kinds
 use Rattle.wasm_types.specs.trees.Trees.{TypeTree}
-use Rattle.wasm_operators_bodies.specs.Locals.{SpelledLocals}
+use Rattle.wasm_operators_encoding.specs.Locals.{SpelledLocals}
 use Rattle.wasm_operators_encoding.specs.expressions.Spelling.{SpelledExpression}
 use Rattle.wasm_operator_validator_rules.specs.Context.{Module}
 use Rattle.wasm_operator_validator_arity.specs.resources.Meaning.{Meaning}

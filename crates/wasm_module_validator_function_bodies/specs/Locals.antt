@@ -11,9 +11,9 @@ use Rattle.wasm_types.specs.decoding.declared.error.ErrorKind.{ErrorKind}
 use Rattle.wasm_types.specs.decoding.declared.error.ErrorKind.TheVariants as kinds
 use Rattle.wasm_types.specs.reader.Reading.{Fails}
 use Rattle.wasm_types.specs.values.declared.value.ValType.{ValType}
-use Rattle.wasm_operators_bodies.specs.Locals.{LocalGroup, total, SpelledLocals, locals}
+use Rattle.wasm_operators_encoding.specs.Locals.{LocalGroup, total, SpelledLocals, locals}
 -- for attributes that unfold it
-unfoldable pub use Rattle.wasm_operators_bodies.specs.Locals.{group}
+unfoldable pub use Rattle.wasm_operators_encoding.specs.Locals.{group}
 use Rattle.wasm_operator_validator_rules.specs.Context.{Module}
 use Rattle.wasm_operator_validator_arity.specs.resources.Meaning.{Meaning}
 use Rattle.wasm_operator_validator_state.specs.Refusals.{refused_by}

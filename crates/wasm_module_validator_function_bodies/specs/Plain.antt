@@ -3,7 +3,7 @@ use Rattle.std.specs.Prelude.{◌≡◌, ◌≤◌, ℕ, List, [], ◌∷◌, �
 use Rattle.wasm_types.specs.decoding.Leb.{IsListed}
 use Rattle.wasm_types.specs.settings.Settings.{Settings}
 use Rattle.wasm_types.specs.trees.Trees.{TypeTree}
-use Rattle.wasm_operators_bodies.specs.Locals.{LocalGroup, total, SpelledGroup}
+use Rattle.wasm_operators_encoding.specs.Locals.{LocalGroup, total, SpelledGroup}
 use Rattle.wasm_operator_validator_rules.specs.Context.{Module, IsType}
 use Rattle.wasm_module_validator_section_order.specs.rules.Valid.{Each, IsValidValueType, locals_in}
 use Rattle.wasm_operator_validator_fast_tables.specs.declared.tables.Sig.{Sig}

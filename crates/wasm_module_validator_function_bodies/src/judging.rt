@@ -4,7 +4,7 @@ ghost use Rattle.std.specs.Prelude.{◌≡◌, true, IfSome};
 ghost use Rattle.wasm_types.specs.decoding.Decoder.{State as Bytes, Done};
 ghost use Rattle.wasm_types.specs.settings.Limits.{IsWithinCeilings};
 ghost use Rattle.wasm_types.specs.values.DecodeValues.{value_type_after};
-ghost use Rattle.wasm_operators_bodies.specs.Locals.{LocalGroup, group};
+ghost use Rattle.wasm_operators_encoding.specs.Locals.{LocalGroup, group};
 ghost use Rattle.wasm_operator_validator_stacks.specs.Defining.{DefinesLocals};
 ghost use Rattle.wasm_operator_validator_arity.specs.resources.Meaning.{Meaning};
 ghost use Rattle.wasm_module_validator_function_bodies.specs.Locals.{judged_by, TakesLocals};

@@ -7,7 +7,7 @@ ghost use Rattle.wasm_types.specs.decoding.Leb.{u32 as u32_decoder};
 ghost use Rattle.wasm_types.specs.decoding.declared.error.ErrorKind.TheVariants.{Failed, Other};
 ghost use Rattle.wasm_types.specs.reader.Reading.{Fails, Gives};
 ghost use Rattle.wasm_types.specs.decoding.Numbers.{IsRefused};
-ghost use Rattle.wasm_operators_bodies.specs.Locals.{LocalGroup, group, group_of};
+ghost use Rattle.wasm_operators_encoding.specs.Locals.{LocalGroup, group, group_of};
 ghost use Rattle.wasm_operator_validator_stacks.specs.Defining.{DefinesLocals};
 ghost use Rattle.wasm_module_validator_function_bodies.specs.Locals.{judged_by, relocated, TakesLocals, RefusesGroup, StopsLocals, ReadsLocals, DefinesMore};
 

@@ -4,8 +4,8 @@ use Rattle.std.proofs.lemmas.List.{length-append}
 use Rattle.wasm_types.specs.decoding.Decoder.{State, Done}
 use Rattle.wasm_types.specs.decoding.Places.{end_of}
 use Rattle.wasm_types.specs.settings.Settings.{Settings}
-use Rattle.wasm_operators_bodies.specs.ConstantDecoder.{constant}
-use Rattle.wasm_operators_bodies.specs.ConstantDecoderLaws.{decides-constant}
+use Rattle.wasm_operators_encoding.specs.ConstantDecoder.{constant}
+use Rattle.wasm_operators_encoding.specs.ConstantDecoderLaws.{decides-constant}
 
 -- one that is read ends no later than the bytes do, which end as before
 pub constant_within : (z : Settings) (s t : State) (text : List ℕ) → constant z s ≡ Done text t → (s.place + length text ≤ end_of s) × (end_of t ≡ end_of s)

@@ -5,7 +5,7 @@ use Rattle.std.specs.List.{AllZip}
 use Rattle.std.proofs.lemmas.List.{append_assoc, append-nil}
 use Rattle.wasm_types.specs.settings.Settings.{Settings}
 use Rattle.wasm_types.specs.decoding.Decoder.{State, Outcome, Done, Short, Fault, Decoder, repeated}
-use Rattle.wasm_operators_bodies.specs.ConstantDecoder.{constant}
+use Rattle.wasm_operators_encoding.specs.ConstantDecoder.{constant}
 use Rattle.wasm_sections_items.specs.limited.Walking.{fresh}
 use Rattle.wasm_sections_items.specs.declared.elements.element.ElementOf.{ElementOf}
 use Rattle.wasm_sections_items.specs.declared.elements.element.ElementKindOf.{ElementKindOf}

@@ -22,7 +22,7 @@ use Rattle.wasm_operators_bodies.specs.declared.short.ShortConstant.{ShortConsta
 use Rattle.wasm_operators_bodies.specs.declared.short.ShortConstant.TheVariants as short
 use Rattle.wasm_operators_bodies.specs.Short.{alone, IsOf, SpellsShort}
 use Rattle.wasm_operators_bodies.specs.ShortLaws.{short_is_constant}
-use Rattle.wasm_operators_bodies.specs.ConstantDecoder.{ConstantText}
+use Rattle.wasm_operators_encoding.specs.ConstantDecoder.{ConstantText}
 use Rattle.wasm_operator_validator_state.specs.resources.Meaning.{Meaning, type_in, global_in}
 use Rattle.wasm_operator_validator_rules.specs.Context.{Module}
 use Rattle.wasm_operator_validator_rules.specs.Operands.{ValueType}

@@ -14,8 +14,8 @@ use Rattle.wasm_operators_encoding.specs.expressions.Code.{Code}
 use Rattle.wasm_operators_encoding.specs.expressions.Spelling.{SpelledExpression}
 use Rattle.wasm_operators_encoding.specs.expressions.SpellingLaws.{one_expression}
 use Rattle.wasm_operators_bodies.specs.Short.{alone}
-use Rattle.wasm_operators_bodies.specs.ConstantDecoder.{constant}
-use Rattle.wasm_operators_bodies.specs.ConstantDecoderLaws.{decides-constant}
+use Rattle.wasm_operators_encoding.specs.ConstantDecoder.{constant}
+use Rattle.wasm_operators_encoding.specs.ConstantDecoderLaws.{decides-constant}
 use Rattle.wasm_sections_items.specs.limited.Walking.{Walk, Passes}
 use Rattle.wasm_operator_validator_rules.specs.Operands.{ValueType}
 use Rattle.wasm_operator_validator_rules.specs.Context.{Module}

@@ -15,7 +15,7 @@ ghost use Rattle.wasm_module_validator_section_order.specs.rules_in_order.Texts.
 ghost use Rattle.wasm_module_validator_state.specs.invariant.Standing.{GrowsWith, Stands};
 ghost use Rattle.wasm_module_validator_section_order.specs.sections.Sections.{MayBegin};
 ghost use Rattle.wasm_module_validator_section_order.specs.sections.Kinds.{table_read, global_read, export_read, element_read, data_read};
-ghost use Rattle.wasm_operators_bodies.specs.ConstantDecoder.{ConstantText};
+ghost use Rattle.wasm_operators_encoding.specs.ConstantDecoder.{ConstantText};
 ghost use Rattle.wasm_sections_items.specs.imports.Spells.{SpelledExport};
 ghost use Rattle.wasm_sections_items.specs.segments.Spells.{SpelledData, SpelledGlobalItem};
 ghost use Rattle.wasm_sections_items.specs.segments.Tables.{SpelledTableItem};

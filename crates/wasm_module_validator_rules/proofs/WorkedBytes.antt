@@ -21,7 +21,7 @@ use Rattle.wasm_types.specs.Spells.{SpellsGroup}
 use Rattle.wasm_sections_items.specs.frames.Outer.{Part, code, section, IsBytes, Outer, SpelledOuter, SpelledPart, SpelledHeader, Counts, Declares, DeclaresOrAbsent, IsCoreModule}
 use Rattle.wasm_sections_items.specs.frames.OuterLaws.{one_outer}
 use Rattle.wasm_sections_items.specs.segments.Spells.{SpelledData}
-use Rattle.wasm_operators_bodies.specs.Locals.{SpelledLocals}
+use Rattle.wasm_operators_encoding.specs.Locals.{SpelledLocals}
 use Rattle.wasm_module_validator_rules.specs.Syntax.{Function, ModuleTree}
 use Rattle.wasm_module_validator_rules.specs.Binary.{SpelledGroup, SpelledConstant, SpelledFunction, SpelledCode, SpelledSections, SpelledModule, SpelledModuleWith, entries_of}
 use Rattle.wasm_module_validator_rules.specs.Valid.{IsValid}

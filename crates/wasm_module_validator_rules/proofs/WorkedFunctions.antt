@@ -11,7 +11,7 @@ use Rattle.wasm_types.specs.trees.ValidGroup.{type_at}
 use Rattle.wasm_types.specs.values.declared.value.ValType.TheVariants as value
 use Rattle.wasm_operators_immediates.specs.declared.frames.FrameKind.TheVariants as frames
 use Rattle.wasm_operators_encoding.specs.expressions.Code.{Code}
-use Rattle.wasm_operators_bodies.specs.Locals.{LocalGroup}
+use Rattle.wasm_operators_encoding.specs.Locals.{LocalGroup}
 use Rattle.wasm_operator_validator_rules.specs.Operands.{ValueType, Operand, known}
 use Rattle.wasm_operator_validator_rules.specs.Typed.{IsBody}
 use Rattle.wasm_module_validator_rules.specs.Syntax.{ModuleTree}

@@ -20,7 +20,7 @@ use Rattle.wasm_operators_enums.specs.Op.{Op}
 use Rattle.wasm_operators_encoding.specs.expressions.Code.{Code, plain}
 use Rattle.wasm_operators_enums.specs.Roles.{role_of, effect}
 use Rattle.wasm_operators_enums.specs.declared.role.Effect.TheVariants.{Stays}
-use Rattle.wasm_operators_bodies.specs.Locals.{LocalGroup, total}
+use Rattle.wasm_operators_encoding.specs.Locals.{LocalGroup, total}
 use Rattle.wasm_sections_items.specs.imports.Spells.{ImportTree, ExportTree}
 use Rattle.wasm_sections_items.specs.segments.Spells.{GlobalTree, DataTree}
 use Rattle.wasm_sections_items.specs.segments.Tables.{TableTree}

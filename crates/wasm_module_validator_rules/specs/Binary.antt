@@ -18,8 +18,8 @@ use Rattle.wasm_types.specs.Spells.{SpellsGroup}
 use Rattle.wasm_types.specs.externs.Spells.{SpelledMemory, SpelledTag}
 use Rattle.wasm_operators_encoding.specs.expressions.Code.{Code, walk}
 use Rattle.wasm_operators_encoding.specs.expressions.Spelling.{SpelledExpression}
-use Rattle.wasm_operators_bodies.specs.Locals.{SpelledLocals}
-use Rattle.wasm_operators_bodies.specs.Constants.{EndsOnce}
+use Rattle.wasm_operators_encoding.specs.Locals.{SpelledLocals}
+use Rattle.wasm_operators_encoding.specs.Ends.{EndsOnce}
 use Rattle.wasm_sections_items.specs.frames.Outer.{Part, custom, code, section, Outer, SpelledOuter, IsCoreModule}
 use Rattle.wasm_sections_items.specs.imports.Spells.{SpelledImport, SpelledExport}
 use Rattle.wasm_sections_items.specs.segments.Spells.{SpelledGlobalItem, SpelledData}

@@ -5,8 +5,8 @@ use Rattle.wasm_types.specs.decoding.Leb.{IsUnsigned, IsListed}
 use Rattle.wasm_types.specs.settings.Settings.{Settings}
 use Rattle.wasm_operators_encoding.specs.expressions.Code.{Code}
 use Rattle.wasm_operators_encoding.specs.expressions.SpellingLaws.{one_expression}
-use Rattle.wasm_operators_bodies.specs.ConstantDecoder.{constant}
-use Rattle.wasm_operators_bodies.specs.ConstantDecoderLaws.{decides-constant}
+use Rattle.wasm_operators_encoding.specs.ConstantDecoder.{constant}
+use Rattle.wasm_operators_encoding.specs.ConstantDecoderLaws.{decides-constant}
 use Rattle.wasm_sections_items.specs.elements.Spells.{ElementTree, ElementMode, ElementItems, passive, active, declared, functions, expressions, use_bits, kind_bits}
 use Rattle.wasm_sections_items.specs.elements.Spells.{SpelledMode, SpelledItems, SpelledElement}
 use Rattle.wasm_sections_items.specs.elements.Decode.{element}

@@ -23,8 +23,8 @@ use Rattle.wasm_types.specs.externs.Spells.{SpelledMemory, SpelledTag}
 use Rattle.wasm_types.specs.externs.DecodeLaws.{decides-memory_type, decides-tag_type}
 use Rattle.wasm_operators_encoding.specs.expressions.Spelling.{SpelledExpression}
 use Rattle.wasm_operators_encoding.specs.expressions.SpellingLaws.{one_expression}
-use Rattle.wasm_operators_bodies.specs.Locals.{locals, SpelledLocals}
-use Rattle.wasm_operators_bodies.specs.LocalsLaws.{decides-locals}
+use Rattle.wasm_operators_encoding.specs.Locals.{locals, SpelledLocals}
+use Rattle.wasm_operators_encoding.specs.LocalsLaws.{decides-locals}
 use Rattle.wasm_sections_items.specs.frames.Outer.{Outer}
 use Rattle.wasm_sections_items.specs.frames.OuterLaws.{one_outer}
 use Rattle.wasm_sections_items.specs.imports.Spells.{SpelledImport, SpelledExport}

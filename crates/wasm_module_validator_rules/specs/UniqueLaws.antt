@@ -9,8 +9,8 @@ use Rattle.wasm_types.specs.externs.declared.table.TableType.{TableType}
 use Rattle.wasm_operators_encoding.specs.expressions.Code.{Code}
 use Rattle.wasm_operators_encoding.specs.expressions.Spelling.{SpelledExpression}
 use Rattle.wasm_operators_encoding.specs.expressions.SpellingLaws.{one_expression}
-use Rattle.wasm_operators_bodies.specs.ConstantDecoder.{constant, ConstantText}
-use Rattle.wasm_operators_bodies.specs.ConstantDecoderLaws.{decides-constant}
+use Rattle.wasm_operators_encoding.specs.ConstantDecoder.{constant, ConstantText}
+use Rattle.wasm_operators_encoding.specs.ConstantDecoderLaws.{decides-constant}
 use Rattle.wasm_sections_items.specs.frames.OuterLaws.{one}
 use Rattle.wasm_sections_items.specs.segments.Spells.{GlobalTree, SpelledGlobalItem, DataTree, DataMode, SpelledData}
 use Rattle.wasm_sections_items.specs.segments.Spells as mode

@@ -35,7 +35,7 @@ use Rattle.wasm_module_validator_function_bodies.specs.laws.Functions.{functions
 use Rattle.wasm_module_validator_function_bodies.specs.code.Worked.{body_rows}
 use Rattle.wasm_module_validator_initialisers.specs.resources.referring.Naming.{NamesMore}
 use Rattle.wasm_module_validator_initialisers.specs.resources.referring.NamingLaws.{names_more}
-use Rattle.wasm_operators_bodies.specs.Locals.{LocalGroup, groups_within, locals}
+use Rattle.wasm_operators_encoding.specs.Locals.{LocalGroup, groups_within, locals}
 use Rattle.wasm_module_validator_tests.specs.Done.{bytes_at, beginning, no_locals, LocalsDone, nop, end, TriesDone, of_type, nothing, BodiesDone, reference, nothing_named, FunctionsNamed}
 
 untrue : false ≡ true → ⊥

@@ -11,8 +11,9 @@ use crate::ConstantRefusal;
 use crate::operators::is_constant_operator;
 use crate::validating::ValidatingConstants;
 use wasm_operator_validator_driver::ValidatingWalk;
-use wasm_operator_validator_expression::{TellSimdOperator, is_simd};
+use wasm_operator_validator_expression::TellSimdOperator;
 use wasm_operator_validator_stacks::{Reason, Refusal, WasmModuleResources};
+use wasm_operators_enums::is_simd;
 use wasm_operators_reader::walks::{Operator, TellOperator, TellPlain, Visitor};
 use wasm_types::WasmFeatures;
 

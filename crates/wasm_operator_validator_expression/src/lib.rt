@@ -8,7 +8,6 @@ pub mod laws;
 mod validating;
 
 pub use validating::{Refused, Validating, accepts_operators, validate_operators};
-pub use wasm_operators_reader::is_simd;
 pub use wasm_operators_reader::walks::{
     OperatorsReaderAllocations, TellOperator, TellPlain, TellSimdOperator,
 };

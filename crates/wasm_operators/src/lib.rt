@@ -25,6 +25,7 @@ pub use expressions::{visit_expression, visit_expression_with_offset};
 pub use read_operators::{ReadToSimdVisitor, ReadToVisitor};
 pub use visits::{VisitNext, VisitNextSimd};
 pub use wasm_operators_bodies::{ConstExpr, FunctionBody, LocalsIterator, LocalsReader};
+pub use wasm_operators_enums::is_simd;
 pub use wasm_operators_frequent::reading::LentVisitor;
 pub use wasm_operators_reader::walks::{
     ReadOperators, TellSimdOperator, laws, tell_expression_with_offset,
@@ -38,7 +39,7 @@ pub use wasm_operators_reader::{
     MemoryOperator, NumericOperator, Operator, OperatorInfo, OperatorsIterator,
     OperatorsIteratorWithOffsets, OperatorsReader, OperatorsReaderAllocations, Ordering,
     ParametricOperator, Proposal, ResumeTable, SharedOperator, SimdNumericOperator, SimdOperator,
-    TellOperator, TellPlain, TryTable, V128, Visitor, is_simd, read_expression, read_operator,
+    TellOperator, TellPlain, TryTable, V128, Visitor, read_expression, read_operator,
 };
 pub use wasm_operators_visit_simd_operator::{
     VisitAtomic, VisitControl, VisitFloats, VisitGc, VisitIntegers, VisitMemory, VisitOperator,

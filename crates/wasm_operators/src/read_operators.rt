@@ -5,7 +5,7 @@ ghost use Rattle.wasm_types.specs.decoding.Decoder.{State};
 ghost use Rattle.wasm_types.specs.reader.Reading.{NeedsNoMemory};
 ghost use Rattle.wasm_operators_enums.specs.Op.{Op};
 ghost use Rattle.wasm_operators_decode.specs.Memory.{keeps_list_at};
-ghost use Rattle.wasm_operators_visit_simd_operator.specs.visit_operator.Vectors.{is_simd};
+ghost use Rattle.wasm_operators_enums.specs.Vectors.{is_simd};
 ghost use Rattle.wasm_operators_reader.specs.walks.InFrame.{ReadsIn, RefusesIn, RefusesPlainIn};
 
 use std::alloc::Global;

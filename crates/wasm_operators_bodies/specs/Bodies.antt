@@ -3,7 +3,7 @@ use Rattle.std.specs.Prelude.{◌≡◌, ℕ, List, length, ◌++◌}
 use Rattle.wasm_types.specs.decoding.Decoder.{State, Decoder, Done, ◌>>=◌, pure}
 use Rattle.wasm_types.specs.decoding.Leb.{IsUnsigned}
 use Rattle.wasm_types.specs.reader.Parts.{counted_part}
-use Rattle.wasm_operators_bodies.specs.Locals.{LocalGroup, locals}
+use Rattle.wasm_operators_encoding.specs.Locals.{LocalGroup, locals}
 
 -- a size, and as many bytes, which are the body's
 pub record SpelledBody (body : List ℕ) (text : List ℕ) : Type 0 where

@@ -15,13 +15,14 @@ use Rattle.wasm_operators_enums.specs.Op.{Op}
 use Rattle.wasm_operators_encoding.specs.expressions.Code.{walk}
 use Rattle.wasm_operators_encoding.specs.expressions.Spelling.{SpelledOperators}
 use Rattle.wasm_operators_encoding.specs.expressions.Frames.{Closes}
-use Rattle.wasm_operators_encoding.specs.expressions.FrameLaws.{closes_step, closes_more}
+use Rattle.wasm_operators_encoding.specs.expressions.FrameLaws.{closes_step, closes_more, closes_at}
 use Rattle.wasm_operators_encoding.specs.expressions.SpellingLaws.{spelled_read, read_spelled}
 use Rattle.wasm_operators_encoding.specs.expressions.Stack.{innermost}
 use Rattle.wasm_operators_reader.specs.Standing.{Standing, at_start, Reads, Runs}
-use Rattle.wasm_operators_reader.specs.RunLaws.{run_more, closes_at}
+use Rattle.wasm_operators_reader.specs.RunLaws.{run_more}
 use Rattle.wasm_operators_reader.specs.MeetLaws.{meets_end, meets_refusal}
-use Rattle.wasm_operators_bodies.specs.Constants.{is_end, HasNoEnd, EndsOnce, IsConstantText, PassesTo, StopsConstant, same_bytes}
+use Rattle.wasm_operators_encoding.specs.Ends.{is_end, HasNoEnd, EndsOnce, IsConstantText}
+use Rattle.wasm_operators_bodies.specs.Constants.{PassesTo, StopsConstant, same_bytes}
 
 -- ---- from a run to bytes
 

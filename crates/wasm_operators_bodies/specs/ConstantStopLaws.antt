@@ -18,12 +18,13 @@ use Rattle.wasm_operators_encoding.specs.expressions.Frames.{after}
 use Rattle.wasm_operators_encoding.specs.expressions.SpellingLaws.{read_spelled}
 use Rattle.wasm_operators_encoding.specs.codes.OpcodeRoles.{role_at}
 use Rattle.wasm_operators_encoding.specs.codes.RoleLaws.{role_of_opcode}
-use Rattle.wasm_operators_bodies.specs.Until.{Again, go_on, until, taken_by}
-use Rattle.wasm_operators_bodies.specs.UntilLaws.{until_step}
+use Rattle.wasm_operators_encoding.specs.Until.{Again, go_on, until, taken_by}
+use Rattle.wasm_operators_encoding.specs.UntilLaws.{until_step}
 use Rattle.wasm_operators_reader.specs.Standing.{Standing, at_start, Reads, RefusesIn, Runs}
-use Rattle.wasm_operators_bodies.specs.Constants.{IsConstantText, is_end, HasNoEnd, StopsConstant}
-use Rattle.wasm_operators_bodies.specs.ConstantDecoder.{NextFrames, behind_end, by_frames, by_role, step, constant}
-use Rattle.wasm_operators_bodies.specs.ConstantDecoderLaws.{step_takes, decides-constant}
+use Rattle.wasm_operators_encoding.specs.Ends.{IsConstantText, is_end, HasNoEnd}
+use Rattle.wasm_operators_bodies.specs.Constants.{StopsConstant}
+use Rattle.wasm_operators_encoding.specs.ConstantDecoder.{NextFrames, behind_end, by_frames, by_role, step, constant}
+use Rattle.wasm_operators_encoding.specs.ConstantDecoderLaws.{step_takes, decides-constant}
 
 -- ---- what fails goes on failing
 

@@ -9,8 +9,8 @@ use Rattle.wasm_types.specs.decoding.declared.error.ErrorKind.TheVariants.{EndOf
 use Rattle.wasm_types.specs.decoding.ErrorValue.{ErrorValue}
 use Rattle.wasm_types.specs.reader.Reading.{Fails, FailsAt}
 use Rattle.wasm_types.specs.reader.ReadingLaws.{fails_then}
-use Rattle.wasm_operators_bodies.specs.Locals.{LocalGroup, most_locals, group_within, groups_within, locals}
-use Rattle.wasm_operators_bodies.specs.LocalsLaws.{decides-group_within}
+use Rattle.wasm_operators_encoding.specs.Locals.{LocalGroup, most_locals, group_within, groups_within, locals}
+use Rattle.wasm_operators_encoding.specs.LocalsLaws.{decides-group_within}
 use Rattle.wasm_operators_bodies.specs.Groups.{LocalsLeft, behind_count, counted_groups, ReadsGroup, RefusesGroupOf, ReadsGroups}
 
 -- a group that was read has room

@@ -6,7 +6,7 @@ use Rattle.wasm_types.specs.settings.Settings.{Settings}
 use Rattle.wasm_types.specs.decoding.declared.error.ErrorKind.TheVariants.{Other}
 use Rattle.wasm_types.specs.decoding.ErrorValue.{ErrorValue}
 use Rattle.wasm_types.specs.reader.Reading.{Fails, IsNotMemory}
-use Rattle.wasm_operators_bodies.specs.Locals.{LocalGroup, most_locals, group_within}
+use Rattle.wasm_operators_encoding.specs.Locals.{LocalGroup, most_locals, group_within}
 
 -- its bytes, how many groups were counted, how many of them are left, and how many locals these may have together
 pub record LocalsLeft : Type 0 where

@@ -24,7 +24,7 @@ use Rattle.wasm_operators_encoding.specs.expressions.SpellingLaws.{read_spelled}
 use Rattle.wasm_operators_frequent.specs.Short.{IsTold}
 use Rattle.wasm_operators_bodies.specs.declared.short.ShortConstant.{ShortConstant}
 use Rattle.wasm_operators_bodies.specs.declared.short.ShortConstant.TheVariants as short
-use Rattle.wasm_operators_bodies.specs.Constants.{is_end, IsConstantText}
+use Rattle.wasm_operators_encoding.specs.Ends.{is_end, IsConstantText}
 use Rattle.wasm_operators_bodies.specs.Short.{IsOf, alone, SpellsShort}
 
 -- such an operator opens and closes no frame

@@ -5,7 +5,7 @@ ghost use Rattle.wasm_types.specs.decoding.Decoder.{State, Reaches};
 ghost use Rattle.wasm_types.specs.reader.Parts.{counted_part};
 ghost use Rattle.wasm_types.specs.reader.Reading.{Collects, Fails, Gives, NeedsNoMemory};
 ghost use Rattle.wasm_operators_reader.specs.Standing.{at_start};
-ghost use Rattle.wasm_operators_bodies.specs.Locals.{locals};
+ghost use Rattle.wasm_operators_encoding.specs.Locals.{locals};
 ghost use Rattle.wasm_operators_bodies.specs.Groups.{counted_groups};
 ghost use Rattle.wasm_operators_bodies.specs.Bodies.{body_bytes, OperatorsBegin};
 

@@ -8,9 +8,10 @@ ghost use Rattle.wasm_types.specs.reader.Reading.{Gives, IsNotMemory, MemoryOnly
 ghost use Rattle.wasm_operators_enums.specs.Op.{Op, op_of};
 ghost use Rattle.wasm_operators_reader.specs.Standing.{at_start, Reads, Refuses, WantsMemory};
 ghost use Rattle.wasm_operators_bodies.specs.Short.{SpellsShort};
-ghost use Rattle.wasm_operators_bodies.specs.Constants.{is_end, IsConstantText, PassesTo, StopsConstant, same_bytes};
+ghost use Rattle.wasm_operators_encoding.specs.Ends.{is_end, IsConstantText};
+ghost use Rattle.wasm_operators_bodies.specs.Constants.{PassesTo, StopsConstant, same_bytes};
 ghost use Rattle.wasm_operators_bodies.specs.ConstantLaws.{same_bytes_equal};
-ghost use Rattle.wasm_operators_bodies.specs.ConstantDecoder.{constant};
+ghost use Rattle.wasm_operators_encoding.specs.ConstantDecoder.{constant};
 
 use crate::part::{front, left, take_front};
 use crate::short::{ShortConstant, short_constant};
@@ -121,8 +122,8 @@ impl<'a> Eq for ConstExpr<'a> {
 /// The bytes of an expression whose only `end` is its last operator, as [`ConstExpr::read`] takes them.
 impl<'a> FromReader<'a> for ConstExpr<'a> {
     ghost use Rattle.std.specs.Prelude.{ℕ, List, true};
-    ghost use Rattle.wasm_operators_bodies.specs.ConstantDecoder.{constant, ConstantText};
-    ghost use Rattle.wasm_operators_bodies.specs.ConstantDecoderLaws.{lawful-constant, decides-constant};
+    ghost use Rattle.wasm_operators_encoding.specs.ConstantDecoder.{constant, ConstantText};
+    ghost use Rattle.wasm_operators_encoding.specs.ConstantDecoderLaws.{lawful-constant, decides-constant};
 
     ghost Value = { List ℕ };
 

@@ -5,7 +5,7 @@ ghost use Rattle.wasm_types.specs.decoding.Decoder.{State, Done, IsLawful, Decid
 ghost use Rattle.wasm_types.specs.settings.Settings.{Settings};
 ghost use Rattle.wasm_types.specs.decoding.ErrorValue.{ErrorValue};
 ghost use Rattle.wasm_types.specs.reader.Reading.{Fails};
-ghost use Rattle.wasm_operators_bodies.specs.Locals.{LocalGroup, SpelledLocals, group_within, locals};
+ghost use Rattle.wasm_operators_encoding.specs.Locals.{LocalGroup, SpelledLocals, group_within, locals};
 ghost use Rattle.wasm_operators_bodies.specs.Groups.{LocalsLeft, counted_groups, ReadsGroups};
 ghost use Rattle.wasm_operators_bodies.specs.Constants.{same_bytes};
 

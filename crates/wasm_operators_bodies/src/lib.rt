@@ -2,10 +2,10 @@
 //! modules, code section); and constant expressions among other bytes.
 //!
 //! A [`FunctionBody`] holds the bytes of one body. A [`LocalsReader`] reads its groups of locals one by one, without
-//! memory, and refuses the group with which there are more locals than the limit. `specs/Locals.antt` defines which
-//! bytes spell groups of locals, `specs/Groups.antt` what a reader of them reads and why it refuses, and
-//! `specs/Bodies.antt` which bytes spell a body. A [`ConstExpr`] holds the bytes of one constant expression;
-//! `specs/Constants.antt` defines which bytes these are.
+//! memory, and refuses the group with which there are more locals than the limit. A [`ConstExpr`] holds the bytes of one
+//! constant expression. Which bytes spell groups of locals and constant expressions, `Locals` and `Ends` of
+//! `wasm_operators_encoding` define; `specs/Groups.antt` defines what a reader of groups reads and why it refuses,
+//! `specs/Constants.antt` the same of constant expressions, and `specs/Bodies.antt` which bytes spell a body.
 #![tactic(auto)]
 
 mod body;

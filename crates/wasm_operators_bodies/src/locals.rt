@@ -6,7 +6,7 @@ ghost use Rattle.wasm_types.specs.decoding.Decoder.{Reaches};
 ghost use Rattle.wasm_types.specs.decoding.declared.error.ErrorKind.TheVariants.{Other};
 ghost use Rattle.wasm_types.specs.reader.Reading.{Answers, Collects, Fails, Gives, NeedsNoMemory};
 ghost use Rattle.wasm_operators_reader.specs.Standing.{at_start};
-ghost use Rattle.wasm_operators_bodies.specs.Locals.{LocalGroup, group_of, group_within};
+ghost use Rattle.wasm_operators_encoding.specs.Locals.{LocalGroup, group_of, group_within};
 ghost use Rattle.wasm_operators_bodies.specs.Groups.{counted_groups, ReadsGroup, ReadsGroups, RefusesGroup, NextGroup, groups_left};
 
 use std::alloc::Global;

@@ -1,14 +1,14 @@
 -- An opcode with its immediates is read lawfully and exactly.
-use Rattle.std.proofs.Common.{◌≡◌, ℕ, List, map, Option, Some, None, refl, sym, subst}
+use Rattle.std.proofs.Common.{◌≡◌, ℕ, ◌<◌, List, length, map, Option, Some, None, refl, sym, ap, subst, length-append, arith}
 use Rattle.wasm_types.specs.decoding.declared.Refusal.TheVariants.{Other}
-use Rattle.wasm_types.specs.decoding.Decoder.{Grammar, ◌>>=◌, pure, IsLawful, Decides, Then}
+use Rattle.wasm_types.specs.decoding.Decoder.{State, Done, Grammar, ◌>>=◌, pure, IsLawful, Decides, Then}
 use Rattle.wasm_types.specs.decoding.Laws.{lawful->>=, lawful-pure}
 use Rattle.wasm_types.specs.decoding.ListLaws.{lawful-from_place, decides-from_place, lawful-refuse_at, decides-refuse_at}
 use Rattle.wasm_types.specs.decoding.ExactLaws.{decides->>=, decides-same, decides-map, Mapped}
 use Rattle.wasm_types.specs.settings.Settings.{Settings}
 use Rattle.wasm_operators_immediates.specs.Kinds.{Kind}
 use Rattle.wasm_operators_immediates.specs.Immediates.{kind_of}
-use Rattle.wasm_operators_encoding.specs.Opcodes.{Opcode, opcode, SpelledOpcode}
+use Rattle.wasm_operators_encoding.specs.Opcodes.{Opcode, opcode, Spells, SpelledOpcode}
 use Rattle.wasm_operators_encoding.specs.OpcodeLaws.{lawful-opcode, decides-opcode}
 use Rattle.wasm_operators_encoding.specs.Sequences.{immediates, SpelledImmediates, OfKinds}
 use Rattle.wasm_operators_encoding.specs.SequenceLaws.{lawful-immediates, decides-immediates}
@@ -82,3 +82,21 @@ module _ (settings : Settings) where
       (λ p. decides-same (opcode >>= behind settings p) (Then SpelledOpcode carried_behind) (SpelledCoded settings)
       (decides->>= opcode (behind settings p) SpelledOpcode carried_behind decides-opcode (λ o. decides-carried_by p o (kinds_at o)))
       coded_to coded_from)
+
+-- ---- an opcode has bytes
+
+opcode_some : (prefix : Option ℕ) (code : ℕ) (text : List ℕ) → Spells prefix code text → 0 < length text
+opcode_some None code text (p, e) = rw e (omega arith)
+opcode_some (Some b) code text (rest, p, u, e) = rw e (omega arith)
+
+module _ (settings : Settings) (s t : State) (c : Coded) (read : operator settings s ≡ Done c t) where
+  -- fewer are left behind an opcode with its immediates
+  pub fewer_left : length t.rest < length s.rest
+  fewer_left =
+      let found = (decides-operator settings).sound s t c read in
+      let some = opcode_some c.opcode.prefix c.opcode.code found.2.front found.2.opcode in
+      omega (arith, ap length found.1.parts, ap length found.2.whole, length-append found.0 t.rest, length-append found.2.front found.2.back)
+
+  -- so there was one
+  pub some_left : 0 < length s.rest
+  some_left = omega (arith, fewer_left)

@@ -8,6 +8,12 @@ pub mod Groups
 -- Rules: which bytes spell an operator, with the decoders in `Coded`.
 pub mod Coded
 pub mod Operators
+-- Rules: groups of locals, with their decoder; expressions whose only `end` is the last operator.
+pub mod Locals
+pub mod Ends
+-- Decoders: how constant expressions are read.
+pub mod Until
+pub mod ConstantDecoder
 -- Laws.
 pub mod SequenceLaws
 pub mod OpcodeLaws
@@ -15,6 +21,9 @@ pub mod CodedLaws
 pub mod RowLaws
 pub mod TableLaws
 pub mod OperatorLaws
+pub mod LocalsLaws
+pub mod UntilLaws
+pub mod ConstantDecoderLaws
 -- Rules and laws: what operators of WebAssembly carry besides their opcode, from bytes.
 pub mod immediates
 -- Rules and laws: opcodes with immediates as operators.

@@ -6,7 +6,8 @@
 //! spelled by the same bytes.
 //!
 //! [`immediates`] reads what operators carry, [`codes`] makes operators of an opcode and its immediates, and
-//! [`expressions`] has expressions as trees, which bytes spell them, and the list of open frames.
+//! [`expressions`] has expressions as trees, which bytes spell them, and the list of open frames. `specs/Locals.antt` and
+//! `specs/Ends.antt` define which bytes spell groups of locals and constant expressions; `wasm_operators_bodies` reads them.
 #![tactic(auto)]
 
 ghost use Rattle.std.specs.Prelude.{◌≡◌, IsTrue, ℕ, List, Some};

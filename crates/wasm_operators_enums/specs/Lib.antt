@@ -3,6 +3,8 @@ pub mod Op
 pub mod Table
 pub mod Immediates
 pub mod Roles
+-- Rules: which operators are those on vectors.
+pub mod Vectors
 -- Worked rows of them.
 pub mod RoleRows
 -- Laws.

@@ -7,8 +7,8 @@
 //!
 //! A contract sees an operator as the tree `Op` of `specs/Op.antt`, which has the same groups and variants, with plain
 //! lists in place of what lies in memory. The rules are the table of opcodes (`specs/Table.antt`), which `info` is proved
-//! to answer, what each operator carries (`specs/Immediates.antt`), and what it does to the frame in which it is
-//! (`specs/Roles.antt`). [`laws`] promises that codes tell operators apart, and that `==` is equality of trees.
+//! to answer, what each operator carries (`specs/Immediates.antt`), what it does to the frame in which it is
+//! (`specs/Roles.antt`), and which operators are on vectors (`specs/Vectors.antt`). [`laws`] promises that codes tell operators apart, and that `==` is equality of trees.
 #![tactic(auto)]
 
 mod atomic;
@@ -23,6 +23,7 @@ mod memory;
 mod numeric;
 mod operator;
 mod role;
+mod simd;
 mod vector;
 mod vector_numeric;
 
@@ -37,6 +38,7 @@ pub use memory::MemoryOperator;
 pub use numeric::NumericOperator;
 pub use operator::Operator;
 pub use role::{Effect, Role};
+pub use simd::is_simd;
 pub use vector::SimdOperator;
 pub use vector_numeric::SimdNumericOperator;
 pub use wasm_operators_immediates::{

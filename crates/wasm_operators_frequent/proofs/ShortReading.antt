@@ -20,7 +20,7 @@ use Rattle.wasm_operators_encoding.specs.Coded.{kinds_at, coded, operator, carri
 use Rattle.wasm_operators_encoding.specs.Operators.{opcode_of, coded_of}
 use Rattle.wasm_operators_encoding.specs.OperatorLaws.{own_kinds_at}
 use Rattle.wasm_operators_enums.specs.Table.{info_of}
-use Rattle.wasm_operators_visit_operator.specs.Vectors.{is_simd}
+use Rattle.wasm_operators_enums.specs.Vectors.{is_simd}
 use Rattle.wasm_operators_frequent.specs.Short.{within, BeginsWith, IsTold, Begins, BeginsPrefixed}
 
 -- ---- offsets

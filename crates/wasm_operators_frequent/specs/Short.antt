@@ -7,7 +7,7 @@ use Rattle.wasm_types.specs.decoding.Numbers.{GivesAt}
 use Rattle.wasm_operators_enums.specs.Op.{Op}
 use Rattle.wasm_operators_enums.specs.Immediates.{is_canonical}
 use Rattle.wasm_operators_enums.specs.Table.{info_of}
-use Rattle.wasm_operators_visit_operator.specs.Vectors.{is_simd}
+use Rattle.wasm_operators_enums.specs.Vectors.{is_simd}
 use Rattle.wasm_operators_encoding.specs.Opcodes.{is_prefix}
 use Rattle.wasm_operators_encoding.specs.Coded.{operator}
 use Rattle.wasm_operators_encoding.specs.Operators.{coded_of}

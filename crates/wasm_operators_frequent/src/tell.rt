@@ -2,7 +2,7 @@
 
 ghost use Rattle.std.specs.Prelude.{◌≡◌, false, Ok, IfSome, IfNone};
 ghost use Rattle.wasm_operators_enums.specs.Op.{op_of};
-ghost use Rattle.wasm_operators_visit_operator.specs.Vectors.{is_simd};
+ghost use Rattle.wasm_operators_enums.specs.Vectors.{is_simd};
 ghost use Rattle.wasm_operators_frequent.specs.Plain.{AreToldPlain};
 ghost use Rattle.wasm_operators_frequent.specs.Short.{IsTold};
 

@@ -9,13 +9,14 @@ use Rattle.wasm_operators_immediates.specs.declared.frames.FrameKind.{FrameKind}
 use Rattle.wasm_operators_immediates.specs.declared.frames.FrameKind.TheVariants.{Block}
 use Rattle.wasm_operators_enums.specs.Op.{Op}
 use Rattle.wasm_operators_encoding.specs.Coded.{Coded, operator}
+use Rattle.wasm_operators_encoding.specs.CodedLaws.{some_left}
 use Rattle.wasm_operators_encoding.specs.expressions.Code.{Code, walk}
 use Rattle.wasm_operators_encoding.specs.expressions.Spelling.{SpelledOperators, SpelledExpression}
 use Rattle.wasm_operators_encoding.specs.expressions.Frames.{Closes, after, BytesClose}
-use Rattle.wasm_operators_encoding.specs.expressions.FrameLaws.{closes_step, closes_more}
+use Rattle.wasm_operators_encoding.specs.expressions.FrameLaws.{closes_step, closes_more, closes_at}
 use Rattle.wasm_operators_encoding.specs.expressions.SpellingLaws.{spelled_read, read_spelled, bytes_go_on, bytes_refused, bytes_stuck, bytes_expression, bytes_end}
 use Rattle.wasm_operators_reader.specs.Standing.{Standing, at_start, IsFinished, Reads, RefusesIn, Refuses, Runs, TakesMemory}
-use Rattle.wasm_operators_reader.specs.StandingLaws.{some_left, unread}
+use Rattle.wasm_operators_reader.specs.StandingLaws.{unread}
 
 -- one more at the end
 pub run_more : (os : List Op) (s t u : Standing) (o : Op) → Runs s os t → Reads t o u → Runs s (os ++ o ∷ []) u
@@ -32,10 +33,6 @@ takes_before [] s t e h = subst (λ (u : Standing). TakesMemory u) e h
 takes_before (o ∷ os) s t (m, r, more) h = inr (o, m, r)
 
 -- ---- from a run to an expression
-
-pub closes_at : (o : Op) (os : List Op) (ks js : List FrameKind) → after o ks ≡ Some js → Closes js os → Closes ks (o ∷ os)
-closes_at o os [] js e c = absurd cc
-closes_at o os (k ∷ ks) js e c = (closes_step o k ks os).1 (js, e, c)
 
 -- the operators of a run to the end close the frames, and are spelled by the bytes
 run_spelled : (os : List Op) (s t : Standing) → Runs s os t → IsFinished t → Closes s.frames os × SpelledOperators s.bytes.settings os s.bytes.rest

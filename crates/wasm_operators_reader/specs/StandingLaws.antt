@@ -1,6 +1,6 @@
 -- From one standing there is at most one step, and none where the reader refuses.
 use Rattle.std.proofs.Common.{nat_eq, Bool, true, false, IsTrue, ◌≡◌, inl, inr, ℕ, ◌+◌, ◌<◌, List, [], ◌∷◌, length, Option, Some, None, refl, sym}
-use Rattle.std.proofs.Common.{◌∙◌, ap, subst, length-append, arith}
+use Rattle.std.proofs.Common.{◌∙◌, subst}
 use Rattle.wasm_types.specs.decoding.Decoder.{State, Outcome, Done}
 use Rattle.wasm_types.specs.settings.Settings.{Settings}
 use Rattle.wasm_types.specs.decoding.declared.error.ErrorKind.{ErrorKind}
@@ -9,9 +9,8 @@ use Rattle.wasm_types.specs.decoding.ErrorValue.{ErrorValue}
 use Rattle.wasm_types.specs.reader.Reading.{FailsAt, Fails, IsNotMemory}
 use Rattle.wasm_operators_immediates.specs.declared.frames.FrameKind.{FrameKind}
 use Rattle.wasm_operators_enums.specs.Op.{Op}
-use Rattle.wasm_operators_encoding.specs.Opcodes.{Spells}
 use Rattle.wasm_operators_encoding.specs.Coded.{Coded, operator}
-use Rattle.wasm_operators_encoding.specs.CodedLaws.{decides-operator}
+use Rattle.wasm_operators_encoding.specs.CodedLaws.{fewer_left}
 use Rattle.wasm_operators_encoding.specs.Operators.{coded_of}
 use Rattle.wasm_operators_encoding.specs.OperatorLaws.{coded_apart}
 use Rattle.wasm_operators_decode.specs.Memory.{keeps_list_at}
@@ -21,22 +20,7 @@ use Rattle.wasm_operators_reader.specs.Iterating.{items_left}
 
 -- ---- an operator has bytes
 
-opcode_some : (prefix : Option ℕ) (code : ℕ) (text : List ℕ) → Spells prefix code text → 0 < length text
-opcode_some None code text (p, e) = rw e (omega arith)
-opcode_some (Some b) code text (rest, p, u, e) = rw e (omega arith)
-
-module _ (settings : Settings) (s t : State) (c : Coded) (read : operator settings s ≡ Done c t) where
-  -- fewer are left behind an operator
-  pub fewer_left : length t.rest < length s.rest
-  fewer_left =
-      let found = (decides-operator settings).sound s t c read in
-      let some = opcode_some c.opcode.prefix c.opcode.code found.2.front found.2.opcode in
-      omega (arith, ap length found.1.parts, ap length found.2.whole, length-append found.0 t.rest, length-append found.2.front found.2.back)
-
-  -- so there was one
-  pub some_left : 0 < length s.rest
-  some_left = omega (arith, fewer_left)
-
+-- so fewer are left after it
 pub reads_fewer : (s : Standing) (o : Op) (t : Standing) → Reads s o t → length t.bytes.rest < length s.bytes.rest
 reads_fewer s o t h = fewer_left s.bytes.settings s.bytes t.bytes (coded_of o) h.read
 

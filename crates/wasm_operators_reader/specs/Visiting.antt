@@ -9,7 +9,7 @@ use Rattle.wasm_operators_enums.specs.Roles.{role_of}
 use Rattle.wasm_operators_enums.specs.Immediates.{is_canonical}
 use Rattle.wasm_operators_encoding.specs.Coded.{operator}
 use Rattle.wasm_operators_encoding.specs.Operators.{coded_of}
-use Rattle.wasm_operators_visit_simd_operator.specs.visit_operator.Vectors.{is_simd}
+use Rattle.wasm_operators_enums.specs.Vectors.{is_simd}
 use Rattle.wasm_operators_reader.specs.Standing.{Standing, Reads, Refuses}
 
 -- an operator is read here, and the visitor, which has this relation, is told of it

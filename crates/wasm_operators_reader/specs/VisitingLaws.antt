@@ -3,7 +3,7 @@ use Rattle.std.proofs.Common.{◌≡◌, true, List, [], ◌∷◌, Some}
 use Rattle.wasm_operators_immediates.specs.declared.frames.FrameKind.{FrameKind}
 use Rattle.wasm_operators_enums.specs.Op.{Op, Control, Parametric, Exception, Memory, Const, Numeric, Bulk, Gc, Descriptor, Simd}
 use Rattle.wasm_operators_enums.specs.Op.{SimdNumeric, Atomic, Shared, Continuation}
-use Rattle.wasm_operators_visit_simd_operator.specs.visit_operator.Vectors.{is_simd}
+use Rattle.wasm_operators_enums.specs.Vectors.{is_simd}
 use Rattle.wasm_operators_encoding.specs.expressions.Frames.{after}
 use Rattle.wasm_operators_reader.specs.Standing.{Standing, Reads}
 

@@ -7,7 +7,7 @@ use Rattle.wasm_types.specs.decoding.declared.error.ErrorKind.TheVariants.{Other
 use Rattle.wasm_types.specs.decoding.ErrorValue.{ErrorValue}
 use Rattle.wasm_types.specs.reader.Reading.{IsNotMemory}
 use Rattle.wasm_operators_enums.specs.Op.{Op}
-use Rattle.wasm_operators_visit_simd_operator.specs.visit_operator.Vectors.{is_simd}
+use Rattle.wasm_operators_enums.specs.Vectors.{is_simd}
 use Rattle.wasm_operators_encoding.specs.expressions.Code.{Code, walk}
 use Rattle.wasm_operators_encoding.specs.expressions.Spelling.{SpelledExpression}
 use Rattle.wasm_operators_reader.specs.Standing.{Standing, at_start, IsFinished, Reads, Runs, WantsMemory}

@@ -36,4 +36,4 @@ pub use wasm_operators_encoding::expressions::{
     OperatorInfo, Ordering, ParametricOperator, Proposal, ResumeTable, Role, TryTable, V128,
 };
 pub use wasm_operators_frequent::reading::{TellOperator, TellPlain};
-pub use wasm_operators_visit_simd_operator::{Visitor, is_simd};
+pub use wasm_operators_visit_simd_operator::Visitor;

@@ -4,14 +4,14 @@ ghost use Rattle.std.specs.Prelude.{◌≡◌, false, IfOk, IfErr};
 ghost use Rattle.wasm_types.specs.decoding.declared.error.ErrorKind.TheVariants.{Other};
 ghost use Rattle.wasm_types.specs.reader.Reading.{NeedsNoMemory};
 ghost use Rattle.wasm_operators_enums.specs.Op.{op_of};
-ghost use Rattle.wasm_operators_visit_simd_operator.specs.visit_operator.Vectors.{is_simd};
+ghost use Rattle.wasm_operators_enums.specs.Vectors.{is_simd};
 ghost use Rattle.wasm_operators_reader.specs.Standing.{Reads, Refuses, WantsMemory};
 ghost use Rattle.wasm_operators_reader.specs.Visiting.{Visits, VisitsPlain, RefusesPlain};
 
 use crate::OperatorsReader;
 use wasm_operators_encoding::expressions::Operator;
+use wasm_operators_enums::is_simd;
 use wasm_operators_frequent::reading::TellOperator;
-use wasm_operators_visit_simd_operator::is_simd;
 use wasm_types::{Error, Result};
 
 impl<'a> OperatorsReader<'a> {

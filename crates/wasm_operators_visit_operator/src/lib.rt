@@ -2,12 +2,12 @@
 //!
 //! [`VisitOperator`] is one name for the seven traits of visits that are not of vectors: whatever has these seven has
 //! it too. Its own two functions call the visit that belongs to an operator, and promise the relation of the visitor
-//! for that operator. `specs/Vectors.antt` defines which operators are on vectors.
+//! for that operator. Which operators are on vectors, `is_simd` of `wasm_operators_enums` says.
 #![tactic(auto)]
 
 ghost use Rattle.std.specs.Prelude.{◌≡◌, false, IsTrue, IfOk, IfErr, OnErr};
 ghost use Rattle.wasm_operators_visit.specs.Memory.{keeps_list};
-ghost use Rattle.wasm_operators_visit_operator.specs.Vectors.{is_simd};
+ghost use Rattle.wasm_operators_enums.specs.Vectors.{is_simd};
 ghost use Rattle.wasm_operators_enums.specs.Op.{op_of};
 
 use std::alloc::AllocError;
@@ -21,14 +21,6 @@ pub use wasm_operators_visit_atomics::dispatch::{
 pub use wasm_operators_visit_memory::gc::{VisitGc, visit_descriptor, visit_gc};
 pub use wasm_operators_visit_memory::{VisitMemory, visit_bulk, visit_const, visit_memory};
 pub use wasm_operators_visit_numbers::dispatch::{VisitFloats, VisitIntegers, visit_numeric};
-
-/// Whether an operator is one on vectors (WebAssembly 3.0, structure, vector instructions).
-#[inline]
-pub fn is_simd(op: &Operator) -> bool
-    ensures { result ≡ is_simd (op_of op.now) }
-{
-    matches!(op, Operator::Simd(_) | Operator::SimdNumeric(_))
-}
 
 /// A visitor of all operators but those on vectors.
 pub trait VisitOperator<'a>: VisitControl<'a>

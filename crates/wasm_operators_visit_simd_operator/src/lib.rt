@@ -17,7 +17,7 @@ use wasm_operators_visit_operator::{
 };
 pub use wasm_operators_visit_operator::{
     VisitAtomic, VisitControl, VisitFloats, VisitGc, VisitIntegers, VisitMemory, VisitOperator,
-    VisitShared, is_simd,
+    VisitShared,
 };
 use wasm_operators_visit_simd::{Operator, visit_simd, visit_simd_numeric};
 pub use wasm_operators_visit_simd::{

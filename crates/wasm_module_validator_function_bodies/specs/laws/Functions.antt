@@ -17,8 +17,8 @@ use Rattle.wasm_types.specs.trees.Trees.{TypeTree}
 use Rattle.wasm_types.specs.trees.Below.{expanded, is_shared}
 use Rattle.wasm_types.specs.trees.ValidGroup.{type_at}
 use Rattle.wasm_types.specs.values.declared.value.ValType.{ValType}
-use Rattle.wasm_operators_bodies.specs.Locals.{LocalGroup}
-use Rattle.wasm_operators_bodies.specs.LocalsLaws.{decides-locals}
+use Rattle.wasm_operators_encoding.specs.Locals.{LocalGroup}
+use Rattle.wasm_operators_encoding.specs.LocalsLaws.{decides-locals}
 use Rattle.wasm_operators_immediates.specs.declared.block.BlockType.TheVariants as block
 use Rattle.wasm_operators_enums.specs.Op.{Op}
 use Rattle.wasm_operators_encoding.specs.expressions.Code.{Code, close, plain, nested, turn, walk}

@@ -6,7 +6,7 @@ use Rattle.wasm_types.specs.trees.declared.index.UnpackedIndex.TheVariants as in
 use Rattle.wasm_types.specs.trees.Types.{HeapOf, abstract, concrete, exact, heap_map, ValueOf, number, ref, value_map}
 use Rattle.wasm_types.specs.values.declared.value.ValType.{ValType}
 use Rattle.wasm_types.specs.values.Values.{value_of}
-use Rattle.wasm_operators_bodies.specs.Locals.{LocalGroup, total}
+use Rattle.wasm_operators_encoding.specs.Locals.{LocalGroup, total}
 use Rattle.wasm_operator_validator_rules.specs.Operands.{ValueType}
 use Rattle.wasm_operator_validator_rules.specs.Context.{Module, IsType, written_type}
 use Rattle.wasm_operator_validator_arity.specs.resources.Meaning.{Meaning, type_in}

@@ -14,8 +14,8 @@ use Rattle.wasm_types.specs.decoding.declared.error.ErrorKind.{ErrorKind}
 use Rattle.wasm_types.specs.decoding.declared.error.ErrorKind.TheVariants as kinds
 use Rattle.wasm_types.specs.reader.Reading.{FailsAt}
 use Rattle.wasm_types.specs.values.declared.value.ValType.{ValType}
-use Rattle.wasm_operators_bodies.specs.Locals.{LocalGroup, total, SpelledGroup, group, most_locals}
-use Rattle.wasm_operators_bodies.specs.LocalsLaws.{decides-group, decides-locals}
+use Rattle.wasm_operators_encoding.specs.Locals.{LocalGroup, total, SpelledGroup, group, most_locals}
+use Rattle.wasm_operators_encoding.specs.LocalsLaws.{decides-group, decides-locals}
 use Rattle.wasm_operator_validator_rules.specs.Context.{Module}
 use Rattle.wasm_operator_validator_arity.specs.resources.Meaning.{Meaning, type_in}
 use Rattle.wasm_operator_validator_state.specs.State.{State}

@@ -2,7 +2,7 @@
 use Rattle.std.proofs.Common.{◌≡◌, ◌∙◌, ◌≤◌, ◌<◌, ℕ, List, [], ◌∷◌, ◌++◌, length, refl, sym, arith, lit<}
 use Rattle.wasm_types.specs.decoding.Leb.{IsUnsigned, last, more, IsListed}
 use Rattle.wasm_types.specs.settings.Settings.{Settings}
-use Rattle.wasm_operators_bodies.specs.Locals.{SpelledGroup}
+use Rattle.wasm_operators_encoding.specs.Locals.{SpelledGroup}
 use Rattle.wasm_operator_validator_rules.specs.Context.{Module}
 use Rattle.wasm_module_validator_function_bodies.specs.Locals.{SpellsLocals}
 

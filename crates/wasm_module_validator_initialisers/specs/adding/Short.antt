@@ -7,7 +7,7 @@ use Rattle.wasm_types.specs.values.declared.value.ValType.TheVariants as value
 use Rattle.wasm_types.specs.externs.declared.global.GlobalType.{GlobalType}
 use Rattle.wasm_operators_bodies.specs.declared.short.ShortConstant.{ShortConstant}
 use Rattle.wasm_operators_bodies.specs.declared.short.ShortConstant.TheVariants as short
-use Rattle.wasm_operators_bodies.specs.ConstantDecoder.{ConstantText}
+use Rattle.wasm_operators_encoding.specs.ConstantDecoder.{ConstantText}
 use Rattle.wasm_operator_validator_rules.specs.Context.{Module, Global}
 use Rattle.wasm_sections_items.specs.segments.Spells.{GlobalTree, SpelledGlobalItem}
 use Rattle.wasm_module_validator_type_storage.specs.trees.Groups.{Group}

@@ -11,7 +11,7 @@ use Rattle.wasm_types.specs.trees.Below.{Below}
 use Rattle.wasm_types.specs.trees.Types.{ref, abstract, func}
 use Rattle.wasm_types.specs.trees.Trees.{TypeTree}
 use Rattle.wasm_types.specs.values.declared.value.ValType.TheVariants as value
-use Rattle.wasm_operators_bodies.specs.ConstantDecoder.{constant}
+use Rattle.wasm_operators_encoding.specs.ConstantDecoder.{constant}
 use Rattle.wasm_sections_items.specs.limited.Walking.{Walk, fresh, IsTrailing}
 use Rattle.wasm_sections_items.specs.declared.elements.element.ElementKindOf.{ElementKindOf}
 use Rattle.wasm_sections_items.specs.declared.elements.element.ElementKindOf.TheVariants as kinds

@@ -3,7 +3,7 @@
 use Rattle.std.specs.Prelude.{◌≡◌, ℕ, List, [], ◌∷◌, ◌++◌, Option, Some, None}
 use Rattle.wasm_types.specs.settings.Settings.{Settings}
 use Rattle.wasm_types.specs.decoding.Decoder.{State, Decoder, Done, repeated}
-use Rattle.wasm_operators_bodies.specs.ConstantDecoder.{constant}
+use Rattle.wasm_operators_encoding.specs.ConstantDecoder.{constant}
 use Rattle.wasm_sections_items.specs.limited.Walking.{Walk, fresh}
 use Rattle.wasm_sections_items.specs.declared.elements.element.ElementKindOf.{ElementKindOf}
 use Rattle.wasm_sections_items.specs.declared.elements.element.ElementKindOf.TheVariants as kinds

@@ -10,7 +10,7 @@ use Rattle.wasm_types.specs.decoding.ErrorValue.{ErrorValue}
 -- for attributes that unfold it
 unfoldable pub use Rattle.wasm_types.specs.settings.Features.{has}
 use Rattle.wasm_types.specs.trees.Below.{Below}
-use Rattle.wasm_operators_bodies.specs.ConstantDecoder.{constant}
+use Rattle.wasm_operators_encoding.specs.ConstantDecoder.{constant}
 use Rattle.wasm_sections_items.specs.limited.Walking.{Walk, fresh}
 use Rattle.wasm_sections_items.specs.declared.elements.element.ElementOf.{ElementOf}
 use Rattle.wasm_sections_items.specs.declared.elements.element.ElementKindOf.{ElementKindOf}

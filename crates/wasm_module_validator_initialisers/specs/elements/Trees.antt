@@ -2,7 +2,7 @@
 -- bytes spell is said by wasm_module_validator_rules_in_order.
 use Rattle.std.specs.Prelude.{ℕ, List, Option}
 use Rattle.wasm_types.specs.decoding.Decoder.{State}
-use Rattle.wasm_operators_bodies.specs.ConstantDecoder.{constant}
+use Rattle.wasm_operators_encoding.specs.ConstantDecoder.{constant}
 use Rattle.wasm_sections_items.specs.declared.elements.element.ElementOf.{ElementOf}
 use Rattle.wasm_sections_items.specs.elements.Spells.{ElementTree}
 use Rattle.wasm_sections_items.specs.elements.Elements.{tree_of}

@@ -4,7 +4,7 @@ use Rattle.wasm_types.specs.externs.declared.memory.MemoryType.{MemoryType}
 use Rattle.wasm_types.specs.settings.Settings.{Settings}
 use Rattle.wasm_operators_bodies.specs.declared.short.ShortConstant.TheVariants as short
 use Rattle.wasm_operators_bodies.specs.Short.{SpellsShort}
-use Rattle.wasm_operators_bodies.specs.ConstantDecoder.{ConstantText}
+use Rattle.wasm_operators_encoding.specs.ConstantDecoder.{ConstantText}
 use Rattle.wasm_sections_items.specs.segments.Spells.{DataTree, SpelledData, active}
 use Rattle.wasm_operator_validator_rules.specs.Context.{Module}
 use Rattle.wasm_module_validator_resources.specs.rules_in_order.Between.{IsBetween}

@@ -3,7 +3,7 @@
 ghost use Rattle.std.specs.Prelude.{◌≡◌, ◌≤◌, ◌<◌, ◌+◌, IfErr, IfOk, length};
 ghost use Rattle.wasm_types.specs.decoding.Denials.{Tells, UnlessMemory};
 ghost use Rattle.wasm_types.specs.settings.Limits.{IsWithinCeilings};
-ghost use Rattle.wasm_operators_bodies.specs.ConstantDecoder.{constant};
+ghost use Rattle.wasm_operators_encoding.specs.ConstantDecoder.{constant};
 ghost use Rattle.wasm_sections_items.specs.limited.Walking.{fresh};
 ghost use Rattle.wasm_operator_validator_state.specs.resources.Meaning.{type_in};
 ghost use Rattle.wasm_module_validator_initialisers.specs.segments.Judged.{IsConstantText};

@@ -16,7 +16,7 @@ use Rattle.wasm_types.specs.settings.Settings.{no_features}
 use Rattle.wasm_sections_items.specs.declared.segments.segment.DataOf.{DataOf}
 use Rattle.wasm_sections_items.specs.declared.segments.segment.DataKindOf.TheVariants as data_kind
 use Rattle.wasm_sections_items.specs.segments.Spells.{DataTree, SpelledData}
-use Rattle.wasm_operators_bodies.specs.ConstantDecoder.{ConstantText}
+use Rattle.wasm_operators_encoding.specs.ConstantDecoder.{ConstantText}
 use Rattle.wasm_module_validator_initialisers.specs.segments.Short.{IsShortData, in_first_memory}
 use Rattle.wasm_module_validator_section_order.specs.rules_in_order.BetweenLaws.{between_so}
 use Rattle.wasm_module_validator_section_order.specs.rules_in_order.Sections as section

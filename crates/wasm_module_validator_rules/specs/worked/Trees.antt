@@ -26,7 +26,7 @@ use Rattle.wasm_operators_enums.specs.declared.numeric.NumericOperator.TheVarian
 use Rattle.wasm_operators_enums.specs.Op as op
 use Rattle.wasm_operators_enums.specs.Op.{Op}
 use Rattle.wasm_operators_encoding.specs.expressions.Code.{Code, close, plain}
-use Rattle.wasm_operators_bodies.specs.Locals.{LocalGroup}
+use Rattle.wasm_operators_encoding.specs.Locals.{LocalGroup}
 use Rattle.wasm_sections_items.specs.declared.imports.kind.ExternalKind.{ExternalKind}
 use Rattle.wasm_sections_items.specs.declared.imports.type_ref.TypeRef.{TypeRef}
 use Rattle.wasm_sections_items.specs.imports.Spells.{ImportTree, ExportTree}

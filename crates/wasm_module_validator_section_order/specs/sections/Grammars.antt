@@ -4,7 +4,7 @@ use Rattle.std.specs.Prelude.{ℕ, List}
 use Rattle.wasm_types.specs.decoding.Leb.{IsUnsigned}
 use Rattle.wasm_types.specs.settings.Settings.{Settings}
 use Rattle.wasm_types.specs.externs.Spells.{SpelledMemory, SpelledTag}
-use Rattle.wasm_operators_bodies.specs.ConstantDecoder.{ConstantText}
+use Rattle.wasm_operators_encoding.specs.ConstantDecoder.{ConstantText}
 use Rattle.wasm_sections_items.specs.imports.Spells.{SpelledImport, SpelledExport}
 use Rattle.wasm_sections_items.specs.segments.Spells.{SpelledGlobalItem, SpelledData}
 use Rattle.wasm_sections_items.specs.segments.Tables.{SpelledTableItem}

@@ -11,7 +11,7 @@ use Rattle.wasm_types.specs.declared.rec_group.RecGroup.{RecGroup}
 use Rattle.wasm_types.specs.Entries.{declared_types}
 use Rattle.wasm_types.specs.SpellsTypes.{GroupValue, declared_by}
 use Rattle.wasm_types.specs.trees.ValidGroup.{Written}
-use Rattle.wasm_operators_bodies.specs.ConstantDecoder.{constant}
+use Rattle.wasm_operators_encoding.specs.ConstantDecoder.{constant}
 use Rattle.wasm_module_validator_canonical_types.specs.laws.Statements.{written}
 use Rattle.wasm_sections_items.specs.declared.imports.import.Import.{Import}
 use Rattle.wasm_sections_items.specs.declared.imports.export.Export.{Export}

@@ -9,7 +9,7 @@ ghost use Rattle.wasm_types.specs.externs.Spells.{SpelledMemory, SpelledTag};
 ghost use Rattle.wasm_types.specs.DecodeTypes.{rec_group};
 ghost use Rattle.wasm_types.specs.SpellsTypes.{group_value, SpelledGroup};
 ghost use Rattle.wasm_sections_parser.specs.Steps as frame;
-ghost use Rattle.wasm_operators_bodies.specs.ConstantDecoder.{constant, ConstantText};
+ghost use Rattle.wasm_operators_encoding.specs.ConstantDecoder.{constant, ConstantText};
 ghost use Rattle.wasm_sections.specs.Payloads.{only_number, is_unknown, front_of};
 ghost use Rattle.wasm_sections_items.specs.imports.Decode.{import, export};
 ghost use Rattle.wasm_sections_items.specs.imports.Spells.{SpelledImport, SpelledExport};

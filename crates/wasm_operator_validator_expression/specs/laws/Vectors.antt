@@ -9,7 +9,7 @@ use Rattle.wasm_operators_enums.specs.declared.role.Role.TheVariants as role
 use Rattle.wasm_operators_enums.specs.declared.role.Effect.{Effect}
 use Rattle.wasm_operators_enums.specs.declared.role.Effect.TheVariants as effects
 use Rattle.wasm_operators_enums.specs.Roles.{role_of, effect}
-use Rattle.wasm_operators_reader.specs.visit_operator.Vectors.{is_simd}
+use Rattle.wasm_operators_enums.specs.Vectors.{is_simd}
 use Rattle.wasm_operators_encoding.specs.expressions.Code.{Code, close, plain, nested, turn, walk, IsIn}
 use Rattle.wasm_operators_reader.specs.Walking.{HasNoVectors}
 use Rattle.wasm_operator_validator_rules.specs.Operands.{Operand, stack}

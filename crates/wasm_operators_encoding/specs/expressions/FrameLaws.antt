@@ -113,6 +113,11 @@ closes_more k ks (c, rest, i, e, d) = walk_not_empty c rest e
 pub closes_none : (os : List Op) → Closes [] os ↔ (os ≡ [])
 closes_none os = (λ e. e, λ e. e)
 
+-- if operators close the frames after an operator, it and they close those before it
+pub closes_at : (o : Op) (os : List Op) (ks js : List FrameKind) → after o ks ≡ Some js → Closes js os → Closes ks (o ∷ os)
+closes_at o os [] js e c = absurd cc
+closes_at o os (k ∷ ks) js e c = (closes_step o k ks os).1 (js, e, c)
+
 -- ---- the structural order
 
 some_behind : (e : Option Effect) (k : FrameKind) (ks : List FrameKind) → is_some e ≡ is_some (frames_behind e k ks)

@@ -10,7 +10,7 @@ use Rattle.wasm_operators_enums.specs.Immediates.{is_canonical}
 use Rattle.wasm_operators_enums.specs.Roles.{fits}
 use Rattle.wasm_operators_encoding.specs.Coded.{operator}
 use Rattle.wasm_operators_encoding.specs.Operators.{coded_of}
-use Rattle.wasm_operators_visit_simd_operator.specs.visit_operator.Vectors.{is_simd}
+use Rattle.wasm_operators_enums.specs.Vectors.{is_simd}
 
 -- this operator begins here, may come next in this frame, and ends where t stands
 pub record ReadsIn (frame : Option FrameKind) (s : State) (o : Op) (t : State) : Type 0 where

@@ -6,13 +6,12 @@ ghost use Rattle.wasm_types.specs.decoding.declared.error.ErrorKind.TheVariants.
 ghost use Rattle.wasm_types.specs.reader.Reading.{NeedsNoMemory};
 ghost use Rattle.wasm_operators_enums.specs.Op.{op_of};
 ghost use Rattle.wasm_operators_decode.specs.Memory.{keeps_list_at};
-ghost use Rattle.wasm_operators_visit_simd_operator.specs.visit_operator.Vectors.{is_simd};
+ghost use Rattle.wasm_operators_enums.specs.Vectors.{is_simd};
 ghost use Rattle.wasm_operators_reader.specs.walks.InFrame.{ReadsIn, RefusesIn, RefusesPlainIn};
 
-use crate::{
-    FrameKind, FrameStack, Operator, is_simd, misplaced, read_operator, unexpected_vector,
-};
+use crate::{FrameKind, FrameStack, Operator, misplaced, read_operator, unexpected_vector};
 use std::alloc::Global;
+use wasm_operators_enums::is_simd;
 use wasm_types::{BinaryReader, Error, Result};
 
 /// Looks at operators, where a stack knows which frames are open. With no frame open nothing is read: that is refused before a

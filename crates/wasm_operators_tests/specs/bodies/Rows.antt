@@ -4,9 +4,9 @@ use Rattle.wasm_types.specs.decoding.declared.Refusal.TheVariants.{Other}
 use Rattle.wasm_types.specs.decoding.Decoder.{State, Decoder, Done, Short, Fault}
 use Rattle.wasm_types.specs.settings.Settings.{no_features}
 use Rattle.wasm_types.specs.values.declared.value.ValType.TheVariants.{I32, I64, F64}
-use Rattle.wasm_operators_bodies.specs.Locals.{group_of, locals}
+use Rattle.wasm_operators_encoding.specs.Locals.{group_of, locals}
 use Rattle.wasm_operators_bodies.specs.Bodies.{body_bytes, OperatorsBegin}
-use Rattle.wasm_operators_bodies.specs.ConstantDecoder.{constant}
+use Rattle.wasm_operators_encoding.specs.ConstantDecoder.{constant}
 
 -- a reader behind n bytes, with these left, where no feature is allowed
 abbrev pub behind : ℕ → List ℕ → State

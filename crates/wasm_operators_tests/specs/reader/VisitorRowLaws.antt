@@ -20,7 +20,7 @@ use Rattle.wasm_operators_encoding.specs.Operators.{coded_of}
 use Rattle.wasm_operators_encoding.specs.OperatorLaws.{coded_apart}
 use Rattle.wasm_operators_encoding.specs.immediates.Bytes.{vector}
 use Rattle.wasm_operators_encoding.specs.immediates.Immediates.{immediate}
-use Rattle.wasm_operators_frequent.specs.visit_operator.Vectors.{is_simd}
+use Rattle.wasm_operators_enums.specs.Vectors.{is_simd}
 use Rattle.wasm_operators_reader.specs.Standing.{Standing, Reads, Runs}
 use Rattle.wasm_operators_reader.specs.StandingLaws.{one_step, unread, nothing_follows, refused_no_step}
 use Rattle.wasm_operators_reader.specs.Visiting.{RefusesVector}

@@ -1,7 +1,7 @@
 use Rattle.std.proofs.Common.{◌<◌, ℕ, refl, sym, subst, arith}
 use Rattle.wasm_types.specs.decoding.Denials.{Denies}
 use Rattle.wasm_types.specs.decoding.DenialLaws.{denies}
-use Rattle.wasm_operators_bodies.specs.ConstantDecoder.{constant, ConstantText}
+use Rattle.wasm_operators_encoding.specs.ConstantDecoder.{constant, ConstantText}
 use Rattle.wasm_module_validator_section_order.specs.items.FullLaws.{never_full}
 use Rattle.wasm_module_validator_section_order.specs.sections.Sections.{MayBegin}
 use Rattle.wasm_module_validator_section_order.specs.sections.Kinds.{data_read}

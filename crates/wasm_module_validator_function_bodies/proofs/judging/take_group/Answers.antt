@@ -1,4 +1,4 @@
-use Rattle.wasm_operators_bodies.specs.Locals.{group_of}
+use Rattle.wasm_operators_encoding.specs.Locals.{group_of}
 use Rattle.wasm_module_validator_function_bodies.proofs.Numbers.{group_is}
 use Rattle.wasm_module_validator_function_bodies.proofs.judging.take_group.Goals as goal
 

@@ -5,8 +5,8 @@ use Rattle.wasm_types.specs.decoding.Text.{IsSized}
 use Rattle.wasm_types.specs.settings.Settings.{Settings}
 use Rattle.wasm_types.specs.externs.declared.table.TableType.{TableType}
 use Rattle.wasm_types.specs.externs.Spells.{SpelledGlobal}
-use Rattle.wasm_operators_bodies.specs.Constants.{EndsOnce}
-use Rattle.wasm_operators_bodies.specs.ConstantDecoder.{ConstantText}
+use Rattle.wasm_operators_encoding.specs.Ends.{EndsOnce}
+use Rattle.wasm_operators_encoding.specs.ConstantDecoder.{ConstantText}
 use Rattle.wasm_operators_encoding.specs.expressions.Code.{Code, walk}
 use Rattle.wasm_operators_encoding.specs.expressions.Spelling.{SpelledExpression}
 use Rattle.wasm_operators_encoding.specs.expressions.SpellingLaws.{one_expression}

@@ -14,8 +14,8 @@ use Rattle.wasm_types.specs.externs.Spells.{SpelledMemory, SpelledTag}
 use Rattle.wasm_types.specs.DecodeTypes.{rec_group}
 use Rattle.wasm_types.specs.SpellsTypes.{group_value, SpelledGroup}
 use Rattle.wasm_types.specs.TypeLaws.{decides-rec_group}
-use Rattle.wasm_operators_bodies.specs.ConstantDecoder.{constant, ConstantText}
-use Rattle.wasm_operators_bodies.specs.ConstantDecoderLaws.{decides-constant}
+use Rattle.wasm_operators_encoding.specs.ConstantDecoder.{constant, ConstantText}
+use Rattle.wasm_operators_encoding.specs.ConstantDecoderLaws.{decides-constant}
 use Rattle.wasm_sections_items.specs.imports.Decode.{import, export}
 use Rattle.wasm_sections_items.specs.imports.DecodeLaws.{decides-import, decides-export}
 use Rattle.wasm_sections_items.specs.imports.Spells.{SpelledImport, SpelledExport}

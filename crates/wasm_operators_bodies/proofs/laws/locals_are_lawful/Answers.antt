@@ -1,4 +1,4 @@
-use Rattle.wasm_operators_bodies.specs.LocalsLaws.{lawful-locals, decides-locals}
+use Rattle.wasm_operators_encoding.specs.LocalsLaws.{lawful-locals, decides-locals}
 use Rattle.wasm_operators_bodies.proofs.laws.locals_are_lawful.Goals as goal
 
 pub returns-clause-lawful : goal.returns-clause-lawful

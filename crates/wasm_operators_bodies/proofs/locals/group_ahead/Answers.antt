@@ -1,6 +1,6 @@
 use Rattle.std.proofs.Common.{arith, rules}
 use Rattle.std.proofs.lemmas.Grind.{common_steps}
-use Rattle.wasm_operators_bodies.specs.Locals.{group, group_within}
+use Rattle.wasm_operators_encoding.specs.Locals.{group, group_within}
 use Rattle.wasm_operators_bodies.proofs.locals.group_ahead.Goals as goal
 
 pub returns-then-count-room-clause-answer : goal.returns-then-count-room-clause-answer

@@ -10,10 +10,10 @@ use Rattle.wasm_types.specs.settings.Limits.{default_limits}
 use Rattle.wasm_types.specs.reader.Parts.{counted_part}
 use Rattle.wasm_types.specs.values.Decode.{reference_after}
 use Rattle.wasm_types.specs.values.DecodeValues.{value_type, value_type_after}
-use Rattle.wasm_operators_bodies.specs.Locals.{LocalGroup, group_of, group, group_within, groups_within, locals}
+use Rattle.wasm_operators_encoding.specs.Locals.{LocalGroup, group_of, group, group_within, groups_within, locals}
 use Rattle.wasm_operators_bodies.specs.Bodies.{body_bytes}
-use Rattle.wasm_operators_bodies.specs.Until.{steps, until, taken_by}
-use Rattle.wasm_operators_bodies.specs.ConstantDecoder.{step, constant}
+use Rattle.wasm_operators_encoding.specs.Until.{steps, until, taken_by}
+use Rattle.wasm_operators_encoding.specs.ConstantDecoder.{step, constant}
 use Rattle.wasm_operators_immediates.specs.Blocks.{function_block, value_block, empty_block, block_type}
 use Rattle.wasm_operators_encoding.specs.Opcodes.{opcode}
 use Rattle.wasm_operators_encoding.specs.Groups.{numeric_kinds, simd_numeric_kinds}

@@ -4,7 +4,7 @@ use Rattle.wasm_types.specs.decoding.Places.{end_of}
 use Rattle.wasm_types.specs.decoding.Denials.{Denies}
 use Rattle.wasm_types.specs.decoding.ErrorValue.{ErrorValue}
 use Rattle.wasm_types.specs.reader.Reading.{Fails}
-use Rattle.wasm_operators_bodies.specs.ConstantDecoder.{constant}
+use Rattle.wasm_operators_encoding.specs.ConstantDecoder.{constant}
 use Rattle.wasm_sections_items.specs.limited.Walking.{Walk, fresh}
 use Rattle.wasm_sections_items.specs.limited.Runs.{place_with_offsets, with_offset}
 use Rattle.wasm_operator_validator_state.specs.resources.Meaning.{type_in}

@@ -1,6 +1,6 @@
 use Rattle.std.proofs.Common.{◌≡◌}
 use Rattle.wasm_types.specs.decoding.Places.{end_of}
-use Rattle.wasm_operators_bodies.specs.ConstantDecoder.{constant}
+use Rattle.wasm_operators_encoding.specs.ConstantDecoder.{constant}
 use Rattle.wasm_sections_items.specs.limited.Walking.{fresh, items_left}
 use Rattle.wasm_sections_items.specs.limited.Runs.{place_with_offsets}
 use Rattle.wasm_operator_validator_state.specs.resources.Meaning.{type_in}

@@ -3,7 +3,7 @@ use Rattle.wasm_types.specs.decoding.Decoder.{State}
 use Rattle.wasm_types.specs.settings.Settings.{no_features}
 use Rattle.wasm_sections_items.specs.declared.segments.global.GlobalOf.{GlobalOf}
 use Rattle.wasm_sections_items.specs.segments.Spells.{GlobalTree, SpelledGlobalItem}
-use Rattle.wasm_operators_bodies.specs.ConstantDecoder.{ConstantText}
+use Rattle.wasm_operators_encoding.specs.ConstantDecoder.{ConstantText}
 use Rattle.wasm_module_validator_initialisers.specs.segments.Trees.{global_read}
 use Rattle.wasm_module_validator_state.specs.invariant.laws.Growing.{grows_by_none}
 use Rattle.wasm_module_validator_section_order.specs.rules_in_order.BetweenLaws.{between_so}

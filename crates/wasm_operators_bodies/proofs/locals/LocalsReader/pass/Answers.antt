@@ -1,5 +1,5 @@
 use Rattle.std.proofs.Common.{[], ◌∷◌, ◌++◌}
-use Rattle.wasm_operators_bodies.specs.Locals.{group_of}
+use Rattle.wasm_operators_encoding.specs.Locals.{group_of}
 use Rattle.wasm_operators_bodies.specs.GroupLaws.{groups_more}
 use Rattle.wasm_operators_bodies.proofs.locals.LocalsReader.pass.Goals as goal
 

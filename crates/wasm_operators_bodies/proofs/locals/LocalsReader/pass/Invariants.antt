@@ -1,5 +1,5 @@
 use Rattle.std.proofs.Common.{List}
-use Rattle.wasm_operators_bodies.specs.Locals.{LocalGroup}
+use Rattle.wasm_operators_encoding.specs.Locals.{LocalGroup}
 use Rattle.wasm_operators_bodies.specs.Groups.{ReadsGroups}
 use Rattle.wasm_operators_bodies.proofs.locals.LocalsReader.pass.Given as goal
 

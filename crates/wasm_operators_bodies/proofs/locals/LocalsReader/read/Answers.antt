@@ -1,5 +1,5 @@
 use Rattle.std.proofs.Common.{subst, ◌-◌}
-use Rattle.wasm_operators_bodies.specs.Locals.{LocalGroup, group_of}
+use Rattle.wasm_operators_encoding.specs.Locals.{LocalGroup, group_of}
 use Rattle.wasm_operators_bodies.specs.Groups.{LocalsLeft, ReadsGroup}
 use Rattle.wasm_operators_bodies.specs.GroupLaws.{has_room, group_taken}
 use Rattle.wasm_operators_bodies.proofs.locals.LocalsReader.read.Goals as goal

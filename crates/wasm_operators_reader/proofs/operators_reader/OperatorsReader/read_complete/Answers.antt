@@ -6,7 +6,8 @@ use Rattle.wasm_operators_encoding.specs.Coded.{operator}
 use Rattle.wasm_operators_encoding.specs.Operators.{coded_of}
 use Rattle.wasm_operators_encoding.specs.expressions.Stack.{OpenFrames}
 use Rattle.wasm_operators_reader.specs.Standing.{Standing, Refuses, IsUnfit, IsOpening, WantsMemory}
-use Rattle.wasm_operators_reader.specs.StandingLaws.{some_left, refuses_fault, refuses_unfit, same_parts, no_list}
+use Rattle.wasm_operators_encoding.specs.CodedLaws.{some_left}
+use Rattle.wasm_operators_reader.specs.StandingLaws.{refuses_fault, refuses_unfit, same_parts, no_list}
 use Rattle.wasm_operators_reader.proofs.AtOnce.{operator_reaches}
 use Rattle.wasm_operators_reader.proofs.operators_reader.OperatorsReader.read_complete.Goals as goal
 

@@ -1,4 +1,4 @@
-use Rattle.wasm_operators_reader.specs.StandingLaws.{some_left}
+use Rattle.wasm_operators_encoding.specs.CodedLaws.{some_left}
 use Rattle.wasm_operators_reader.proofs.walks.read_operators.read_in_frame.Goals as goal
 
 pub misplaced-error-requires : goal.misplaced-error-requires

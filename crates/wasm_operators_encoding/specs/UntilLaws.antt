@@ -6,7 +6,7 @@ use Rattle.wasm_types.specs.decoding.Decoder as decoder
 use Rattle.wasm_types.specs.decoding.Decoder.{State, extended, Outcome, Done, Short, Fault, Decoder, Grammar, Then, continue_with, ◌>>=◌, pure, refuse, Takes, IsBeyond, GoesForward, IsLawful, Decides}
 use Rattle.wasm_types.specs.decoding.Laws.{lawful->>=, lawful-pure, lawful-refuse}
 use Rattle.wasm_types.specs.decoding.ExactLaws.{value_is, state_is, done_then, decides->>=, decides-pure, decides-refuse}
-use Rattle.wasm_operators_bodies.specs.Until.{Next, Again, Last, go_on, steps, until, taken_by, GoesOn, Steps, Until, TextBy}
+use Rattle.wasm_operators_encoding.specs.Until.{Next, Again, Last, go_on, steps, until, taken_by, GoesOn, Steps, Until, TextBy}
 
 -- ---- steps up to the last
 

@@ -12,22 +12,20 @@ use Rattle.wasm_operators_enums.specs.Op.{Op}
 use Rattle.wasm_operators_enums.specs.Roles.{role_of}
 use Rattle.wasm_operators_enums.specs.declared.role.Role.{Role}
 use Rattle.wasm_operators_encoding.specs.Coded.{Coded, operator, SpelledCoded}
-use Rattle.wasm_operators_encoding.specs.CodedLaws.{lawful-operator, decides-operator}
+use Rattle.wasm_operators_encoding.specs.CodedLaws.{lawful-operator, decides-operator, fewer_left}
 use Rattle.wasm_operators_encoding.specs.Operators.{opcode_of, coded_of, SpelledOperator}
 use Rattle.wasm_operators_encoding.specs.OperatorLaws.{spelled_to, spelled_from}
 use Rattle.wasm_operators_encoding.specs.expressions.Code.{walk}
 use Rattle.wasm_operators_encoding.specs.expressions.Frames.{Closes, after, behind}
-use Rattle.wasm_operators_encoding.specs.expressions.FrameLaws.{closes_step, closes_more}
+use Rattle.wasm_operators_encoding.specs.expressions.FrameLaws.{closes_step, closes_more, closes_at}
 use Rattle.wasm_operators_encoding.specs.expressions.Spelling.{SpelledOperators}
 use Rattle.wasm_operators_encoding.specs.codes.OpcodeRoles.{role_at}
 use Rattle.wasm_operators_encoding.specs.codes.RoleLaws.{role_of_opcode}
 use Rattle.wasm_operators_encoding.specs.codes.CodedOperators.{is_coded}
-use Rattle.wasm_operators_bodies.specs.Until.{Again, Last, until, taken_by, GoesOn, Steps, Until, TextBy}
-use Rattle.wasm_operators_bodies.specs.UntilLaws.{TakesBytes, lawful-until, decides-until, lawful-taken_by, decides-taken_by}
-use Rattle.wasm_operators_reader.specs.StandingLaws.{fewer_left}
-use Rattle.wasm_operators_reader.specs.RunLaws.{closes_at}
-use Rattle.wasm_operators_bodies.specs.Constants.{ends, is_end, HasNoEnd, EndsOnce, IsConstantText}
-use Rattle.wasm_operators_bodies.specs.ConstantDecoder.{NextFrames, behind_end, by_frames, by_role, in_frames, step, constant, ConstantText}
+use Rattle.wasm_operators_encoding.specs.Until.{Again, Last, until, taken_by, GoesOn, Steps, Until, TextBy}
+use Rattle.wasm_operators_encoding.specs.UntilLaws.{TakesBytes, lawful-until, decides-until, lawful-taken_by, decides-taken_by}
+use Rattle.wasm_operators_encoding.specs.Ends.{ends, is_end, HasNoEnd, EndsOnce, IsConstantText}
+use Rattle.wasm_operators_encoding.specs.ConstantDecoder.{NextFrames, behind_end, by_frames, by_role, in_frames, step, constant, ConstantText}
 
 -- ---- a step is lawful
 

@@ -10,8 +10,8 @@ use Rattle.wasm_operators_encoding.specs.Coded.{operator}
 use Rattle.wasm_operators_enums.specs.declared.role.Role.{Role}
 use Rattle.wasm_operators_encoding.specs.expressions.Frames.{behind}
 use Rattle.wasm_operators_encoding.specs.codes.OpcodeRoles.{role_at}
-use Rattle.wasm_operators_bodies.specs.Until.{Next, Again, Last, until, taken_by}
-use Rattle.wasm_operators_bodies.specs.Constants.{ends, IsConstantText}
+use Rattle.wasm_operators_encoding.specs.Until.{Next, Again, Last, until, taken_by}
+use Rattle.wasm_operators_encoding.specs.Ends.{ends, IsConstantText}
 
 -- what follows an operator: more operators in these frames, or nothing
 abbrev pub NextFrames : Type 0

@@ -16,7 +16,7 @@ use Rattle.wasm_types.specs.values.DecodeValues.{value_type}
 use Rattle.wasm_types.specs.values.DecodeLaws.{lawful-value_type}
 use Rattle.wasm_types.specs.values.Spelled.{SpelledValue}
 use Rattle.wasm_types.specs.values.ValueLaws.{decides-value_type}
-use Rattle.wasm_operators_bodies.specs.Locals.{LocalGroup, group_of, total, most_locals, SpelledGroup, SpelledLocals, group, room_or, group_within, groups_within, locals}
+use Rattle.wasm_operators_encoding.specs.Locals.{LocalGroup, group_of, total, most_locals, SpelledGroup, SpelledLocals, group, room_or, group_within, groups_within, locals}
 
 -- ---- one group
 
