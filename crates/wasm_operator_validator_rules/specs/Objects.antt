@@ -44,7 +44,7 @@ null_left n false = n
 abbrev pub difference : Reference → Reference → HeapOf TypeTree → ValueType
 difference from to h = ref (null_left from.nullable to.nullable) h
 
--- standard: part of Branches
+-- standard: part of GcRow
 -- a label that takes a value of this type on top of others
 abbrev pub CarriesLast : Context → ℕ → List ValueType → ValueType → Type 0
 CarriesLast g l ts t = (u : ValueType) × IsLabel g l (ts ++ u ∷ []) × Below t u

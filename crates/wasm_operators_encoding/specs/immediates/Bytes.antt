@@ -61,7 +61,7 @@ select_types z = listed_within z.limits.select_types value_type
 
 -- ---- grammars
 
--- standard: binary-instr-memory: 0x00, as the memory of an instruction without multi-memory (differs: an index with the feature)
+-- standard: part of IsIndexOrZero
 -- 0x00 => 0
 pub record IsZero (n : ℕ) (text : List ℕ) : Type 0 where
   pub value : n ≡ 0

@@ -132,7 +132,7 @@ Ascends low (r ∷ rs) = (low < r) × Ascends r rs
 abbrev pub IsOrdered : List Part → Type 0
 IsOrdered ps = Ascends 0 (ranks ps)
 
--- standard: part of Declares
+-- standard: part of CountsAgree
 -- the count that contents begin with
 pub record Counts (n : ℕ) (contents : List ℕ) : Type 0 where
   pub count : List ℕ
@@ -140,7 +140,7 @@ pub record Counts (n : ℕ) (contents : List ℕ) : Type 0 where
   pub counted : IsUnsigned 32 n count
   pub whole : contents ≡ count ++ items
 
--- standard: part of DeclaresOrAbsent
+-- standard: part of CountsAgree
 -- no section of this id is among them
 abbrev pub IsAbsent : ℕ → List Part → Type 0
 IsAbsent id [] = Unit {0}
