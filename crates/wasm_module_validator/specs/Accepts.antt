@@ -13,6 +13,7 @@ use Rattle.wasm_module_validator.specs.Shown.{Learned}
 abbrev pub default_settings : Settings
 default_settings = record { features = bits_of default_features; limits = default_limits }
 
+-- standard: embed-module-validate: under the default settings
 -- the bytes spell some valid module by these
 abbrev pub Accepts : List ℕ → Type 0
 Accepts = AcceptsUnder default_settings

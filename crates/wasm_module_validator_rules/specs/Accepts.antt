@@ -7,11 +7,13 @@ use Rattle.wasm_module_validator_rules.specs.Binary.{SpelledModule, SpelledModul
 use Rattle.wasm_module_validator_rules.specs.Spaces.{module_of, imported_globals}
 use Rattle.wasm_module_validator_rules.specs.Valid.{Each, IsValid, IsValidWith}
 
+-- standard: embed-module-validate: the bytes decode to the module, which is valid
 -- the bytes spell this module, which is valid
 pub record Judges (z : Settings) (bytes : List ℕ) (m : ModuleTree) : Type 0 where
   pub spelled : SpelledModule z m bytes
   pub valid : IsValid z m
 
+-- standard: embed-module-validate: the bytes of a valid module
 -- all of the bytes spell some valid module, where these features are allowed and these limits hold
 abbrev pub AcceptsUnder : Settings → List ℕ → Type 0
 AcceptsUnder z bytes = (m : ModuleTree) × Judges z bytes m

@@ -33,15 +33,18 @@ use Rattle.wasm_module_validator_rules.specs.Syntax.{Function, ModuleTree}
 abbrev pub declared_by : SubtypeOf ℕ → Declared
 declared_by x = record { supertypes = map index.Module x.supertypes; entry = entry_of_subtype (subtype_map index.Module x) }
 
+-- standard: binary-typesec: rectype over indices of the module
 -- rectype (binary format, types, recursive types)
 abbrev pub SpelledGroup : Settings → Grammar Written
 SpelledGroup z g text = SpellsGroup z g.is_explicit (map declared_by g.types) text
 
+-- standard: binary-expr: constant expressions
 -- expr (binary format, expressions), in which the only `end` is the last operator: so it is in constant expressions
 pub record SpelledConstant (z : Settings) (c : Code) (text : List ℕ) : Type 0 where
   pub spelled : SpelledExpression z c text
   pub once : EndsOnce (walk c)
 
+-- standard: binary-codesec: func (differs: at most as many bytes as the limit)
 -- func ::= loc**:list(locals) e:expr, to the last byte of an entry of the code section (binary format, modules, code section),
 -- and no more bytes than the limit
 pub record SpelledFunction (z : Settings) (f : Function) (text : List ℕ) : Type 0 where
@@ -68,11 +71,14 @@ entries_of (custom name content ∷ ps) = entries_of ps
 entries_of (code entries ∷ ps) = entries
 entries_of (section id content ∷ ps) = entries_of ps
 
+-- standard: binary-section: section(list(X)), empty if it is absent
 -- a section of items: a list of them, none where it is absent
 abbrev pub SpelledItems : {A : Type 0} → Grammar A → List A → Option (List ℕ) → Type 0
 SpelledItems g xs None = xs ≡ []
 SpelledItems g xs (Some text) = IsListed g xs text
 
+-- standard: binary-startsec: startsec, start
+-- standard: binary-datacountsec: datacntsec
 -- a section that is one number, if it is there
 abbrev pub SpelledNumber : Option ℕ → Option (List ℕ) → Type 0
 SpelledNumber None None = Unit {0}
@@ -80,6 +86,7 @@ SpelledNumber None (Some text) = ⊥
 SpelledNumber (Some n) None = ⊥
 SpelledNumber (Some n) (Some text) = IsUnsigned 32 n text
 
+-- standard: changes: a tag section needs exceptions
 -- a tag section, even one without tags, needs the feature of exceptions
 abbrev pub MayHaveTags : Settings → Option (List ℕ) → Type 0
 MayHaveTags z None = Unit {0}
@@ -87,6 +94,10 @@ MayHaveTags z (Some text) = Has z.features Exceptions
 
 -- ---- modules
 
+-- standard: binary-module: the contents of each section
+-- standard: binary-funcsec: funcsec
+-- standard: binary-memsec: memsec
+-- standard: binary-tagsec: tagsec
 -- what stands in the sections (binary format, modules); and the entries of the code section spell this
 pub record SpelledSectionsWith (Bodies : List (List ℕ) → Type 0) (z : Settings) (m : ModuleTree) (ps : List Part) : Type 0 where
   pub types : SpelledItems (SpelledGroup z) m.types (contents 1 ps)
@@ -104,6 +115,7 @@ pub record SpelledSectionsWith (Bodies : List (List ℕ) → Type 0) (z : Settin
   pub code : Bodies (entries_of ps)
   pub data_segments : SpelledItems (SpelledData (SpelledConstant z)) m.data_segments (contents 11 ps)
 
+-- standard: binary-module: module
 -- module ::= magic version, and sections in order (binary format, modules): version 1, no other layer, no section of another id,
 -- as many functions defined as declared, and as many data segments as the data count says, if it is there
 pub record SpelledModuleWith (Bodies : List (List ℕ) → Type 0) (z : Settings) (m : ModuleTree) (text : List ℕ) : Type 0 where
@@ -112,6 +124,7 @@ pub record SpelledModuleWith (Bodies : List (List ℕ) → Type 0) (z : Settings
   pub core : IsCoreModule outer
   pub sections : SpelledSectionsWith Bodies z m outer.parts
 
+-- standard: binary-codesec: codesec
 -- the entries of the code section spell the module's code
 abbrev pub SpelledCode : Settings → ModuleTree → List (List ℕ) → Type 0
 SpelledCode z m ts = AllZip (SpelledFunction z) m.code ts
@@ -119,5 +132,6 @@ SpelledCode z m ts = AllZip (SpelledFunction z) m.code ts
 abbrev pub SpelledSections : Settings → ModuleTree → List Part → Type 0
 SpelledSections z m ps = SpelledSectionsWith (SpelledCode z m) z m ps
 
+-- standard: binary-module: module
 abbrev pub SpelledModule : Settings → ModuleTree → List ℕ → Type 0
 SpelledModule z m text = SpelledModuleWith (SpelledCode z m) z m text

@@ -32,9 +32,11 @@ pub record Array : Type 0 where
   pub type : TypeTree
   pub element : FieldOf TypeTree
 
+-- standard: aux-expand-deftype: expand, to a struct type
 abbrev pub struct_named : Context → ℕ → Option Struct
 struct_named g x = option_and_then (λ t. option_map (λ xs. record { type = t; fields = xs }) (as_struct (expanded t))) (used_type g x)
 
+-- standard: aux-expand-deftype: expand, to an array type
 abbrev pub array_named : Context → ℕ → Option Array
 array_named g x = option_and_then (λ t. option_map (λ y. record { type = t; element = y }) (as_array (expanded t))) (used_type g x)
 
@@ -50,6 +52,7 @@ heap_meant g (abstract s a) = if may_use g s then Some (abstract s a) else None
 heap_meant g (concrete i) = option_map (λ t. concrete t) (index_named g i)
 heap_meant g (exact i) = option_map (λ t. exact t) (index_named g i)
 
+-- standard: valid-heaptype: a heap type of a cast or a test (differs: whatever the features are)
 abbrev pub heap_named : Context → HeapType → Option (HeapOf TypeTree)
 heap_named g h = heap_meant g (heap_of h)
 
@@ -60,6 +63,7 @@ top_above (abstract s a) = top_of a
 top_above (concrete t) = top_of (abstract_above (expanded t))
 top_above (exact t) = top_of (abstract_above (expanded t))
 
+-- standard: valid-instr-ref: the top of a hierarchy, from which a cast or a test begins
 -- the type above all types of its hierarchy, and as shared
 abbrev pub top_heap : HeapOf TypeTree → HeapOf TypeTree
 top_heap h = abstract (heap_is_shared h) (top_above h)
@@ -69,5 +73,6 @@ abbrev pub is_cont : Abstract → Bool
 is_cont cont = true
 is_cont a = false
 
+-- standard: proposal-stack-switching: no cast looks into a continuation
 abbrev pub is_castable : HeapOf TypeTree → Bool
 is_castable h = not (is_cont (top_above h))

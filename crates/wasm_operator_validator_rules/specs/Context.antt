@@ -32,6 +32,7 @@ pub record Global : Type 0 where
   pub mutable : Bool
   pub shared : Bool
 
+-- standard: valid-context: C: types, funcs, tables, mems, globals, tags, elems, datas, refs
 -- The index spaces of a module: types, functions by their types, tables, memories, globals, tags by their types, element
 -- segments by their types, and how many data segments the data count section names, where it stands. Besides, the indices
 -- of functions that code may refer to, and of those whose type is known exactly (the proposal on custom descriptors).
@@ -49,6 +50,7 @@ pub record Module : Type 0 where
 
 -- ---- the context of an instruction
 
+-- standard: valid-context: C: locals, labels, return
 -- the features, the module, the locals, what a branch to each open frame takes, the innermost first, which of these frames are
 -- clauses of an older `try`, the function's results, and whether the function is shared
 pub record Context : Type 0 where
@@ -60,6 +62,7 @@ pub record Context : Type 0 where
   pub results : List ValueType
   pub shared : Bool
 
+-- standard: proposal-shared-everything-threads: a shared function uses what is shared
 -- a shared function may use what is shared alone (the proposal on shared everything)
 abbrev pub MayUse : Context → Bool → Type 0
 MayUse g shared = IsTrue g.shared → IsTrue shared
@@ -74,18 +77,21 @@ Initialised = ℕ → Bool
 
 -- ---- types that code writes
 
+-- standard: valid-typeuse: typeidx, the type that it is
 -- the type that a module means by an index that it writes
 abbrev pub written_type : Module → UnpackedIndex → TypeTree
 written_type g (index.Module n) = type_at g.types n
 written_type g (index.RecGroup n) = type_at g.types n
 written_type g (index.Id i) = type_at g.types i.0
 
+-- standard: valid-typeuse: typeidx
 -- a module writes indices of its own types alone
 abbrev pub IsTypeIndex : Module → UnpackedIndex → Type 0
 IsTypeIndex g (index.Module n) = n < length g.types
 IsTypeIndex g (index.RecGroup n) = ⊥
 IsTypeIndex g (index.Id i) = ⊥
 
+-- standard: valid-valtype: valtype, as code writes it
 -- a value type that a module may write under these features, and the type that it is (validation, types, value types)
 pub record IsType (bits : ℕ) (g : Module) (written : ValType) (t : ValueType) : Type 0 where
   pub allowed : ValueIsAllowed bits (value_of written)
@@ -99,10 +105,12 @@ pub record Signature : Type 0 where
   pub params : List ValueType
   pub results : List ValueType
 
+-- standard: aux-expand-deftype: expand, to a function type
 -- the function type that a type is (validation, types, expansion)
 abbrev pub IsFunctionType : TypeTree → Signature → Type 0
 IsFunctionType t b = expanded t ≡ function b.params b.results
 
+-- standard: valid-blocktype: typeidx, valtype (differs: a type index needs multi-value)
 -- what a block type means (validation, types, block types)
 abbrev pub IsBlockType : Context → BlockType → Signature → Type 0
 IsBlockType g block.Empty b = b ≡ record { params = []; results = [] }
@@ -115,11 +123,13 @@ pub record Frame : Type 0 where
   pub block : Signature
   pub before : Initialised
 
+-- standard: valid-instr-control: block, loop, if, try_table: the type of the label
 -- what a branch to a frame takes (validation, control instructions)
 abbrev pub label_of : FrameKind → Signature → List ValueType
 label_of frames.Loop b = b.params
 label_of _ b = b.results
 
+-- standard: proposal-exceptions-older: a clause of an older try
 -- a clause of an older `try`, in which an exception may be thrown again (the proposal on exceptions, its older form)
 abbrev pub is_catch : FrameKind → Bool
 is_catch frames.LegacyCatch = true
@@ -140,6 +150,7 @@ in_clause g = record g { catches = marked g.catches }
 
 -- ---- locals
 
+-- standard: valid-defaultable: default values
 -- a local of such a type has a value from the start (validation, types, defaultable types)
 abbrev pub defaultable : ValueType → Bool
 defaultable (number n) = true
@@ -149,12 +160,14 @@ abbrev pub is_defaulted : Option ValueType → Bool
 is_defaulted None = false
 is_defaulted (Some t) = defaultable t
 
+-- standard: valid-func: which locals are set at first
 -- the locals that are initialised where a body begins, of which the first so many are parameters
 abbrev pub initialised_at_first : ℕ → List ValueType → Initialised
 initialised_at_first params locals x = if nat_lt x params then true else is_defaulted (slice_get locals x)
 
 -- ---- addresses and indices
 
+-- standard: valid-context: addrtype
 -- the type of addresses of a memory, and of indices of a table, of 64 bits or 32
 abbrev pub address_type : Bool → ValueType
 address_type true = number i64

@@ -20,28 +20,34 @@ abbrev pub of_type : Bool → TypeTree → HeapOf TypeTree
 of_type false t = concrete t
 of_type true t = exact t
 
+-- standard: proposal-custom-descriptors: what describes a heap type
 -- what describes a type, exactly if the type is exact
 abbrev pub descriptor_of : HeapOf TypeTree → Option (HeapOf TypeTree)
 descriptor_of (abstract s a) = None
 descriptor_of (concrete t) = option_map (λ d. concrete d) (opened t).descriptor
 descriptor_of (exact t) = option_map (λ d. exact d) (opened t).descriptor
 
+-- standard: part of DescriptorRow
 -- a struct type that is described by another
 pub record IsDescribed (g : Context) (x : ℕ) (s : Struct) (d : TypeTree) : Type 0 where
   pub struct : struct_named g x ≡ Some s
   pub descriptor : (opened s.type).descriptor ≡ Some d
 
+-- standard: part of DescriptorRow
 -- a type that is named, and what describes it
 pub record IsDescribedHeap (g : Context) (h : HeapType) (k d : HeapOf TypeTree) : Type 0 where
   pub named : heap_named g h ≡ Some k
   pub castable : IsTrue (is_castable k)
   pub descriptor : descriptor_of k ≡ Some d
 
+-- standard: part of DescriptorRow
 -- a reference is cast by what describes it, on top; if it is of one type, the branch takes it, else it stays with the other
 abbrev pub BranchesBy : Context → ℕ → ValueType → HeapOf TypeTree → ValueType → ValueType → List Operand → List Operand → Type 0
 BranchesBy g l cast by taken left popped pushed =
     (ts : List ValueType) × CarriesLast g l ts taken × Takes (ts ++ cast ∷ ref true by ∷ []) (ts ++ left ∷ []) popped pushed
 
+-- standard: proposal-custom-descriptors: struct.new_desc, struct.new_default_desc, ref.get_desc
+-- standard: proposal-custom-descriptors: ref.cast_desc_eq, br_on_cast_desc_eq, br_on_cast_desc_eq_fail
 -- What is free: whether the operand of `ref.get_desc` is exactly of its type, and then so is what describes it. Elsewhere the type that
 -- is named decides that alone.
 abbrev pub DescriptorRow : Context → DescriptorOperator → List Operand → List Operand → Type 0

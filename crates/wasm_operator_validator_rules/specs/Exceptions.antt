@@ -11,6 +11,7 @@ use Rattle.wasm_operator_validator_rules.specs.Operands.{ValueType, Operand, All
 use Rattle.wasm_operator_validator_rules.specs.Context.{Context, IsFunctionType}
 use Rattle.wasm_operator_validator_rules.specs.Taken.{IsLabel}
 
+-- standard: valid-tagtype: a tag whose type has no results
 -- a tag of exceptions that carry these values: nothing comes back from a handler (validation, types, tag types)
 abbrev pub IsExceptionTag : Context → ℕ → List ValueType → Type 0
 IsExceptionTag g x ts = (t : TypeTree) × (slice_get g.«module».tags x ≡ Some t) × IsFunctionType t (record { params = ts; results = [] })
@@ -19,6 +20,8 @@ IsExceptionTag g x ts = (t : TypeTree) × (slice_get g.«module».tags x ≡ Som
 abbrev pub exception : Bool → ValueType
 exception n = ref n (abstract false exn)
 
+-- standard: valid-instr-control: throw, throw_ref
+-- standard: proposal-exceptions-older: rethrow
 -- what is thrown is taken off, and the next place is not reached; only a clause of an older `try` has an exception to throw again
 abbrev pub ExceptionRow : Context → ExceptionTree → List Operand → List Operand → Type 0
 ExceptionRow g (op.Throw x) popped pushed = (ts : List ValueType) × (any : List Operand) × IsExceptionTag g x ts
@@ -27,10 +30,12 @@ ExceptionRow g op.ThrowRef popped pushed = (any : List Operand) × (popped ≡ a
 ExceptionRow g (op.Rethrow l) popped pushed = slice_get g.catches l ≡ Some true
 ExceptionRow g o popped pushed = ⊥
 
+-- standard: part of Catches
 -- a branch with values of these types
 abbrev pub Carries : Context → List ValueType → ℕ → Type 0
 Carries g ts l = (us : List ValueType) × IsLabel g l us × AllBelow (all_known ts) (all_known us)
 
+-- standard: valid-catch: catch, catch_ref, catch_all, catch_all_ref
 -- a clause of `try_table`: what it catches goes to its label, which counts from around the `try_table`
 abbrev pub Catches : Context → Catch → Type 0
 Catches g (clause.One x l) = (ts : List ValueType) × IsExceptionTag g x ts × Carries g ts l
@@ -38,6 +43,7 @@ Catches g (clause.OneRef x l) = (ts : List ValueType) × IsExceptionTag g x ts �
 Catches g (clause.All l) = Carries g [] l
 Catches g (clause.AllRef l) = Carries g (exception false ∷ []) l
 
+-- standard: valid-catch: catch*
 abbrev pub EachCatches : Context → List Catch → Type 0
 EachCatches g [] = Unit {0}
 EachCatches g (c ∷ cs) = Catches g c × EachCatches g cs

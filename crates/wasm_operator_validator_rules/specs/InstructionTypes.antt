@@ -31,6 +31,7 @@ use Rattle.wasm_operator_validator_rules.specs.Numbers.{numbers, class_of, taken
 use Rattle.wasm_operator_validator_rules.specs.Accesses.{AccessOf, access_of, atomic_access_of, operands_of, results_of, may_access}
 use Rattle.wasm_operator_validator_rules.specs.Vectors.{VectorClass, vectors_taken, vectors_given, VectorWork, on_lanes, reaches, work_of, vector_class}
 
+-- standard: syntax-instrtype: instrtype
 -- what is taken off the operands and what is put on, the last on top (validation, conventions, instruction types)
 pub record InstructionType : Type 0 where
   pub takes : List ValueType
@@ -58,17 +59,20 @@ i32_type = number i32
 abbrev pub memory_at : Context → ℕ → (MemoryType → Option InstructionType) → Option InstructionType
 memory_at g x f = named (slice_get g.«module».memories x) f
 
+-- standard: valid-instr-memory: the address and the numbers of a load or store
 -- an access takes the address first
 abbrev pub accesses : Context → Bool → Option AccessOf → Option InstructionType
 accesses g is_atomic None = None
 accesses g is_atomic (Some a) =
     memory_at g a.argument.memory (λ m. provided (may_access is_atomic m a.argument) ((address_type m.memory64 ∷ numbers (operands_of a.access)) ⟶ numbers (results_of a.access)))
 
+-- standard: valid-context: C.datas[x] (differs: by the data count alone)
 -- the data count section, where it stands, names the data segment
 abbrev pub names_data : Option ℕ → ℕ → Bool
 names_data None x = false
 names_data (Some n) x = nat_lt x n
 
+-- standard: valid-instr-memory: memory.copy, table.copy: the type of the length
 -- lengths are of 64 bits where both memories, or both tables, are
 abbrev pub shorter : Bool → Bool → ValueType
 shorter m n = address_type (m && n)
@@ -99,10 +103,12 @@ struct_at g x f = named (struct_named g x) f
 abbrev pub array_at : Context → ℕ → (Array → Option InstructionType) → Option InstructionType
 array_at g x f = named (array_named g x) f
 
+-- standard: valid-instr-aggr: what an allocation gives (differs: of an exact type with custom descriptors)
 -- what an allocation gives: exactly the type, by the proposal on custom descriptors
 abbrev pub allocated : Context → TypeTree → ValueType
 allocated g t = ref false (if has CustomDescriptors g.bits then exact t else concrete t)
 
+-- standard: proposal-custom-descriptors: a struct with a descriptor is made with it
 -- a struct with a descriptor is made with it alone (the same proposal)
 abbrev pub is_described : Struct → Bool
 is_described s = is_some (opened s.type).descriptor
@@ -122,16 +128,20 @@ written p = provided p.mutable ((p.reached_by ++ unpacked p.storage ∷ []) ⟶ 
 
 -- ---- tests and casts (validation, reference instructions)
 
+-- standard: valid-instr-ref: ref.test, ref.cast: from the top of the hierarchy
 -- of a reference of the hierarchy of the type that is named
 abbrev pub cast_at : Context → HeapType → (HeapOf TypeTree → ValueType) → Option InstructionType
 cast_at g h f = named (heap_named g h) (λ k. provided (is_castable k) (ref true (top_heap k) ∷ [] ⟶ f k ∷ []))
 
 -- ---- the tables of the groups
 
+-- standard: valid-instr-control: call_ref
 abbrev pub control_type_of : Context → ControlOperator → Option InstructionType
 control_type_of g (control.CallRef y) = function_at g y (λ t b. Some ((b.params ++ reference_to t ∷ []) ⟶ b.results))
 control_type_of g o = None
 
+-- standard: valid-instr-variable: global.get, global.set
+-- standard: valid-instr-memory: memory.size, memory.grow
 abbrev pub memory_type_of : Context → MemoryOperator → Option InstructionType
 memory_type_of g (memory.GlobalGet x) = global_at g x (λ v. Some ([] ⟶ v.content ∷ []))
 memory_type_of g (memory.GlobalSet x) = global_at g x (λ v. provided v.mutable (v.content ∷ [] ⟶ []))
@@ -139,6 +149,9 @@ memory_type_of g (memory.MemorySize x) = memory_at g x (λ m. Some ([] ⟶ addre
 memory_type_of g (memory.MemoryGrow x) = memory_at g x (λ m. Some (address_type m.memory64 ∷ [] ⟶ address_type m.memory64 ∷ []))
 memory_type_of g o = accesses g false (access_of o)
 
+-- standard: valid-instr-table: table.get, table.set, table.grow, table.size, table.fill, elem.drop
+-- standard: valid-instr-memory: data.drop, memory.init, memory.copy, memory.fill
+-- standard: proposal-memory-control: memory.discard
 abbrev pub bulk_type_of : Context → BulkOperator → Option InstructionType
 bulk_type_of g (bulk.TableGet x) = table_at g x (λ t. Some (address_type t.table64 ∷ [] ⟶ t.element ∷ []))
 bulk_type_of g (bulk.TableSet x) = table_at g x (λ t. Some (address_type t.table64 ∷ t.element ∷ [] ⟶ []))
@@ -153,10 +166,16 @@ bulk_type_of g (bulk.MemoryFill x) = memory_at g x (λ m. Some (address_type m.m
 bulk_type_of g (bulk.MemoryDiscard x) = memory_at g x (λ m. Some (address_type m.memory64 ∷ address_type m.memory64 ∷ [] ⟶ []))
 bulk_type_of g o = None
 
+-- standard: proposal-threads: atomic.fence
 abbrev pub atomic_type_of : Context → AtomicOperator → Option InstructionType
 atomic_type_of g atomic.AtomicFence = Some ([] ⟶ [])
 atomic_type_of g o = accesses g true (atomic_access_of o)
 
+-- standard: valid-instr-aggr: struct.new, struct.new_default, struct.get, struct.get_s, struct.get_u, struct.set
+-- standard: valid-instr-aggr: array.new, array.new_default, array.new_fixed, array.new_data, array.fill, array.init_data
+-- standard: valid-instr-aggr: array.get, array.get_s, array.get_u, array.set
+-- standard: valid-instr-ref: ref.test, ref.cast (differs: an exact type too; any type that the module has, whatever the features are)
+-- standard: valid-instr-aggr: ref.i31
 abbrev pub gc_type_of : Context → GcOperator → Option InstructionType
 gc_type_of g (gc.StructNew x) = struct_at g x (λ s. provided (not (is_described s)) (operands_for s.fields ⟶ allocated g s.type ∷ []))
 gc_type_of g (gc.StructNewDefault x) = struct_at g x (λ s. provided (not (is_described s) && have_defaults s.fields) ([] ⟶ allocated g s.type ∷ []))
@@ -184,6 +203,7 @@ gc_type_of g (gc.RefCastNullable h) = cast_at g h (λ k. ref true k)
 gc_type_of g gc.RefI31 = Some (i32_type ∷ [] ⟶ ref false (abstract false i31) ∷ [])
 gc_type_of g o = None
 
+-- standard: changes: vector instructions (differs: they are refused without the switch)
 -- of vectors, if they are judged
 abbrev pub where_vectors : Context → Option InstructionType → Option InstructionType
 where_vectors g t = if judges_vectors g.bits then t else None
@@ -201,6 +221,7 @@ simd_type_of g o = where_vectors g (work_type g (work_of o))
 abbrev pub simd_numeric_type_of : Context → SimdNumericOperator → Option InstructionType
 simd_numeric_type_of g o = where_vectors g (Some (lanes_type (vector_class o)))
 
+-- standard: valid-instr: the type of an instruction that the module alone determines
 -- what an operator takes and gives, where the module determines it
 abbrev pub instruction_type : Context → Op → Option InstructionType
 instruction_type g (op.Control o) = control_type_of g o

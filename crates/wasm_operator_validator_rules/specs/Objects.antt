@@ -17,12 +17,14 @@ use Rattle.wasm_operator_validator_rules.specs.Taken.{Takes, TableRow, IsLabel}
 
 -- ---- arrays and element segments
 
+-- standard: valid-instr-aggr: array.new_elem, array.init_elem: the segment's type
 -- an element segment has what may stand in the array
 abbrev pub MayHold : Context → Array → ℕ → Type 0
 MayHold g a e = (s t : ValueType) × (slice_get g.«module».elements e ≡ Some s) × (a.element.storage ≡ value t) × Below s t
 
 -- ---- branches on casts (validation, control instructions)
 
+-- standard: valid-instr-control: br_on_cast, br_on_cast_fail: the two types (differs: whatever the features are)
 -- A cast from one type to another, below it; which features are on does not matter. Neither is of continuations (the proposal on
 -- stack switching).
 pub record IsCast (g : Context) (from to : Reference) (h k : HeapOf TypeTree) : Type 0 where
@@ -32,18 +34,22 @@ pub record IsCast (g : Context) (from to : Reference) (h k : HeapOf TypeTree) : 
   pub to_castable : IsTrue (is_castable k)
   pub below : Below (ref to.nullable k) (ref from.nullable h)
 
+-- standard: aux-reftypediff: difference, its null
 -- what a value may be that is of the first type and not of the second: no null, if the second has it (validation, conventions)
 abbrev pub null_left : Bool → Bool → Bool
 null_left n true = false
 null_left n false = n
 
+-- standard: aux-reftypediff: difference
 abbrev pub difference : Reference → Reference → HeapOf TypeTree → ValueType
 difference from to h = ref (null_left from.nullable to.nullable) h
 
+-- standard: part of GcRow
 -- a label that takes a value of this type on top of others
 abbrev pub CarriesLast : Context → ℕ → List ValueType → ValueType → Type 0
 CarriesLast g l ts t = (u : ValueType) × IsLabel g l (ts ++ u ∷ []) × Below t u
 
+-- standard: part of GcRow
 -- a reference is cast; if it is of one type, the branch takes it, else it stays with the other
 abbrev pub Branches : Context → ℕ → ValueType → ValueType → ValueType → List Operand → List Operand → Type 0
 Branches g l cast taken left popped pushed =
@@ -51,6 +57,10 @@ Branches g l cast taken left popped pushed =
 
 -- ---- the rows
 
+-- standard: valid-instr-ref: ref.eq (differs: of two shared references too)
+-- standard: valid-instr-aggr: array.new_elem, array.len, array.copy, array.init_elem (differs: shared arrays too)
+-- standard: valid-instr-control: br_on_cast, br_on_cast_fail
+-- standard: valid-instr-aggr: any.convert_extern, extern.convert_any, i31.get_s, i31.get_u (differs: shared references too)
 -- What is free: whether references are shared, and whether a converted one may be null.
 abbrev pub GcRow : Context → GcOperator → List Operand → List Operand → Type 0
 GcRow g gc.RefEq popped pushed = (s : Bool) × Takes (ref true (abstract s eq) ∷ ref true (abstract s eq) ∷ []) (i32_type ∷ []) popped pushed

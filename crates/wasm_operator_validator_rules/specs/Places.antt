@@ -9,6 +9,7 @@ use Rattle.wasm_operator_validator_rules.specs.Aggregates.{struct_named, array_n
 
 -- ---- what is stored (validation, types, field types)
 
+-- standard: aux-unpack: unpack
 -- the value type of what is stored: packed types are numbers as operands
 abbrev pub unpacked : StorageOf TypeTree → ValueType
 unpacked i8 = number i32
@@ -20,6 +21,7 @@ is_packed i8 = true
 is_packed i16 = true
 is_packed (value t) = false
 
+-- standard: valid-instr-aggr: numtype or vectype, of array.new_data and array.init_data
 -- bytes can be read as it: a number, a vector or a packed type
 abbrev pub is_of_bytes : StorageOf TypeTree → Bool
 is_of_bytes i8 = true
@@ -27,6 +29,7 @@ is_of_bytes i16 = true
 is_of_bytes (value (number n)) = true
 is_of_bytes (value (ref n h)) = false
 
+-- standard: valid-defaultable: default values of fields
 -- it has a default value
 abbrev pub has_default : FieldOf TypeTree → Bool
 has_default x = defaultable (unpacked x.storage)
@@ -48,11 +51,13 @@ pub record Place : Type 0 where
   pub storage : StorageOf TypeTree
   pub mutable : Bool
 
+-- standard: valid-instr-aggr: struct.get, struct.set: the field
 abbrev pub field_place : Context → ℕ → ℕ → Option Place
 field_place g x i = option_and_then
     (λ s. option_map (λ y. record { reached_by = ref true (concrete s.type) ∷ []; storage = y.storage; mutable = y.mutable }) (slice_get s.fields i))
     (struct_named g x)
 
+-- standard: valid-instr-aggr: array.get, array.set: the element
 abbrev pub element_place : Context → ℕ → Option Place
 element_place g x = option_map
     (λ a. record { reached_by = ref true (concrete a.type) ∷ number i32 ∷ []; storage = a.element.storage; mutable = a.element.mutable })

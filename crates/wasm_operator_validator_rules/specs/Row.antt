@@ -33,15 +33,18 @@ use Rattle.wasm_operator_validator_rules.specs.Continuations.{ContinuationRow}
 
 -- ---- control (validation, control instructions); where the next place is not reached, what is given is free
 
+-- standard: valid-instr-control: br_table: each label
 -- the operands may be taken for what each of these labels takes
 abbrev pub FitEach : Context → List Operand → List ℕ → Type 0
 FitEach g s [] = Unit {0}
 FitEach g s (l ∷ ls) = ((ts : List ValueType) × IsLabel g l ts × AllBelow s (all_known ts)) × FitEach g s ls
 
+-- standard: valid-context: C.funcs[x] (differs: a shared function calls shared ones alone)
 -- a function of the module, by the type that it has
 abbrev pub IsCallee : Context → ℕ → Signature → Type 0
 IsCallee g x b = (t : TypeTree) × (slice_get g.«module».functions x ≡ Some t) × MayUse g (is_shared t) × IsFunctionType t b
 
+-- standard: valid-instr-control: call_indirect: the table and the type (differs: of shared functions too)
 -- a table of functions, and the type that a call through it expects
 pub record IsIndirect (g : Context) (y x : ℕ) (t : Table) (b : Signature) : Type 0 where
   pub table : slice_get g.«module».tables x ≡ Some t
@@ -52,15 +55,21 @@ pub record IsIndirect (g : Context) (y x : ℕ) (t : Table) (b : Signature) : Ty
   pub type_used : MayUse g (is_shared callee)
   pub function : IsFunctionType callee b
 
+-- standard: valid-instr-control: return_call: the results
 -- a call that takes the place of its caller gives what the function gives
 abbrev pub IsReturned : Context → Signature → Type 0
 IsReturned g b = AllBelow (all_known b.results) (all_known g.results)
 
+-- standard: valid-instr-ref: ref.as_non_null, br_on_null: the reference that is not null
 -- a reference where it is not null; one to the bottom heap type stays one
 abbrev pub not_null : Operand → Operand
 not_null (known (ref n h)) = known (ref false h)
 not_null t = t
 
+-- standard: valid-instr-control: unreachable, br, br_if, br_table, br_on_null, br_on_non_null, return
+-- standard: valid-instr-control: nop
+-- standard: valid-instr-control: call, call_indirect, return_call, return_call_indirect, return_call_ref
+-- standard: valid-instr-ref: ref.as_non_null
 abbrev pub ControlRow : Context → ControlOperator → List Operand → List Operand → Type 0
 ControlRow g control.Unreachable popped pushed = Unit {0}
 ControlRow g control.Nop popped pushed = Takes [] [] popped pushed
@@ -87,6 +96,7 @@ ControlRow g o popped pushed = TableRow g (op.Control o) popped pushed
 
 -- ---- operands of any type (validation, parametric instructions)
 
+-- standard: valid-instr-parametric: select without types: numtype, vectype
 -- `select` without a type is for numbers and vectors
 abbrev pub IsNumber : Operand → Type 0
 IsNumber bottom = Unit {0}
@@ -94,6 +104,7 @@ IsNumber some_reference = ⊥
 IsNumber (known (number n)) = Unit {0}
 IsNumber (known (ref n h)) = ⊥
 
+-- standard: valid-instr-parametric: drop, select
 abbrev pub ParametricRow : Context → ParametricTree → List Operand → List Operand → Type 0
 ParametricRow g op.Drop popped pushed = (t : Operand) × (popped ≡ t ∷ []) × (pushed ≡ [])
 ParametricRow g op.Select popped pushed = (t : Operand) × IsNumber t × (popped ≡ t ∷ t ∷ known i32_type ∷ []) × (pushed ≡ t ∷ [])
@@ -103,11 +114,13 @@ ParametricRow g (op.TypedSelectMulti written) popped pushed = ⊥
 
 -- ---- variables (validation, variable instructions); globals are in the table
 
+-- standard: valid-context: C.locals[x] (differs: a shared function uses shared locals alone)
 -- a local of the function
 pub record IsLocal (g : Context) (x : ℕ) (t : ValueType) : Type 0 where
   pub local : slice_get g.locals x ≡ Some t
   pub used : MayUse g (value_is_shared t)
 
+-- standard: valid-instr-variable: local.get, local.set, local.tee
 abbrev pub MemoryRow : Context → Initialised → MemoryOperator → List Operand → List Operand → Type 0
 MemoryRow g set (memory.LocalGet x) popped pushed = (t : ValueType) × IsLocal g x t × IsTrue (set x) × Takes [] (t ∷ []) popped pushed
 MemoryRow g set (memory.LocalSet x) popped pushed = (t : ValueType) × IsLocal g x t × Takes (t ∷ []) [] popped pushed
@@ -116,16 +129,20 @@ MemoryRow g set o popped pushed = TableRow g (op.Memory o) popped pushed
 
 -- ---- references, and copies into tables (validation, reference instructions, table instructions)
 
+-- standard: part of BulkRow
 -- one of these
 abbrev pub IsOneOf : ℕ → List ℕ → Type 0
 IsOneOf x [] = ⊥
 IsOneOf x (y ∷ ys) = (x ≡ y) ⊎ IsOneOf x ys
 
+-- standard: valid-instr-ref: ref.func: the type of the reference (differs: exactly of it with custom descriptors)
 -- the reference to a function: of its type, or exactly of it where that is known (the proposal on custom descriptors)
 pub data IsReferenceTo (g : Context) (x : ℕ) (t : TypeTree) : HeapOf TypeTree → Type 0 where
   of_type : IsReferenceTo g x t (concrete t)
   of_exactly : Has g.bits CustomDescriptors → IsOneOf x g.«module».exact_functions → IsReferenceTo g x t (exact t)
 
+-- standard: valid-instr-ref: ref.null, ref.is_null, ref.func
+-- standard: valid-instr-table: table.init, table.copy
 abbrev pub BulkRow : Context → BulkOperator → List Operand → List Operand → Type 0
 BulkRow g (bulk.RefNull h) popped pushed = (t : ValueType) × IsType g.bits g.«module» (value.Ref (record { nullable = true; heap = h })) t
     × MayUse g (value_is_shared t) × Takes [] (t ∷ []) popped pushed
@@ -157,11 +174,13 @@ names_float (op.Simd o) = has_float_work (work_of o)
 names_float (op.SimdNumeric o) = has_float_lanes (vector_class o)
 names_float o = false
 
+-- standard: changes: an instruction needs the features of its proposal
 -- the features of the operator's proposal, and floats where it has one in its name
 pub record IsEnabled (bits : ℕ) (o : Op) : Type 0 where
   pub proposal : bit_and bits (features_of (info_of o).proposal) ≡ features_of (info_of o).proposal
   pub floats : IsTrue (names_float o) → Has bits Floats
 
+-- standard: part of Row
 abbrev pub GroupRow : Context → Initialised → Op → List Operand → List Operand → Type 0
 GroupRow g set (op.Control o) popped pushed = ControlRow g o popped pushed
 GroupRow g set (op.Parametric o) popped pushed = ParametricRow g o popped pushed
@@ -174,6 +193,7 @@ GroupRow g set (op.Shared o) popped pushed = SharedRow g o popped pushed
 GroupRow g set (op.Continuation o) popped pushed = ContinuationRow g o popped pushed
 GroupRow g set o popped pushed = TableRow g o popped pushed
 
+-- standard: valid-instr: instr, without subsumption
 -- what an operator takes off the operands and puts on, the last on top
 abbrev pub Row : Context → Initialised → Op → List Operand → List Operand → Type 0
 Row g set o popped pushed = IsEnabled g.bits o × GroupRow g set o popped pushed
@@ -185,6 +205,7 @@ sets (memory.LocalSet x) set = λ k. if x == k then true else set k
 sets (memory.LocalTee x) set = λ k. if x == k then true else set k
 sets o set = set
 
+-- standard: valid-instr-seq: locals that are set after an instruction
 abbrev pub after : Op → Initialised → Initialised
 after (op.Memory o) set = sets o set
 after o set = set

@@ -23,26 +23,31 @@ pub data AtomicAccess : Type 0 where
 
 -- ---- what may be stored at a place that is accessed so
 
+-- standard: part of SharedRow
 abbrev pub IsInteger : ValueType → Type 0
 IsInteger (number i32) = Unit {0}
 IsInteger (number i64) = Unit {0}
 IsInteger t = ⊥
 
+-- standard: part of SharedRow
 -- an integer, or a reference below this abstract type, shared or not
 abbrev pub IsAtomic : Abstract → ValueType → Type 0
 IsAtomic a (number n) = IsInteger (number n)
 IsAtomic a (ref n h) = (s : Bool) × Below (ref n h) (ref true (abstract s a))
 
+-- standard: part of SharedRow
 abbrev pub StoresInteger : StorageOf TypeTree → Type 0
 StoresInteger i8 = ⊥
 StoresInteger i16 = ⊥
 StoresInteger (value t) = IsInteger t
 
+-- standard: part of SharedRow
 abbrev pub StoresAtomic : Abstract → StorageOf TypeTree → Type 0
 StoresAtomic a i8 = ⊥
 StoresAtomic a i16 = ⊥
 StoresAtomic a (value t) = IsAtomic a t
 
+-- standard: part of SharedRow
 -- the same, or a packed type, which is written as a number
 abbrev pub StoresWritten : StorageOf TypeTree → Type 0
 StoresWritten i8 = Unit {0}
@@ -51,6 +56,7 @@ StoresWritten (value t) = IsAtomic any t
 
 -- ---- one row a kind of access
 
+-- standard: part of SharedRow
 -- what may be stored at its place, and whether that has to be mutable
 abbrev pub Stores : AtomicAccess → StorageOf TypeTree → Type 0
 Stores reads s = StoresAtomic any s
@@ -60,6 +66,7 @@ Stores modifies s = StoresInteger s
 Stores exchanges s = StoresAtomic any s
 Stores compares s = StoresAtomic eq s
 
+-- standard: part of SharedRow
 abbrev pub MayChange : AtomicAccess → Bool → Type 0
 MayChange reads mutable = Unit {0}
 MayChange reads_packed mutable = Unit {0}
@@ -79,16 +86,24 @@ abbrev pub given_by_access : AtomicAccess → ValueType → List ValueType
 given_by_access writes t = []
 given_by_access a t = t ∷ []
 
+-- standard: part of SharedRow
 abbrev pub AccessRow : AtomicAccess → Place → List Operand → List Operand → Type 0
 AccessRow a p popped pushed = MayChange a p.mutable × Stores a p.storage
     × Takes (p.reached_by ++ taken_above a (unpacked p.storage)) (given_by_access a (unpacked p.storage)) popped pushed
 
+-- standard: part of SharedRow
 -- at a place, if it is there
 abbrev pub At : AtomicAccess → Option Place → List Operand → List Operand → Type 0
 At a o popped pushed = (p : Place) × (o ≡ Some p) × AccessRow a p popped pushed
 
 -- ---- the operators
 
+-- standard: proposal-shared-everything-threads: atomic accesses that read (for At reads)
+-- standard: proposal-shared-everything-threads: atomic accesses that write (for At writes)
+-- standard: proposal-shared-everything-threads: atomic accesses that modify (for At modifies)
+-- standard: proposal-shared-everything-threads: atomic accesses that exchange (for At exchanges)
+-- standard: proposal-shared-everything-threads: atomic accesses that compare and exchange (for At compares)
+-- standard: proposal-shared-everything-threads: ref.i31_shared
 abbrev pub SharedRow : Context → SharedOperator → List Operand → List Operand → Type 0
 SharedRow g (shared.GlobalAtomicGet order x) popped pushed = At reads (global_place g x) popped pushed
 SharedRow g (shared.GlobalAtomicSet order x) popped pushed = At writes (global_place g x) popped pushed

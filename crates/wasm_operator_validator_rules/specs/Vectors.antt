@@ -50,6 +50,7 @@ pub data VectorClass : Type 0 where
   extract : Shape → VectorClass
   replace : Shape → VectorClass
 
+-- standard: part of vector_class
 abbrev pub vectors_taken : VectorClass → List Number
 vectors_taken constant = []
 vectors_taken (unary s) = v128 ∷ []
@@ -65,11 +66,13 @@ vectors_taken (splat s) = lane_of s ∷ []
 vectors_taken (extract s) = v128 ∷ []
 vectors_taken (replace s) = v128 ∷ lane_of s ∷ []
 
+-- standard: part of vector_class
 abbrev pub vectors_given : VectorClass → List Number
 vectors_given (test s) = i32 ∷ []
 vectors_given (extract s) = lane_of s ∷ []
 vectors_given c = v128 ∷ []
 
+-- standard: changes: floats are a feature of their own
 -- whether lanes are floats, on either side: those are a feature of their own
 abbrev pub has_float_lanes : VectorClass → Bool
 has_float_lanes constant = false
@@ -100,6 +103,13 @@ reaching access a = reaches (record { access = access; argument = a })
 
 -- ---- the table of those that carry something
 
+-- standard: valid-instr-vec: v128.const (for on_lanes constant)
+-- standard: valid-instr-vec: shuffle (for on_lanes (binary)
+-- standard: valid-instr-vec: extract_lane (for on_lanes (extract)
+-- standard: valid-instr-vec: replace_lane (for on_lanes (replace)
+-- standard: valid-instr-memory: v128.load, v128.loadNxM_sx, v128.loadN_splat, v128.loadN_zero (for reaching (load v128)
+-- standard: valid-instr-memory: v128.loadN_lane (for reaching load_lane)
+-- standard: valid-instr-memory: v128.store, v128.storeN_lane (for reaching (store v128)
 abbrev pub work_of : SimdOperator → VectorWork
 work_of (simd.V128Load memarg) = reaching (load v128) memarg
 work_of (simd.V128Load8x8S memarg) = reaching (load v128) memarg
@@ -142,6 +152,16 @@ work_of (simd.V128Load64Zero memarg) = reaching (load v128) memarg
 
 -- ---- the table of those that carry nothing
 
+-- standard: valid-instr-vec: v128.vvunop, shape.vunop (for unary)
+-- standard: valid-instr-vec: v128.vvbinop, shape.vbinop, shape.vswizzlop (for binary)
+-- standard: valid-instr-vec: v128.vvternop, shape.vternop (for ternary)
+-- standard: valid-instr-vec: shape.vrelop (for compare)
+-- standard: valid-instr-vec: v128.vvtestop, shape.vtestop, shape.bitmask (for test)
+-- standard: valid-instr-vec: shape.vshiftop (for shift)
+-- standard: valid-instr-vec: shape.vcvtop, shape.vextunop (for convert)
+-- standard: valid-instr-vec: shape.narrow, shape.vextbinop (for join)
+-- standard: valid-instr-vec: shape.vextternop (for accumulate)
+-- standard: valid-instr-vec: shape.splat (for splat)
 abbrev pub vector_class : SimdNumericOperator → VectorClass
 vector_class lanes.I8x16Swizzle = binary i8x16
 vector_class lanes.I8x16Splat = splat i8x16

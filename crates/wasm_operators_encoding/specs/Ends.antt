@@ -18,11 +18,13 @@ ends r = false
 abbrev pub is_end : Op → Bool
 is_end o = ends (role_of o)
 
+-- standard: part of EndsOnce
 -- none of them is
 abbrev pub HasNoEnd : List Op → Type 0
 HasNoEnd [] = Unit {0}
 HasNoEnd (o ∷ os) = (is_end o ≡ false) × HasNoEnd os
 
+-- standard: valid-constant: no block, so that the only end is the last instruction (differs: as a rule of bytes, not of validation)
 -- the last of them is `end`, and no other
 pub record EndsOnce (os : List Op) : Type 0 where
   pub front : List Op

@@ -29,6 +29,7 @@ most_locals settings = settings.limits.locals
 
 -- ---- which bytes spell them
 
+-- standard: binary-codesec: locals
 -- locals ::= n:u32 t:valtype
 pub record SpelledGroup (g : LocalGroup) (text : List ℕ) : Type 0 where
   pub count : List ℕ
@@ -37,6 +38,7 @@ pub record SpelledGroup (g : LocalGroup) (text : List ℕ) : Type 0 where
   pub typed : SpelledValue g.type type
   pub whole : text ≡ count ++ type
 
+-- standard: binary-codesec: list(locals) (differs: at most as many locals together as the limit)
 -- list(locals), and no more locals than the limit
 pub record SpelledLocals (settings : Settings) (gs : List LocalGroup) (text : List ℕ) : Type 0 where
   pub listed : IsListed SpelledGroup gs text

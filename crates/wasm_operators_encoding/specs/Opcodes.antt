@@ -28,11 +28,13 @@ opcode_after b = if is_prefix b then (u32 >>= λ code. pure (prefixed b code)) e
 unfoldable pub opcode : Decoder Opcode
 opcode = byte >>= opcode_after
 
+-- standard: binary-instr: an opcode: a byte, or a prefix and a u32
 -- a byte that is no prefix, or a prefix and a u32
 abbrev pub Spells : Option ℕ → ℕ → List ℕ → Type 0
 Spells None code text = (is_prefix code ≡ false) × (text ≡ code ∷ [])
 Spells (Some b) code text = (rest : List ℕ) × (is_prefix b ≡ true) × IsUnsigned 32 code rest × (text ≡ b ∷ rest)
 
+-- standard: part of Spells
 -- the same of an opcode
 abbrev pub SpelledOpcode : Grammar Opcode
 SpelledOpcode o text = Spells o.prefix o.code text

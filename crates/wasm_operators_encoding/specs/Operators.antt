@@ -16,6 +16,7 @@ opcode_of o = record { prefix = (info_of o).prefix; code = (info_of o).code }
 abbrev pub coded_of : Op → Coded
 coded_of o = record { opcode = opcode_of o; carried = immediates_of o }
 
+-- standard: binary-instr: instr, without its block
 -- an operator in the form that bytes give it, its opcode's bytes, and those of its immediates
 pub record SpelledOperator (settings : Settings) (o : Op) (text : List ℕ) : Type 0 where
   pub canonical : IsTrue (is_canonical o)

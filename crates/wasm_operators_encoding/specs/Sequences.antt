@@ -11,6 +11,7 @@ abbrev pub immediates : Settings → List Kind → Decoder (List Immediate)
 immediates settings [] = pure []
 immediates settings (k ∷ ks) = immediate settings k >>= λ i. (immediates settings ks >>= λ is. pure (i ∷ is))
 
+-- standard: part of SpelledOperator
 -- these immediates, one after the other
 abbrev pub SpelledImmediates : Settings → Grammar (List Immediate)
 SpelledImmediates settings [] text = text ≡ []

@@ -13,6 +13,7 @@ use Rattle.wasm_operators_enums.specs.VectorsImmediates.{simd_immediates, simd_n
 use Rattle.wasm_operators_enums.specs.Op as op
 use Rattle.wasm_operators_enums.specs.Op.{Op}
 
+-- standard: binary-instr: what follows each opcode
 -- what each operator carries, by the tables of the groups
 abbrev pub immediates_of : Op → List Immediate
 immediates_of (op.Control o) = control_immediates o
@@ -34,6 +35,7 @@ immediates_of (op.Continuation o) = continuation_immediates o
 abbrev pub kinds_of : Op → List Kind
 kinds_of o = map kind_of (immediates_of o)
 
+-- standard: binary-instr-parametric: select t*, in one form for each number of types
 -- the form that an operator has by the number of types that it carries: `select` with one type is not TypedSelectMulti
 abbrev pub is_canonical : Op → Bool
 is_canonical (op.Parametric o) = parametric_is_canonical o

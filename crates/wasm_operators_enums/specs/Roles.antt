@@ -31,6 +31,7 @@ exception_role op.CatchAll = CatchAll
 exception_role (op.Delegate relative_depth) = Delegate
 exception_role o = Plain
 
+-- standard: binary-instr-control: which instructions open, divide and close a block
 -- no other operator opens, turns or closes a frame
 abbrev pub role_of : Op → Role
 role_of (op.Control o) = control_role o
@@ -43,6 +44,7 @@ clause j frames.LegacyTry = Some (effects.Turns j)
 clause j frames.LegacyCatch = Some (effects.Turns j)
 clause j k = None
 
+-- standard: binary-instr-control: else in an if alone, and end (differs: the older try too)
 -- What an operator does to the innermost frame, if it may stand there: `end` closes any frame, `else` begins the second part of
 -- an `if`, and `delegate` ends an older `try` without clauses.
 abbrev pub effect : Role → FrameKind → Option Effect

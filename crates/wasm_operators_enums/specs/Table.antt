@@ -10,6 +10,7 @@ use Rattle.wasm_operators_enums.specs.VectorsTable.{simd_info, simd_numeric_info
 use Rattle.wasm_operators_enums.specs.Op as op
 use Rattle.wasm_operators_enums.specs.Op.{Op}
 
+-- standard: index-instr: opcodes, with the text name and the proposal of each
 -- the row of each operator, by the tables of the groups
 abbrev pub info_of : Op → Info
 info_of (op.Control o) = control_info o

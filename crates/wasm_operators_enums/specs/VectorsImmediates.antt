@@ -7,6 +7,7 @@ use Rattle.wasm_operators_enums.specs.declared.vector.SimdOperator.{SimdOperator
 use Rattle.wasm_operators_enums.specs.declared.vector.SimdOperator.TheVariants as simd
 use Rattle.wasm_operators_enums.specs.declared.vector_numeric.SimdNumericOperator.{SimdNumericOperator}
 
+-- standard: binary-instr-vec: what follows each opcode
 -- of operators that carry something
 abbrev pub simd_immediates : SimdOperator → List Immediate
 simd_immediates (simd.V128Load memarg) = MemoryArgument Plain 4 memarg ∷ []
@@ -48,6 +49,7 @@ simd_immediates (simd.V128Store64Lane memarg lane) = MemoryArgument Plain 3 mema
 simd_immediates (simd.V128Load32Zero memarg) = MemoryArgument Plain 2 memarg ∷ []
 simd_immediates (simd.V128Load64Zero memarg) = MemoryArgument Plain 3 memarg ∷ []
 
+-- standard: binary-instr-vec: nothing follows an opcode
 -- none of the others carries anything
 abbrev pub simd_numeric_immediates : SimdNumericOperator → List Immediate
 simd_numeric_immediates o = []

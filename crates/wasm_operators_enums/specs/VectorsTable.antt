@@ -8,6 +8,7 @@ use Rattle.wasm_operators_enums.specs.declared.vector.SimdOperator.TheVariants a
 use Rattle.wasm_operators_enums.specs.declared.vector_numeric.SimdNumericOperator.{SimdNumericOperator}
 use Rattle.wasm_operators_enums.specs.declared.vector_numeric.SimdNumericOperator.TheVariants as simd_numeric
 
+-- standard: binary-instr-vec: opcodes of instructions with immediates
 -- of operators that carry something
 abbrev pub simd_info : SimdOperator → Info
 simd_info (simd.V128Load memarg) = row Simd (codes "v128.load") (Some 0xfd) 0x00
@@ -49,6 +50,7 @@ simd_info (simd.V128Store64Lane memarg lane) = row Simd (codes "v128.store64_lan
 simd_info (simd.V128Load32Zero memarg) = row Simd (codes "v128.load32_zero") (Some 0xfd) 0x5c
 simd_info (simd.V128Load64Zero memarg) = row Simd (codes "v128.load64_zero") (Some 0xfd) 0x5d
 
+-- standard: binary-instr-vec: opcodes
 -- of those that carry nothing
 abbrev pub simd_numeric_info : SimdNumericOperator → Info
 simd_numeric_info simd_numeric.I8x16Swizzle = row Simd (codes "i8x16.swizzle") (Some 0xfd) 0x0e

@@ -47,6 +47,7 @@ block_at b = if begins_index b then function_block else (if begins_value b then 
 unfoldable pub block_type : Decoder BlockType
 block_type = look block_at
 
+-- standard: binary-instr-control: blocktype
 -- blocktype ::= 0x40          => no type
 --             | t:valtype     => t
 --             | i:s33         => the function type with index i   if i >= 0

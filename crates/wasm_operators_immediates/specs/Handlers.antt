@@ -62,6 +62,7 @@ handlers z = listed_within z.limits.catches handle
 
 -- ---- grammars
 
+-- standard: part of SpelledCatch
 -- a tag and a label behind it
 pub record TagAndLabel (tag label : ℕ) (text : List ℕ) : Type 0 where
   pub front : List ℕ
@@ -70,12 +71,14 @@ pub record TagAndLabel (tag label : ℕ) (text : List ℕ) : Type 0 where
   pub second : IsUnsigned 32 label back
   pub whole : text ≡ front ++ back
 
+-- standard: part of SpelledCatch
 -- a byte, and what is spelled behind it
 pub record Behind (b : ℕ) (g : List ℕ → Type 0) (text : List ℕ) : Type 0 where
   pub rest : List ℕ
   pub spelled : g rest
   pub whole : text ≡ b ∷ rest
 
+-- standard: binary-instr-control: catch
 -- catch ::= 0x00 x:tagidx l:labelidx => catch x l
 --         | 0x01 x:tagidx l:labelidx => catch_ref x l
 --         | 0x02 l:labelidx          => catch_all l
@@ -86,6 +89,7 @@ SpelledCatch (OneRef tag label) = Behind 0x01 (TagAndLabel tag label)
 SpelledCatch (All label) = Behind 0x02 (IsUnsigned 32 label)
 SpelledCatch (AllRef label) = Behind 0x03 (IsUnsigned 32 label)
 
+-- standard: binary-instr-control: try_table: its block type and clauses (differs: at most as many clauses as the limit)
 -- a block type and a list of clauses
 pub record SpelledTryTable (z : Settings) (t : CatchTable) (text : List ℕ) : Type 0 where
   pub front : List ℕ
@@ -94,12 +98,14 @@ pub record SpelledTryTable (z : Settings) (t : CatchTable) (text : List ℕ) : T
   pub catches : IsListedWithin z.limits.catches SpelledCatch t.catches back
   pub whole : text ≡ front ++ back
 
+-- standard: proposal-stack-switching: a handler
 -- hdl ::= 0x00 x:tagidx l:labelidx => on x l
 --       | 0x01 x:tagidx            => on x switch
 abbrev pub SpelledHandle : Grammar Handle
 SpelledHandle (OnLabel tag label) = Behind 0x00 (TagAndLabel tag label)
 SpelledHandle (OnSwitch tag) = Behind 0x01 (IsUnsigned 32 tag)
 
+-- standard: proposal-stack-switching: the handlers of resume
 -- a list of handlers
 abbrev pub SpelledHandlers : Settings → Grammar (List Handle)
 SpelledHandlers z = IsListedWithin z.limits.catches SpelledHandle

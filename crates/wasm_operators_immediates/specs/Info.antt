@@ -25,6 +25,7 @@ row proposal name prefix code = record { proposal = proposal; name = name; prefi
 abbrev pub told : OperatorInfo → Info
 told i = record { proposal = i.proposal; name = i.name.now; prefix = i.prefix; code = i.code }
 
+-- standard: changes: the features of each proposal's instructions
 -- the features without which a proposal's operators are not allowed, as bits
 abbrev pub features_of : Proposal → ℕ
 features_of Mvp = 0

@@ -14,6 +14,7 @@ with_default targets default = record { targets = targets; default = default }
 unfoldable pub labels : Settings → Decoder Labels
 labels z = listed_within z.limits.body_bytes u32 >>= λ targets. u32 >>= λ default. pure (with_default targets default)
 
+-- standard: binary-instr-control: br_table: its labels (differs: at most as many labels as a body may have bytes)
 -- a counted list of labels, and a label
 pub record SpelledLabels (z : Settings) (l : Labels) (text : List ℕ) : Type 0 where
   pub front : List ℕ

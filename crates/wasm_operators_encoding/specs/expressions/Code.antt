@@ -21,6 +21,7 @@ walk (plain o more) = o ∷ walk more
 walk (nested o body more) = o ∷ (walk body ++ walk more)
 walk (turn o more) = o ∷ walk more
 
+-- standard: binary-instr-control: blocks: each instruction is in a block in which it may be
 -- the instructions of a frame of this kind: each operator stands where it may, and has its effect on the frame
 abbrev pub IsIn : FrameKind → Code → Type 0
 IsIn k (close o) = effect (role_of o) k ≡ Some effects.Closes
@@ -28,6 +29,7 @@ IsIn k (plain o more) = (effect (role_of o) k ≡ Some effects.Stays) × IsIn k 
 IsIn k (nested o body more) = (j : FrameKind) × (effect (role_of o) k ≡ Some (effects.Nests j)) × IsIn j body × IsIn k more
 IsIn k (turn o more) = (j : FrameKind) × (effect (role_of o) k ≡ Some (effects.Turns j)) × IsIn j more
 
+-- standard: binary-expr: instructions, and one end of all of them
 -- an expression: instructions, and the `end` of all of them
 abbrev pub IsExpression : Code → Type 0
 IsExpression c = IsIn Block c

@@ -61,36 +61,44 @@ select_types z = listed_within z.limits.select_types value_type
 
 -- ---- grammars
 
+-- standard: part of IsIndexOrZero
 -- 0x00 => 0
 pub record IsZero (n : ℕ) (text : List ℕ) : Type 0 where
   pub value : n ≡ 0
   pub whole : text ≡ 0x00 ∷ []
 
+-- standard: binary-instr-memory: memidx (differs: 0x00 alone without multi-memory)
+-- standard: binary-instr-control: tableidx of call_indirect (differs: 0x00 alone without call-indirect-overlong)
 -- x:idx => x, or 0x00 => 0
 abbrev pub IsIndexOrZero : Bool → Grammar ℕ
 IsIndexOrZero true = IsUnsigned 32
 IsIndexOrZero false = IsZero
 
+-- standard: proposal-shared-everything-threads: the ordering of an atomic access
 -- 0x00 => seq_cst
 -- n    => acq_rel
 abbrev pub SpelledOrdering : ℕ → Grammar Ordering
 SpelledOrdering n SeqCst text = text ≡ 0x00 ∷ []
 SpelledOrdering n AcqRel text = text ≡ n ∷ []
 
+-- standard: binary-instr-vec: laneidx (differs: below the number of lanes, else malformed instead of invalid)
 -- laneidx ::= l:byte => l
 pub record IsLane (lanes l : ℕ) (text : List ℕ) : Type 0 where
   pub below : l < lanes
   pub whole : text ≡ l ∷ []
 
+-- standard: binary-instr-vec: laneidx^16 (differs: below 32, else malformed instead of invalid)
 -- 16 lanes of two vectors of 16
 abbrev pub IsShuffle : Grammar (List ℕ)
 IsShuffle = Many (IsLane 32) 16
 
+-- standard: binary-instr-vec: v128.const, byte^16
 -- b*:byte^16 => the vector of these bytes
 pub record SpelledVector (v : V128) (text : List ℕ) : Type 0 where
   pub count : length v.0 ≡ 16
   pub whole : text ≡ v.0
 
+-- standard: binary-instr-parametric: select t*: list(valtype) (differs: at most as many as the limit)
 -- t*:list(valtype) => t*
 abbrev pub SpelledTypes : Settings → Grammar (List ValType)
 SpelledTypes z = IsListedWithin z.limits.select_types SpelledValue

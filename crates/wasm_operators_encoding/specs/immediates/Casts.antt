@@ -21,6 +21,7 @@ cast_after b = if nat_lt b 4 then (u32 >>= λ depth. long_reference (b % 2 == 1)
 unfoldable pub cast_branch : Decoder CastBranch
 cast_branch = byte >>= cast_after
 
+-- standard: binary-instr-ref: castop and two heap types, of a branch on a cast
 -- castop l:labelidx ht_1:heaptype ht_2:heaptype => l, (ref null? ht_1), (ref null? ht_2)
 -- castop ::= 0x00 => neither takes null | 0x01 => the first | 0x02 => the second | 0x03 => both
 pub record SpelledCast (c : CastBranch) (text : List ℕ) : Type 0 where

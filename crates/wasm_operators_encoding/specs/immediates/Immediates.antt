@@ -78,6 +78,8 @@ immediate settings kind.ZeroByte = read_as zero_byte of_zero
 
 -- ---- grammars
 
+-- standard: binary-instr: each immediate
+-- standard: binary-index: the indices of each space
 -- which bytes spell each immediate, where these features are allowed and these limits hold
 abbrev pub SpelledImmediate : Settings → Grammar Immediate
 -- x:idx

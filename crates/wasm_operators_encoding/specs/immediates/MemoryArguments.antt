@@ -34,6 +34,7 @@ abbrev pub weight : Bool → ℕ → ℕ
 weight true n = n
 weight false n = 0
 
+-- standard: binary-instr-memory: memarg: the flags (differs: bit 5 for an ordering too)
 -- the exponent of the alignment, 2^5 where an ordering follows, and 2^6 where the index of a memory does
 abbrev pub number_of : Flags → ℕ
 number_of f = f.align + weight f.has_ordering 0x20 + weight f.has_memory 0x40
@@ -99,6 +100,7 @@ memory_argument features access natural = flags (may_order features access)
 
 -- ---- grammars
 
+-- standard: binary-instr-memory: memarg: the flags (differs: below 2^7; bit 6 needs multi-memory)
 -- n:u32 => the exponent of the alignment, below 2^4, and what follows the flags, of what may follow them
 pub record SpelledFlags (order memory : Bool) (f : Flags) (text : List ℕ) : Type 0 where
   pub number : IsUnsigned 32 (number_of f) text
@@ -106,11 +108,13 @@ pub record SpelledFlags (order memory : Bool) (f : Flags) (text : List ℕ) : Ty
   pub may_order : f.has_ordering ≡ true → order ≡ true
   pub may_name : f.has_memory ≡ true → memory ≡ true
 
+-- standard: binary-instr-memory: memarg: the memory, 0 if none is named
 -- x:memidx => x, and memory 0 where none is named
 abbrev pub NamedMemory : Bool → Grammar ℕ
 NamedMemory true x text = IsUnsigned 32 x text
 NamedMemory false x text = (x ≡ 0) × (text ≡ [])
 
+-- standard: proposal-shared-everything-threads: the ordering in a memory argument
 -- 0x00 => seq_cst; acq_rel is 0x01, and 0x11 for both halves of a read-modify-write
 abbrev pub SpelledAccessOrdering : AccessOrdering → Grammar MemArgOrdering
 SpelledAccessOrdering Plain o text = ⊥
@@ -119,6 +123,7 @@ SpelledAccessOrdering Atomic (Rmw o) text = ⊥
 SpelledAccessOrdering ReadModifyWrite (Op o) text = ⊥
 SpelledAccessOrdering ReadModifyWrite (Rmw o) text = SpelledOrdering 0x11 o text
 
+-- standard: part of SpelledAccessOrdering
 -- an ordering where one is named, and nothing else
 abbrev pub NamedOrdering : AccessOrdering → Bool → Grammar (Option MemArgOrdering)
 NamedOrdering access true (Some o) text = SpelledAccessOrdering access o text
@@ -126,11 +131,13 @@ NamedOrdering access true None text = ⊥
 NamedOrdering access false (Some o) text = ⊥
 NamedOrdering access false None text = text ≡ []
 
+-- standard: binary-instr-memory: memarg: the offset is of 64 bits (differs: of 32 without memory64)
 -- the bits of an offset
 abbrev pub offset_bits : Bool → ℕ
 offset_bits true = 64
 offset_bits false = 32
 
+-- standard: binary-instr-memory: memarg (differs: an ordering too; an offset of 32 bits without memory64)
 -- memarg ::= n:flags x:memidx o:ordering m:offset => the argument with these, the memory and the ordering where the flags say so
 pub record SpelledMemArg (features : ℕ) (access : AccessOrdering) (natural : ℕ) (m : MemArg) (text : List ℕ) : Type 0 where
   pub flags : Flags

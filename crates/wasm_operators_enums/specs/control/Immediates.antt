@@ -8,6 +8,7 @@ use Rattle.wasm_operators_enums.specs.declared.control.ControlOperator.TheVarian
 use Rattle.wasm_operators_enums.specs.control.Trees as tree
 use Rattle.wasm_operators_enums.specs.control.Trees.{ParametricTree, ExceptionTree, ContinuationTree}
 
+-- standard: binary-instr-control: what follows each opcode
 -- of operators of control
 abbrev pub control_immediates : ControlOperator → List Immediate
 control_immediates control.Unreachable = []
@@ -31,6 +32,7 @@ control_immediates control.RefAsNonNull = []
 control_immediates (control.BrOnNull relative_depth) = Label relative_depth ∷ []
 control_immediates (control.BrOnNonNull relative_depth) = Label relative_depth ∷ []
 
+-- standard: binary-instr-parametric: what follows each opcode
 -- of those that take operands of any type: `select` alone may name types
 abbrev pub parametric_immediates : ParametricTree → List Immediate
 parametric_immediates tree.Drop = []
@@ -43,6 +45,7 @@ abbrev pub is_canonical : ParametricTree → Bool
 is_canonical (tree.TypedSelectMulti (ty ∷ [])) = false
 is_canonical o = true
 
+-- standard: binary-instr-control: what follows each opcode of exceptions
 -- of exceptions
 abbrev pub exception_immediates : ExceptionTree → List Immediate
 exception_immediates (tree.Try blockty) = Block blockty ∷ []
@@ -54,6 +57,7 @@ exception_immediates (tree.Delegate relative_depth) = Label relative_depth ∷ [
 exception_immediates tree.CatchAll = []
 exception_immediates (tree.TryTable try_table) = TryTable try_table ∷ []
 
+-- standard: proposal-stack-switching: what follows each opcode
 -- of continuations (the proposal on stack switching)
 abbrev pub continuation_immediates : ContinuationTree → List Immediate
 continuation_immediates (tree.ContNew cont_type_index) = Index Types cont_type_index ∷ []

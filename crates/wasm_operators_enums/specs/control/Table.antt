@@ -8,6 +8,7 @@ use Rattle.wasm_operators_enums.specs.declared.control.ControlOperator.TheVarian
 use Rattle.wasm_operators_enums.specs.control.Trees as tree
 use Rattle.wasm_operators_enums.specs.control.Trees.{ParametricTree, ExceptionTree, ContinuationTree}
 
+-- standard: binary-instr-control: opcodes
 -- of operators of control
 abbrev pub control_info : ControlOperator → Info
 control_info control.Unreachable = row Mvp (codes "unreachable") None 0x00
@@ -31,6 +32,7 @@ control_info control.RefAsNonNull = row FunctionReferences (codes "ref.as_non_nu
 control_info (control.BrOnNull relative_depth) = row FunctionReferences (codes "br_on_null") None 0xd5
 control_info (control.BrOnNonNull relative_depth) = row FunctionReferences (codes "br_on_non_null") None 0xd6
 
+-- standard: binary-instr-parametric: opcodes
 -- of those that take operands of any type
 abbrev pub parametric_info : ParametricTree → Info
 parametric_info tree.Drop = row Mvp (codes "drop") None 0x1a
@@ -38,6 +40,7 @@ parametric_info tree.Select = row Mvp (codes "select") None 0x1b
 parametric_info (tree.TypedSelect ty) = row ReferenceTypes (codes "select") None 0x1c
 parametric_info (tree.TypedSelectMulti tys) = row ReferenceTypes (codes "select") None 0x1c
 
+-- standard: binary-instr-control: opcodes of exceptions (differs: the older form too, try and its clauses)
 -- of exceptions
 abbrev pub exception_info : ExceptionTree → Info
 exception_info (tree.Try blockty) = row LegacyExceptions (codes "try") None 0x06
@@ -49,6 +52,7 @@ exception_info (tree.Delegate relative_depth) = row LegacyExceptions (codes "del
 exception_info tree.CatchAll = row LegacyExceptions (codes "catch_all") None 0x19
 exception_info (tree.TryTable try_table) = row Exceptions (codes "try_table") None 0x1f
 
+-- standard: proposal-stack-switching: opcodes
 -- of continuations (the proposal on stack switching)
 abbrev pub continuation_info : ContinuationTree → Info
 continuation_info (tree.ContNew cont_type_index) = row StackSwitching (codes "cont.new") None 0xe0

@@ -8,6 +8,8 @@ use Rattle.wasm_operators_enums.specs.declared.gc.GcOperator.TheVariants as gc
 use Rattle.wasm_operators_enums.specs.declared.gc.DescriptorOperator.{DescriptorOperator}
 use Rattle.wasm_operators_enums.specs.declared.gc.DescriptorOperator.TheVariants as descriptor
 
+-- standard: binary-instr-aggr: what follows each opcode
+-- standard: binary-instr-ref: what follows each opcode
 -- of aggregates, casts and `i31`
 abbrev pub gc_immediates : GcOperator → List Immediate
 gc_immediates gc.RefEq = []
@@ -43,6 +45,7 @@ gc_immediates gc.RefI31 = []
 gc_immediates gc.I31GetS = []
 gc_immediates gc.I31GetU = []
 
+-- standard: proposal-custom-descriptors: what follows each opcode
 -- of descriptors (the proposal on custom descriptors)
 abbrev pub descriptor_immediates : DescriptorOperator → List Immediate
 descriptor_immediates (descriptor.StructNewDesc struct_type_index) = Index Types struct_type_index ∷ []

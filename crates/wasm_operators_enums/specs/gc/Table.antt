@@ -8,6 +8,8 @@ use Rattle.wasm_operators_enums.specs.declared.gc.GcOperator.TheVariants as gc
 use Rattle.wasm_operators_enums.specs.declared.gc.DescriptorOperator.{DescriptorOperator}
 use Rattle.wasm_operators_enums.specs.declared.gc.DescriptorOperator.TheVariants as descriptor
 
+-- standard: binary-instr-aggr: opcodes
+-- standard: binary-instr-ref: opcodes of ref.eq, ref.test, ref.cast and branches on casts
 -- of aggregates, casts and `i31`
 abbrev pub gc_info : GcOperator → Info
 gc_info gc.RefEq = row Gc (codes "ref.eq") None 0xd3
@@ -43,6 +45,7 @@ gc_info gc.RefI31 = row Gc (codes "ref.i31") (Some 0xfb) 0x1c
 gc_info gc.I31GetS = row Gc (codes "i31.get_s") (Some 0xfb) 0x1d
 gc_info gc.I31GetU = row Gc (codes "i31.get_u") (Some 0xfb) 0x1e
 
+-- standard: proposal-custom-descriptors: opcodes
 -- of descriptors (the proposal on custom descriptors)
 abbrev pub descriptor_info : DescriptorOperator → Info
 descriptor_info (descriptor.StructNewDesc struct_type_index) = row CustomDescriptors (codes "struct.new_desc") (Some 0xfb) 0x20

@@ -10,6 +10,8 @@ use Rattle.wasm_operators_enums.specs.declared.constant.ConstOperator.TheVariant
 use Rattle.wasm_operators_enums.specs.declared.bulk.BulkOperator.{BulkOperator}
 use Rattle.wasm_operators_enums.specs.declared.bulk.BulkOperator.TheVariants as bulk
 
+-- standard: binary-instr-memory: what follows each opcode
+-- standard: binary-instr-variable: what follows each opcode
 -- of variables and memories
 abbrev pub memory_immediates : MemoryOperator → List Immediate
 memory_immediates (memory.LocalGet local_index) = Index Locals local_index ∷ []
@@ -43,6 +45,7 @@ memory_immediates (memory.I64Store32 memarg) = MemoryArgument Plain 2 memarg ∷
 memory_immediates (memory.MemorySize mem) = IndexOrZero Memories mem ∷ []
 memory_immediates (memory.MemoryGrow mem) = IndexOrZero Memories mem ∷ []
 
+-- standard: binary-instr-numeric: what follows each opcode
 -- of constants: the constant itself
 abbrev pub const_immediates : ConstOperator → List Immediate
 const_immediates (const.I32Const value) = I32Constant value ∷ []
@@ -50,6 +53,9 @@ const_immediates (const.I64Const value) = I64Constant value ∷ []
 const_immediates (const.F32Const value) = F32Constant value ∷ []
 const_immediates (const.F64Const value) = F64Constant value ∷ []
 
+-- standard: binary-instr-table: what follows each opcode
+-- standard: binary-instr-memory: what follows each opcode of bulk instructions
+-- standard: binary-instr-ref: what follows each opcode
 -- of ranges of memories and tables, of tables and of references
 abbrev pub bulk_immediates : BulkOperator → List Immediate
 bulk_immediates (bulk.TableGet table) = Index Tables table ∷ []

@@ -10,6 +10,8 @@ use Rattle.wasm_operators_enums.specs.declared.constant.ConstOperator.TheVariant
 use Rattle.wasm_operators_enums.specs.declared.bulk.BulkOperator.{BulkOperator}
 use Rattle.wasm_operators_enums.specs.declared.bulk.BulkOperator.TheVariants as bulk
 
+-- standard: binary-instr-memory: opcodes of loads and stores
+-- standard: binary-instr-variable: opcodes
 -- of variables and memories
 abbrev pub memory_info : MemoryOperator → Info
 memory_info (memory.LocalGet local_index) = row Mvp (codes "local.get") None 0x20
@@ -43,6 +45,7 @@ memory_info (memory.I64Store32 memarg) = row Mvp (codes "i64.store32") None 0x3e
 memory_info (memory.MemorySize mem) = row Mvp (codes "memory.size") None 0x3f
 memory_info (memory.MemoryGrow mem) = row Mvp (codes "memory.grow") None 0x40
 
+-- standard: binary-instr-numeric: opcodes of constants
 -- of constants
 abbrev pub const_info : ConstOperator → Info
 const_info (const.I32Const value) = row Mvp (codes "i32.const") None 0x41
@@ -50,6 +53,9 @@ const_info (const.I64Const value) = row Mvp (codes "i64.const") None 0x42
 const_info (const.F32Const value) = row Mvp (codes "f32.const") None 0x43
 const_info (const.F64Const value) = row Mvp (codes "f64.const") None 0x44
 
+-- standard: binary-instr-table: opcodes
+-- standard: binary-instr-memory: opcodes of bulk instructions (differs: memory.discard too)
+-- standard: binary-instr-ref: opcodes of ref.null, ref.is_null and ref.func
 -- of ranges of memories and tables, of tables and of references
 abbrev pub bulk_info : BulkOperator → Info
 bulk_info (bulk.TableGet table) = row ReferenceTypes (codes "table.get") None 0x25

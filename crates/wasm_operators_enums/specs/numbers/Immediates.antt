@@ -4,6 +4,7 @@ use Rattle.std.specs.Prelude.{List, []}
 use Rattle.wasm_operators_immediates.specs.Immediates.{Immediate}
 use Rattle.wasm_operators_enums.specs.declared.numeric.NumericOperator.{NumericOperator}
 
+-- standard: binary-instr-numeric: nothing follows an opcode
 -- none carries anything
 abbrev pub numeric_immediates : NumericOperator → List Immediate
 numeric_immediates o = []

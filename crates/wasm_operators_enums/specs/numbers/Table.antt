@@ -6,6 +6,7 @@ use Rattle.wasm_operators_immediates.specs.declared.proposal.Proposal.TheVariant
 use Rattle.wasm_operators_enums.specs.declared.numeric.NumericOperator.{NumericOperator}
 use Rattle.wasm_operators_enums.specs.declared.numeric.NumericOperator.TheVariants as numeric
 
+-- standard: binary-instr-numeric: opcodes (differs: wide arithmetic too)
 -- codes alone, and those behind the prefix `fc`
 abbrev pub numeric_info : NumericOperator → Info
 numeric_info numeric.I32Eqz = row Mvp (codes "i32.eqz") None 0x45

@@ -8,6 +8,7 @@ use Rattle.wasm_operators_enums.specs.declared.atomic.AtomicOperator.TheVariants
 use Rattle.wasm_operators_enums.specs.declared.atomic.SharedOperator.{SharedOperator}
 use Rattle.wasm_operators_enums.specs.declared.atomic.SharedOperator.TheVariants as shared
 
+-- standard: proposal-threads: what follows each opcode
 -- of accesses to memories (the proposal on threads)
 abbrev pub atomic_immediates : AtomicOperator → List Immediate
 atomic_immediates (atomic.MemoryAtomicNotify memarg) = MemoryArgument Atomic 2 memarg ∷ []
@@ -78,6 +79,7 @@ atomic_immediates (atomic.I64AtomicRmw8CmpxchgU memarg) = MemoryArgument ReadMod
 atomic_immediates (atomic.I64AtomicRmw16CmpxchgU memarg) = MemoryArgument ReadModifyWrite 1 memarg ∷ []
 atomic_immediates (atomic.I64AtomicRmw32CmpxchgU memarg) = MemoryArgument ReadModifyWrite 2 memarg ∷ []
 
+-- standard: proposal-shared-everything-threads: what follows each opcode
 -- of accesses to what is shared besides: globals, tables, structs and arrays (the proposal on shared everything)
 abbrev pub shared_immediates : SharedOperator → List Immediate
 shared_immediates (shared.GlobalAtomicGet ordering global_index) = MemoryOrdering ordering ∷ Index Globals global_index ∷ []

@@ -8,6 +8,7 @@ use Rattle.wasm_operators_enums.specs.declared.atomic.AtomicOperator.TheVariants
 use Rattle.wasm_operators_enums.specs.declared.atomic.SharedOperator.{SharedOperator}
 use Rattle.wasm_operators_enums.specs.declared.atomic.SharedOperator.TheVariants as shared
 
+-- standard: proposal-threads: opcodes
 -- of accesses to memories (the proposal on threads)
 abbrev pub atomic_info : AtomicOperator → Info
 atomic_info (atomic.MemoryAtomicNotify memarg) = row Threads (codes "memory.atomic.notify") (Some 0xfe) 0x00
@@ -78,6 +79,7 @@ atomic_info (atomic.I64AtomicRmw8CmpxchgU memarg) = row Threads (codes "i64.atom
 atomic_info (atomic.I64AtomicRmw16CmpxchgU memarg) = row Threads (codes "i64.atomic.rmw16.cmpxchg_u") (Some 0xfe) 0x4d
 atomic_info (atomic.I64AtomicRmw32CmpxchgU memarg) = row Threads (codes "i64.atomic.rmw32.cmpxchg_u") (Some 0xfe) 0x4e
 
+-- standard: proposal-shared-everything-threads: opcodes
 -- of accesses to what is shared besides: globals, tables, structs and arrays (the proposal on shared everything)
 abbrev pub shared_info : SharedOperator → Info
 shared_info (shared.GlobalAtomicGet ordering global_index) = row SharedEverythingThreads (codes "global.atomic.get") (Some 0xfe) 0x4f

@@ -41,6 +41,7 @@ abbrev pub kind_bits : {C : Type 0} → ElementItems C → ℕ
 kind_bits (functions ys) = 0
 kind_bits (expressions r xs) = 4
 
+-- standard: part of SpelledMode
 -- x:tableidx e:expr
 pub record IsPlaced {C : Type 0} (g : Grammar C) (table : ℕ) (offset : C) (text : List ℕ) : Type 0 where
   pub table_text : List ℕ
@@ -49,6 +50,7 @@ pub record IsPlaced {C : Type 0} (g : Grammar C) (table : ℕ) (offset : C) (tex
   pub placed : g offset offset_text
   pub whole : text ≡ table_text ++ offset_text
 
+-- standard: binary-elemsec: elem: its table and offset
 -- where it goes: an offset, or a table and an offset, where it is active
 abbrev pub SpelledMode : {C : Type 0} → Grammar C → ElementMode C → List ℕ → Type 0
 SpelledMode g passive text = text ≡ []
@@ -56,16 +58,19 @@ SpelledMode g (active None x) text = g x text
 SpelledMode g (active (Some t) x) text = IsPlaced g t x text
 SpelledMode g declared text = text ≡ []
 
+-- standard: binary-elemsec: elemkind
 -- elemkind ::= 0x00, references to functions; it is not written behind flag 0
 abbrev pub SpelledKind : ℕ → List ℕ → Type 0
 SpelledKind zero text = text ≡ []
 SpelledKind (suc n) text = text ≡ 0x00 ∷ []
 
+-- standard: binary-elemsec: elem: its type
 -- the type of the elements; it is not written behind flag 4
 abbrev pub SpelledType : ℕ → Reference → List ℕ → Type 0
 SpelledType zero r text = (r ≡ any_function) × (text ≡ [])
 SpelledType (suc n) r text = SpelledReference r text
 
+-- standard: binary-elemsec: elem: its items
 -- the kind or the type, and the elements
 abbrev pub SpelledItems : {C : Type 0} → Grammar C → ℕ → ElementItems C → List ℕ → Type 0
 SpelledItems g n (functions ys) text = (kind : List ℕ) × (items : List ℕ) × SpelledKind n kind × IsListed (IsUnsigned 32) ys items
@@ -73,6 +78,7 @@ SpelledItems g n (functions ys) text = (kind : List ℕ) × (items : List ℕ) �
 SpelledItems g n (expressions r xs) text = (type_text : List ℕ) × (items : List ℕ) × SpelledType n r type_text × IsListed g xs items
     × (text ≡ type_text ++ items)
 
+-- standard: binary-elemsec: elem
 -- elem ::= 0:u32 e:expr y*:list(funcidx)               => references to y*, active in table 0 at e
 --       |  1:u32 elemkind y*:list(funcidx)             => references to y*, passive
 --       |  2:u32 x:tableidx e:expr elemkind y*:list(funcidx) => references to y*, active in table x at e

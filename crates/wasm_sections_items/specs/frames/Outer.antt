@@ -14,10 +14,12 @@ pub record Header : Type 0 where
   pub version : ℕ
   pub layer : ℕ
 
+-- standard: binary-magic: magic
 -- magic ::= 0x00 0x61 0x73 0x6D
 abbrev pub magic : List ℕ
 magic = 0x00 ∷ 0x61 ∷ 0x73 ∷ 0x6d ∷ []
 
+-- standard: binary-version: version (differs: its upper two bytes are a layer, which is 0 in a module)
 -- the magic number, and two bytes each for the version and the layer, the lowest first; a layer is 0 or 1
 pub record SpelledHeader (h : Header) (text : List ℕ) : Type 0 where
   pub version_text : List ℕ
@@ -47,24 +49,29 @@ custom_id = 0
 abbrev pub code_id : ℕ
 code_id = 10
 
+-- standard: part of SpelledEntry
 -- bytes as they stand
 abbrev pub IsBytes : Grammar (List ℕ)
 IsBytes xs text = xs ≡ text
 
+-- standard: binary-customsec: custom (differs: a name of at most as many bytes as the limit)
 -- custom ::= name byte*
 pub record SpelledCustom (z : Settings) (name content text : List ℕ) : Type 0 where
   pub name_text : List ℕ
   pub named : IsName z.limits.string_bytes name name_text
   pub whole : text ≡ name_text ++ content
 
+-- standard: part of SpelledCustom
 -- the same of a name and what follows it as a pair
 abbrev pub SpelledNamed : Settings → Grammar (List ℕ × List ℕ)
 SpelledNamed z c = SpelledCustom z c.0 c.1
 
+-- standard: binary-codesec: code: its size and its bytes
 -- code ::= size:u32 code:func, as the bytes of the function
 abbrev pub SpelledEntry : Grammar (List ℕ)
 SpelledEntry = IsSized IsBytes
 
+-- standard: binary-section: section(X), customsec, codesec
 -- section_N(B) ::= N:byte size:u32 en*:B, where the size is that of the contents
 abbrev pub SpelledPart : Settings → Grammar Part
 SpelledPart z (custom name content) text = (sized : List ℕ) × (text ≡ custom_id ∷ sized) × IsSized (SpelledNamed z) (name, content) sized
@@ -79,6 +86,7 @@ pub record Outer : Type 0 where
   pub header : Header
   pub parts : List Part
 
+-- standard: binary-module: magic, version and sections
 -- the frames of a module, of any version and of ids in any order
 pub record SpelledOuter (z : Settings) (m : Outer) (text : List ℕ) : Type 0 where
   pub header_text : List ℕ
@@ -87,6 +95,7 @@ pub record SpelledOuter (z : Settings) (m : Outer) (text : List ℕ) : Type 0 wh
   pub each : Many (SpelledPart z) (length m.parts) m.parts parts_text
   pub whole : text ≡ header_text ++ parts_text
 
+-- standard: binary-module: the order of sections
 -- The ids in the order of their sections: type, import, function, table, memory, tag, global, export, start, element, data count,
 -- code, data; each with its place.
 abbrev pub places : List (ℕ × ℕ)
@@ -112,15 +121,18 @@ abbrev pub ranks : List Part → List ℕ
 ranks [] = []
 ranks (p ∷ ps) = with_rank (rank (id_of p)) (ranks ps)
 
+-- standard: part of IsOrdered
 -- each of these is more than this, and than those before it
 abbrev pub Ascends : ℕ → List ℕ → Type 0
 Ascends low [] = Unit {0}
 Ascends low (r ∷ rs) = (low < r) × Ascends r rs
 
+-- standard: binary-module: sections in order, each at most once
 -- sections in order, each at most once
 abbrev pub IsOrdered : List Part → Type 0
 IsOrdered ps = Ascends 0 (ranks ps)
 
+-- standard: part of CountsAgree
 -- the count that contents begin with
 pub record Counts (n : ℕ) (contents : List ℕ) : Type 0 where
   pub count : List ℕ
@@ -128,11 +140,13 @@ pub record Counts (n : ℕ) (contents : List ℕ) : Type 0 where
   pub counted : IsUnsigned 32 n count
   pub whole : contents ≡ count ++ items
 
+-- standard: part of CountsAgree
 -- no section of this id is among them
 abbrev pub IsAbsent : ℕ → List Part → Type 0
 IsAbsent id [] = Unit {0}
 IsAbsent id (p ∷ ps) = (id_of p ≡ id → ⊥) × IsAbsent id ps
 
+-- standard: part of CountsAgree
 -- a section of this id, other than code, with this count, is among them
 abbrev pub Declares : ℕ → ℕ → List Part → Type 0
 Declares id n [] = ⊥
@@ -140,10 +154,12 @@ Declares id n (section i contents ∷ ps) = ((i ≡ id) × Counts n contents) �
 Declares id n (custom name content ∷ ps) = Declares id n ps
 Declares id n (code entries ∷ ps) = Declares id n ps
 
+-- standard: part of CountsAgree
 -- so many items are counted by a section of this id, none where it is absent
 abbrev pub DeclaresOrAbsent : ℕ → ℕ → List Part → Type 0
 DeclaresOrAbsent id n ps = Declares id n ps ⊎ ((n ≡ 0) × IsAbsent id ps)
 
+-- standard: part of CountsAgree
 -- so many entries stand in the code section, none where it is absent
 abbrev pub Defines : ℕ → List Part → Type 0
 Defines n [] = n ≡ 0
@@ -151,6 +167,7 @@ Defines n (code entries ∷ ps) = n ≡ length entries
 Defines n (custom name content ∷ ps) = Defines n ps
 Defines n (section id contents ∷ ps) = Defines n ps
 
+-- standard: binary-module: as many functions as bodies, and as many data segments as the data count
 -- as many functions are defined as are declared, and as many data segments stand as the data count says, where it is there
 pub record CountsAgree (ps : List Part) : Type 0 where
   pub functions : ℕ
@@ -158,11 +175,13 @@ pub record CountsAgree (ps : List Part) : Type 0 where
   pub defined : Defines functions ps
   pub segments : (n : ℕ) → Declares 12 n ps → DeclaresOrAbsent 11 n ps
 
+-- standard: binary-module: no section of another id
 -- every section is custom or has a place
 abbrev pub AreKnown : List Part → Type 0
 AreKnown [] = Unit {0}
 AreKnown (p ∷ ps) = ((id_of p ≡ custom_id) ⊎ ((r : ℕ) × (rank (id_of p) ≡ Some r))) × AreKnown ps
 
+-- standard: binary-module: module: version 1, sections that are known, in order, and whose counts agree
 -- module ::= magic version and sections in order (binary format, modules): version 1, no other layer, no other section
 pub record IsCoreModule (m : Outer) : Type 0 where
   pub version : m.header.version ≡ 1

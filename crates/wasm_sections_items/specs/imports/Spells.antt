@@ -13,6 +13,7 @@ use Rattle.wasm_sections_items.specs.declared.imports.type_ref.TypeRef.TheVarian
 
 -- ---- kinds and types
 
+-- standard: binary-externtype: the byte of each kind (differs: 0x20 too)
 -- the byte of each kind (binary format, types, external types)
 abbrev pub kind_byte : ExternalKind → ℕ
 kind_byte kind.Func = 0x00
@@ -22,6 +23,7 @@ kind_byte kind.Global = 0x03
 kind_byte kind.Tag = 0x04
 kind_byte kind.FuncExact = 0x20
 
+-- standard: binary-externidx: externidx: its kind (differs: 0x20 too)
 -- a kind by its byte
 abbrev pub SpelledKind : Grammar ExternalKind
 SpelledKind k text = text ≡ kind_byte k ∷ []
@@ -35,6 +37,7 @@ kind_of (ref.Global t) = kind.Global
 kind_of (ref.Tag t) = kind.Tag
 kind_of (ref.FuncExact x) = kind.FuncExact
 
+-- standard: part of SpelledTypeRef
 -- what follows the kind: of a function the index of its type
 abbrev pub SpelledContent : Grammar TypeRef
 SpelledContent (ref.Func x) text = IsUnsigned 32 x text
@@ -44,6 +47,7 @@ SpelledContent (ref.Global t) text = SpelledGlobal t text
 SpelledContent (ref.Tag t) text = SpelledTag t text
 SpelledContent (ref.FuncExact x) text = IsUnsigned 32 x text
 
+-- standard: binary-externtype: externtype (differs: 0x20 for a function of an exact type too)
 -- externtype ::= 0x00 x:typeidx | 0x01 tt:tabletype | 0x02 mt:memtype | 0x03 gt:globaltype | 0x04 jt:tagtype
 -- (binary format, types, external types), and 0x20 x:typeidx for exactly this type
 pub record SpelledTypeRef (t : TypeRef) (text : List ℕ) : Type 0 where
@@ -65,6 +69,7 @@ pub record ExportTree : Type 0 where
   pub kind : ExternalKind
   pub index : ℕ
 
+-- standard: binary-importsec: import (differs: names of at most as many bytes as the limit)
 -- import ::= nm1:name nm2:name xt:externtype => (import nm1 nm2 xt) (binary format, modules, import section)
 pub record SpelledImport (z : Settings) (i : ImportTree) (text : List ℕ) : Type 0 where
   pub module_text : List ℕ
@@ -75,6 +80,7 @@ pub record SpelledImport (z : Settings) (i : ImportTree) (text : List ℕ) : Typ
   pub typed : SpelledTypeRef i.ty type_text
   pub whole : text ≡ module_text ++ (field_text ++ type_text)
 
+-- standard: binary-exportsec: export (differs: kind 0x20 too; a name of at most as many bytes as the limit)
 -- export ::= nm:name xx:externidx => (export nm xx) (binary format, modules, export section)
 pub record SpelledExport (z : Settings) (e : ExportTree) (text : List ℕ) : Type 0 where
   pub name_text : List ℕ

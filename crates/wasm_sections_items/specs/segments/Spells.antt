@@ -15,6 +15,7 @@ pub record GlobalTree (C : Type 0) : Type 0 where
   pub ty : GlobalType
   pub init : C
 
+-- standard: binary-globalsec: global
 -- global ::= gt:globaltype e:expr => (global gt e)
 pub record SpelledGlobalItem {C : Type 0} (g : Grammar C) (x : GlobalTree C) (text : List ℕ) : Type 0 where
   pub type_text : List ℕ
@@ -35,6 +36,7 @@ pub record DataTree (C : Type 0) : Type 0 where
   pub mode : DataMode C
   pub content : List ℕ
 
+-- standard: binary-datasec: data, with flag 0
 -- behind flag 0, active in memory 0: e:expr b*:list(byte)
 pub record IsPlain {C : Type 0} (g : Grammar C) (x : DataTree C) (text : List ℕ) : Type 0 where
   pub offset : C
@@ -45,11 +47,13 @@ pub record IsPlain {C : Type 0} (g : Grammar C) (x : DataTree C) (text : List �
   pub filled : IsSized IsBytes x.content content_text
   pub whole : text ≡ offset_text ++ content_text
 
+-- standard: binary-datasec: data, with flag 1
 -- behind flag 1, passive: b*:list(byte)
 pub record IsPassive {C : Type 0} (x : DataTree C) (text : List ℕ) : Type 0 where
   pub mode : x.mode ≡ passive
   pub filled : IsSized IsBytes x.content text
 
+-- standard: binary-datasec: data, with flag 2
 -- behind flag 2, active: x:memidx e:expr b*:list(byte)
 pub record IsActive {C : Type 0} (g : Grammar C) (x : DataTree C) (text : List ℕ) : Type 0 where
   pub memory : ℕ
@@ -63,10 +67,12 @@ pub record IsActive {C : Type 0} (g : Grammar C) (x : DataTree C) (text : List �
   pub filled : IsSized IsBytes x.content content_text
   pub whole : text ≡ memory_text ++ (offset_text ++ content_text)
 
+-- standard: part of SpelledData
 -- what follows a flag, of which there are three
 abbrev pub AfterFlag : {C : Type 0} → Grammar C → ℕ → Grammar (DataTree C)
 AfterFlag g f x text = ((f ≡ 0) × IsPlain g x text) ⊎ (((f ≡ 1) × IsPassive x text) ⊎ ((f ≡ 2) × IsActive g x text))
 
+-- standard: binary-datasec: data
 -- data ::= a flag, and what follows it (binary format, modules, data section)
 pub record SpelledData {C : Type 0} (g : Grammar C) (x : DataTree C) (text : List ℕ) : Type 0 where
   pub flag : ℕ

@@ -16,6 +16,7 @@ pub record TableTree (C : Type 0) : Type 0 where
   pub ty : TableType
   pub init : Option C
 
+-- standard: binary-tablesec: table, with an expression
 -- 0x40 0x00 tt:tabletype e:expr => (table tt e)
 pub record SpelledInitialised {C : Type 0} (g : Grammar C) (t : TableType) (x : C) (text : List ℕ) : Type 0 where
   pub type_text : List ℕ
@@ -24,11 +25,13 @@ pub record SpelledInitialised {C : Type 0} (g : Grammar C) (t : TableType) (x : 
   pub initialised : g x init_text
   pub whole : text ≡ 0x40 ∷ 0x00 ∷ (type_text ++ init_text)
 
+-- standard: part of SpelledTableItem
 -- a type alone, or a type and an expression
 abbrev pub SpelledWith : {C : Type 0} → Grammar C → TableType → Option C → List ℕ → Type 0
 SpelledWith g t None text = SpelledTable t text
 SpelledWith g t (Some x) text = SpelledInitialised g t x text
 
+-- standard: binary-tablesec: table
 -- table ::= tt:tabletype => (table tt null) | 0x40 0x00 tt:tabletype e:expr => (table tt e) (binary format, modules, table section)
 abbrev pub SpelledTableItem : {C : Type 0} → Grammar C → Grammar (TableTree C)
 SpelledTableItem g x text = SpelledWith g x.ty x.init text
