@@ -5,7 +5,8 @@ usage: tools/edits wrong [NAME..]
 An edit of tools/wrong is written as those of crates/NAME/must-fail are, and changes files of crates/wasm_operator_validator_rules/specs. With it
 that crate and wasm_operator_validator_soundness are checked in one run, both from their sources, except for the module `accepted`, which stands
 on crates above the rules. Each edit of tools/wrong has to be refused by a law of the runs, so that it does not rest on the worked rows of the
-rules alone. Those in tools/wrong/unseen are known to be noticed by no law of the runs, and say why. Those in tools/wrong/store change
+rules alone. Those in tools/wrong/unseen are known to be noticed by no law of the runs, and say why; a worked row or a law of the rules has
+to refuse each. Those in tools/wrong/store change
 crates/wasm_operator_validator_store/specs: that crate is checked alone, and a law or a row of it has to refuse each. NAME is the name of an
 edit without `.edit`, as ref_eq-of-any or store/ref_eq-always; with none all are tried.
 
@@ -89,8 +90,15 @@ def kind_of(broken, said, laws, rows):
     if broken[laws]:
         return "refused by " + (", ".join(f"{lemma} ({file})" for file, lemma in lemmas) or ", ".join(broken[laws]))
     if rows and broken[rows]:
-        return "refused by worked rows alone: " + ", ".join(broken[rows])
+        return "refused in the rules alone: " + ", ".join(broken[rows])
     return "not noticed"
+
+
+def is_as_wanted(name, broken, laws, rows):
+    """Whether an edit is refused by what has to refuse it."""
+    if name.startswith("unseen/"):
+        return bool(broken[rows]) and not broken[laws]
+    return bool(broken[laws])
 
 
 def try_all(rt, names, crate, words, room, folder, laws, rows):
@@ -106,7 +114,7 @@ def try_all(rt, names, crate, words, room, folder, laws, rows):
             print(f"          {name}: BAD EDIT: {said}", flush=True)
             wrong += 1
             continue
-        wrong += bool(broken[laws]) == name.startswith("unseen/")
+        wrong += not is_as_wanted(name, broken, laws, rows)
         print(f"{seconds:6.1f} s  {name}: {kind_of(broken, said, laws, rows)}", flush=True)
     return wrong
 

@@ -9,4 +9,7 @@ mod WorkedCounts
 pub mod WorkedVectors
 pub mod WorkedDescriptors
 pub mod WorkedShared
+pub mod WorkedSharedKinds
+pub mod FloatNames
+pub mod ConstantNames
 pub mod WorkedContinuations

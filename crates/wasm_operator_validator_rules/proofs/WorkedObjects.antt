@@ -89,6 +89,7 @@ casts_worked = record {
   cast_unknown = refl;
   cast_shared = refl;
   cast_not_shared = refl;
+  test_unknown = refl;
   test_continuation = refl;
   cast_continuation_type = refl;
   small_number = refl;
@@ -129,6 +130,7 @@ gc_rows_worked = record {
   to_extern_null = search rules;
   i31_get_unsigned = search rules;
   i31_get_signed = search rules;
+  i31_get_unsigned_any = search rules;
   i31_get_any = search rules;
 }
 

@@ -1,15 +1,17 @@
 -- The worked rows of references to functions and of null.
-use Rattle.std.proofs.Common.{◌≡◌, List, [], ◌∷◌, ◌++◌, Some, true, false, refl, sym, subst, rules}
+use Rattle.std.proofs.Common.{◌≡◌, ℕ, Bool, List, [], ◌∷◌, ◌++◌, Some, slice_get, true, false, refl, sym, subst, rules}
 use Rattle.wasm_types.specs.settings.Features.{has}
 use Rattle.wasm_types.specs.trees.Types.{i32, i64, func, InnerOf, function, number, ref, abstract, concrete}
 use Rattle.wasm_types.specs.trees.Trees.{TypeTree, opened}
+use Rattle.wasm_types.specs.trees.AbstractOrder.{same}
 use Rattle.wasm_types.specs.trees.Below.{expanded}
 use Rattle.wasm_operator_validator_rules.specs.Operands.{ValueType, Operand, some_reference, known, all_known}
 use Rattle.wasm_operator_validator_rules.specs.Context.{Signature, IsFunctionType}
 use Rattle.wasm_operator_validator_rules.specs.Named.{used_type}
 use Rattle.wasm_operator_validator_rules.specs.InstructionTypes.{reference_to}
-use Rattle.wasm_operator_validator_rules.specs.worked.Contexts.{widening, any_function}
-use Rattle.wasm_operator_validator_rules.specs.worked.References.{cell, null_to, giving_i64, CallsWorked, NullsWorked}
+use Rattle.wasm_operator_validator_rules.specs.Row.{IsCallee, IsIndirect}
+use Rattle.wasm_operator_validator_rules.specs.worked.Contexts.{widening, any_function, some_module, table_of}
+use Rattle.wasm_operator_validator_rules.specs.worked.References.{cell, null_to, giving_i64, CallsWorked, TailCallsWorked, NullsWorked}
 
 -- ---- the last of a list
 
@@ -62,6 +64,50 @@ calls_worked = record {
   return_call_ref_other = search rules;
   return_call_ref_struct = search rules;
   return_call_ref_not_shared = search rules;
+}
+
+-- what is called, and through which table
+called : Signature
+called = record { params = number i32 ∷ []; results = number i64 ∷ [] }
+
+through : (wide : Bool) → (x : ℕ) → slice_get some_module.tables x ≡ Some (table_of any_function wide) → IsIndirect giving_i64 x 0 (table_of any_function wide) called
+unfolding called
+through wide x found = record {
+  table = found;
+  table_used = λ s. absurd cc;
+  functions = (false, (tt, (refl, same)));
+  callee = widening;
+  type = refl;
+  type_used = λ s. absurd cc;
+  function = refl;
+}
+
+-- another operand on top than the argument
+not_i32 : (b : Signature) (any : List Operand) → IsCallee giving_i64 0 b → known (number i64) ∷ [] ≡ any ++ all_known b.params → ⊥
+unfolding opened
+not_i32 b any (t, found, used, f) p =
+    let h : widening ≡ t = cc in
+    let q : ◌≡◌ {A = InnerOf TypeTree} (function (number i32 ∷ []) (number i64 ∷ [])) (function b.params b.results) =
+    subst (λ (x : TypeTree). expanded x ≡ function b.params b.results) (sym h) f in
+    let r : b.params ≡ number i32 ∷ [] = cc in
+    let g : known (number i64) ∷ [] ≡ any ++ all_known (number i32 ∷ []) =
+    subst (λ (ps : List ValueType). known (number i64) ∷ [] ≡ any ++ all_known ps) r p in
+    let e : known (number i64) ≡ known (number i32) = only any (known (number i32)) (known (number i64)) g in
+    cc
+
+pub tail_calls_worked : TailCallsWorked
+unfolding has opened called
+tail_calls_worked = record {
+  call = (called, some_reference ∷ [], (widening, refl, (λ s. absurd cc), refl), (refl, tt), refl);
+  call_other = search rules;
+  call_unknown = search rules;
+  call_not_shared = search rules;
+  call_operand = λ (b, any, c, r, p). not_i32 b any c p;
+  indirect = (table_of any_function false, called, some_reference ∷ [], through false 0 refl, (refl, tt), refl);
+  indirect_64 = (table_of any_function true, called, [], through true 2 refl, (refl, tt), refl);
+  indirect_other = search rules;
+  indirect_no_functions = search rules;
+  indirect_struct = search rules;
 }
 
 pub nulls_worked : NullsWorked

@@ -22,3 +22,5 @@ pub mod worked
 pub mod arity
 -- Rules and worked rows: which operators and expressions are constant.
 pub mod constants
+-- Laws of the rules.
+pub mod NameLaws

@@ -11,4 +11,5 @@ pub mod Clauses
 pub mod Vectors
 pub mod Descriptors
 pub mod SharedAccesses
+pub mod SharedKinds
 pub mod Continuations

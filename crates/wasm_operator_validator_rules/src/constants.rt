@@ -6,11 +6,13 @@
 //! offsets and for elements, and their worked modules pin it too.
 
 ghost use Rattle.std.specs.Prelude.{ℤ};
-ghost use Rattle.wasm_operator_validator_rules.specs.constants.Worked.{OperatorsWorked, GlobalsWorked};
+ghost use Rattle.wasm_operators_immediates.specs.declared.vector.V128.{V128};
+ghost use Rattle.wasm_operator_validator_rules.specs.constants.Worked.{OperatorsWorked, GlobalsWorked, VectorsWorked};
 
 /// Operators that are constant and operators that are not: a changed definition of the rules breaks one.
 #[tactic(auto, unfolding(crate::specs::constants::Worked::has))]
 pub fn constant_operators_are_worked()
     ensures operators { (x : ℤ) → OperatorsWorked x }
     ensures globals { GlobalsWorked }
+    ensures vectors { (value : V128) → VectorsWorked value }
 {}

@@ -9,8 +9,10 @@
 
 pub mod arity;
 pub mod constants;
+mod laws;
 mod worked;
 
+pub use laws::{constants_are_named, floats_are_named};
 pub use wasm_operators_encoding::expressions::{
     BlockType, BrTable, BrTableTargets, BulkOperator, ConstOperator, FrameKind, MemArg,
     MemArgTarget, MemoryOperator, Proposal,
@@ -18,5 +20,5 @@ pub use wasm_operators_encoding::expressions::{
 pub use worked::{
     clauses_are_worked, code_is_worked, continuations_are_worked, descriptors_are_worked,
     exceptions_are_worked, instruction_types_are_worked, objects_are_worked, references_are_worked,
-    rows_are_worked, shared_accesses_are_worked, vectors_are_worked,
+    rows_are_worked, shared_accesses_are_worked, shared_kinds_are_worked, vectors_are_worked,
 };

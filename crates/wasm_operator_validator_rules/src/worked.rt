@@ -3,7 +3,7 @@
 ghost use Rattle.std.specs.Prelude.{ℤ};
 ghost use Rattle.wasm_operator_validator_rules.specs.worked.InstructionTypes.{NumbersWorked, AccessesWorked, SpacesWorked};
 ghost use Rattle.wasm_operator_validator_rules.specs.worked.Operators.{ControlWorked, OperandsWorked, VariablesWorked, ReferencesWorked, FeaturesWorked};
-ghost use Rattle.wasm_operator_validator_rules.specs.worked.References.{CallsWorked, NullsWorked};
+ghost use Rattle.wasm_operator_validator_rules.specs.worked.References.{CallsWorked, TailCallsWorked, NullsWorked};
 ghost use Rattle.wasm_operator_validator_rules.specs.worked.ObjectTypes.{StructsWorked, ArraysWorked, CastsWorked};
 ghost use Rattle.wasm_operator_validator_rules.specs.worked.ObjectRows.{GcRowsWorked, ObjectOperandsWorked, CastBranchesWorked};
 ghost use Rattle.wasm_operator_validator_rules.specs.worked.Codes.{CodesWorked, PartsWorked};
@@ -12,6 +12,7 @@ ghost use Rattle.wasm_operator_validator_rules.specs.worked.Clauses.{ClausesWork
 ghost use Rattle.wasm_operators_immediates.specs.declared.vector.V128.{V128};
 ghost use Rattle.wasm_operator_validator_rules.specs.worked.Descriptors.{DescriptorsWorked};
 ghost use Rattle.wasm_operator_validator_rules.specs.worked.SharedAccesses.{SharedWorked};
+ghost use Rattle.wasm_operator_validator_rules.specs.worked.SharedKinds.{SharedGlobalsWorked, SharedFieldsWorked, SharedElementsWorked};
 ghost use Rattle.wasm_operator_validator_rules.specs.worked.Continuations.{ContinuationsWorked, HandlersWorked, SwitchesWorked};
 ghost use Rattle.wasm_operator_validator_rules.specs.worked.Vectors.{VectorTypesWorked, VectorAccessesWorked, VectorsRefused, VectorRowsWorked};
 
@@ -34,9 +35,10 @@ pub fn rows_are_worked()
 {}
 
 /// Operators on references to functions and on null: rows that hold and rows that do not.
-#[tactic(auto, using(crate::proofs::WorkedReferences::calls_worked, crate::proofs::WorkedReferences::nulls_worked))]
+#[tactic(auto, using(crate::proofs::WorkedReferences::calls_worked, crate::proofs::WorkedReferences::tail_calls_worked, crate::proofs::WorkedReferences::nulls_worked))]
 pub fn references_are_worked()
     ensures calls { CallsWorked }
+    ensures tail_calls { TailCallsWorked }
     ensures nulls { NullsWorked }
 {}
 
@@ -89,6 +91,14 @@ pub fn descriptors_are_worked()
 #[tactic(auto, using(crate::proofs::WorkedShared::shared_worked))]
 pub fn shared_accesses_are_worked()
     ensures { SharedWorked }
+{}
+
+/// Which atomic accesses modify a number, and which exchange any value: rows that hold and rows that do not.
+#[tactic(auto, using(crate::proofs::WorkedSharedKinds::shared_globals_worked, crate::proofs::WorkedSharedKinds::shared_fields_worked, crate::proofs::WorkedSharedKinds::shared_elements_worked))]
+pub fn shared_kinds_are_worked()
+    ensures globals { SharedGlobalsWorked }
+    ensures fields { SharedFieldsWorked }
+    ensures elements { SharedElementsWorked }
 {}
 
 /// Operators on continuations, and their handlers: rows that hold and rows that do not.

@@ -54,12 +54,17 @@ pub record AccessesWorked : Type 0 where
 pub record SpacesWorked : Type 0 where
   pub size : IsOf somewhere (op.Memory (memory.MemorySize 1)) [] (i64 ∷ [])
   pub grow : IsOf somewhere (op.Memory (memory.MemoryGrow 0)) (i32 ∷ []) (i32 ∷ [])
+  pub grow_64 : IsOf somewhere (op.Memory (memory.MemoryGrow 1)) (i64 ∷ []) (i64 ∷ [])
+  pub grow_unknown : HasNone somewhere (op.Memory (memory.MemoryGrow 3))
   pub size_unknown : HasNone somewhere (op.Memory (memory.MemorySize 3))
   pub copy : IsOf somewhere (op.Bulk (bulk.MemoryCopy 0 1)) (i32 ∷ i64 ∷ i32 ∷ []) []
   pub copy_64 : IsOf somewhere (op.Bulk (bulk.MemoryCopy 1 2)) (i64 ∷ i64 ∷ i64 ∷ []) []
   pub copy_unknown : HasNone somewhere (op.Bulk (bulk.MemoryCopy 0 3))
   pub fill : IsOf somewhere (op.Bulk (bulk.MemoryFill 1)) (i64 ∷ i32 ∷ i64 ∷ []) []
+  pub fill_unknown : HasNone somewhere (op.Bulk (bulk.MemoryFill 3))
   pub discard : IsOf somewhere (op.Bulk (bulk.MemoryDiscard 0)) (i32 ∷ i32 ∷ []) []
+  pub discard_64 : IsOf somewhere (op.Bulk (bulk.MemoryDiscard 1)) (i64 ∷ i64 ∷ []) []
+  pub discard_unknown : HasNone somewhere (op.Bulk (bulk.MemoryDiscard 3))
   pub init : IsOf somewhere (op.Bulk (bulk.MemoryInit 1 1)) (i64 ∷ i32 ∷ i32 ∷ []) []
   pub init_unknown : HasNone somewhere (op.Bulk (bulk.MemoryInit 2 1))
   pub init_no_memory : HasNone somewhere (op.Bulk (bulk.MemoryInit 1 3))
@@ -69,10 +74,17 @@ pub record SpacesWorked : Type 0 where
   pub elem_drop : IsOf somewhere (op.Bulk (bulk.ElemDrop 1)) [] []
   pub elem_drop_unknown : HasNone somewhere (op.Bulk (bulk.ElemDrop 2))
   pub table_get : instruction_type somewhere (op.Bulk (bulk.TableGet 1)) ≡ Some (number i32 ∷ [] ⟶ any_external ∷ [])
+  pub table_get_64 : instruction_type somewhere (op.Bulk (bulk.TableGet 2)) ≡ Some (number i64 ∷ [] ⟶ any_function ∷ [])
+  pub table_get_unknown : HasNone somewhere (op.Bulk (bulk.TableGet 3))
   pub table_set : instruction_type somewhere (op.Bulk (bulk.TableSet 2)) ≡ Some (number i64 ∷ any_function ∷ [] ⟶ [])
+  pub table_set_unknown : HasNone somewhere (op.Bulk (bulk.TableSet 3))
   pub table_grow : instruction_type somewhere (op.Bulk (bulk.TableGrow 2)) ≡ Some (any_function ∷ number i64 ∷ [] ⟶ number i64 ∷ [])
+  pub table_grow_unknown : HasNone somewhere (op.Bulk (bulk.TableGrow 3))
   pub table_size : IsOf somewhere (op.Bulk (bulk.TableSize 0)) [] (i32 ∷ [])
+  pub table_size_64 : IsOf somewhere (op.Bulk (bulk.TableSize 2)) [] (i64 ∷ [])
   pub table_fill : instruction_type somewhere (op.Bulk (bulk.TableFill 0)) ≡ Some (number i32 ∷ any_function ∷ number i32 ∷ [] ⟶ [])
+  pub table_fill_64 : instruction_type somewhere (op.Bulk (bulk.TableFill 2)) ≡ Some (number i64 ∷ any_function ∷ number i64 ∷ [] ⟶ [])
+  pub table_fill_unknown : HasNone somewhere (op.Bulk (bulk.TableFill 3))
   pub table_unknown : HasNone somewhere (op.Bulk (bulk.TableSize 3))
   pub global_get : IsOf somewhere (op.Memory (memory.GlobalGet 1)) [] (i64 ∷ [])
   pub global_set : IsOf somewhere (op.Memory (memory.GlobalSet 0)) (i32 ∷ []) []

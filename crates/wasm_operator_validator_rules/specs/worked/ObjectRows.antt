@@ -43,6 +43,7 @@ pub record GcRowsWorked : Type 0 where
   pub to_extern_null : GcRow here gc.ExternConvertAny (to_abstract true false any ∷ []) (to_abstract false false extern ∷ []) → ⊥
   pub i31_get_unsigned : GcRow here gc.I31GetU (to_abstract true true i31 ∷ []) (i32_known ∷ [])
   pub i31_get_signed : GcRow here gc.I31GetS (to_abstract true false i31 ∷ []) (i32_known ∷ [])
+  pub i31_get_unsigned_any : GcRow here gc.I31GetU (to_abstract true false any ∷ []) (i32_known ∷ []) → ⊥
   pub i31_get_any : GcRow here gc.I31GetS (to_abstract true false any ∷ []) (i32_known ∷ []) → ⊥
 
 -- ---- operands below what a row takes

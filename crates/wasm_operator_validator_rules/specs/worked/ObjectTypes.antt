@@ -83,6 +83,7 @@ pub record CastsWorked : Type 0 where
   pub cast_unknown : IsNot (gc.RefCastNonNull (heap.Concrete (index.Module 16)))
   pub cast_shared : Is (gc.RefCastNonNull (heap.Abstract true kind.I31)) (ref true (abstract true any) ∷ []) (ref false (abstract true i31) ∷ [])
   pub cast_not_shared : HasNone here_shared (op.Gc (gc.RefCastNonNull (heap.Abstract false kind.I31)))
+  pub test_unknown : IsNot (gc.RefTestNullable (heap.Concrete (index.Module 16)))
   pub test_continuation : IsNot (gc.RefTestNonNull (heap.Abstract false kind.Cont))
   pub cast_continuation_type : IsNot (gc.RefCastNullable (heap.Concrete (index.Module 10)))
   pub small_number : Is gc.RefI31 (number i32 ∷ []) (ref false (abstract false i31) ∷ [])

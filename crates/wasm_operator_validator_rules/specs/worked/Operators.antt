@@ -1,6 +1,9 @@
 -- Rows that hold and rows that do not.
 use Rattle.std.specs.Prelude.{true, false, List, [], ◌∷◌}
 use Rattle.wasm_types.specs.trees.Types.{i32, i64, f32, number, ref, concrete}
+use Rattle.wasm_types.specs.trees.declared.index.UnpackedIndex.TheVariants as index
+use Rattle.wasm_types.specs.values.declared.heap.AbstractHeapType.TheVariants as kind
+use Rattle.wasm_types.specs.values.declared.heap.HeapType.TheVariants as heap
 use Rattle.wasm_types.specs.values.declared.value.ValType.TheVariants as value
 use Rattle.wasm_operators_enums.specs.declared.control.ControlOperator.TheVariants as control
 use Rattle.wasm_operators_enums.specs.declared.memory.MemoryOperator.TheVariants as memory
@@ -91,6 +94,9 @@ pub record ReferencesWorked : Type 0 where
   pub is_null : Does (op.Bulk bulk.RefIsNull) (known any_external ∷ []) (i32_known ∷ [])
   pub is_null_of_some : Does (op.Bulk bulk.RefIsNull) (some_reference ∷ []) (i32_known ∷ [])
   pub is_null_of_number : DoesNot (op.Bulk bulk.RefIsNull) (i64_known ∷ []) (i32_known ∷ [])
+  pub null : Does (op.Bulk (bulk.RefNull (heap.Abstract false kind.Extern))) [] (known any_external ∷ [])
+  pub null_of_function : DoesNot (op.Bulk (bulk.RefNull (heap.Abstract false kind.Extern))) [] (known any_function ∷ [])
+  pub null_unknown : IsRefused somewhere all (op.Bulk (bulk.RefNull (heap.Concrete (index.Module 2))))
   pub function : Does (op.Bulk (bulk.RefFunc 0)) [] (known (ref false (concrete widening)) ∷ [])
   pub function_nullable : DoesNot (op.Bulk (bulk.RefFunc 0)) [] (known (ref true (concrete widening)) ∷ [])
   pub function_unreferenced : IsRefused somewhere all (op.Bulk (bulk.RefFunc 1))

@@ -72,6 +72,19 @@ pub record CallsWorked : Type 0 where
   pub return_call_ref_struct : HasNo (ControlRow here (control.ReturnCallRef 1))
   pub return_call_ref_not_shared : HasNo (ControlRow (record giving_i64 { shared = true }) (control.ReturnCallRef 0))
 
+-- tail calls of a function of the module, and through a table
+pub record TailCallsWorked : Type 0 where
+  pub call : ControlRow giving_i64 (control.ReturnCall 0) (some_reference ∷ i32_known ∷ []) (bottom ∷ [])
+  pub call_other : HasNo (ControlRow here (control.ReturnCall 0))
+  pub call_unknown : HasNo (ControlRow giving_i64 (control.ReturnCall 2))
+  pub call_not_shared : HasNo (ControlRow (record giving_i64 { shared = true }) (control.ReturnCall 0))
+  pub call_operand : Not giving_i64 (control.ReturnCall 0) (i64_known ∷ []) []
+  pub indirect : ControlRow giving_i64 (control.ReturnCallIndirect 0 0) (some_reference ∷ i32_known ∷ i32_known ∷ []) (bottom ∷ [])
+  pub indirect_64 : ControlRow giving_i64 (control.ReturnCallIndirect 0 2) (i32_known ∷ i64_known ∷ []) []
+  pub indirect_other : HasNo (ControlRow here (control.ReturnCallIndirect 0 0))
+  pub indirect_no_functions : HasNo (ControlRow giving_i64 (control.ReturnCallIndirect 0 1))
+  pub indirect_struct : HasNo (ControlRow giving_i64 (control.ReturnCallIndirect 1 0))
+
 -- ---- null
 
 pub record NullsWorked : Type 0 where
