@@ -70,7 +70,7 @@ calls_worked = record {
 abbrev called : Signature
 called = record { params = number i32 ∷ []; results = number i64 ∷ [] }
 
-through : (wide : Bool) → (x : ℕ) → slice_get some_module.tables x ≡ Some (table_of any_function wide) → IsIndirect giving_i64 x 0 (table_of any_function wide) called
+through : (wide : Bool) → (x : ℕ) → slice_get some_module.tables x ≡ Some (table_of any_function wide) → IsIndirect giving_i64 0 x (table_of any_function wide) called
 unfolding opened
 through wide x found = record {
   table = found;
