@@ -49,6 +49,8 @@ pub use wasm_module_validator_type_alloc::{
     MaybeOwned, TypeAlloc, TypeData, TypeIdentifier, TypeInfo, at_canonicalized_packed_index,
     at_canonicalized_unpacked_index,
 };
-pub use wasm_module_validator_type_groups::adding::canonicalize_and_intern_rec_group;
+pub use wasm_module_validator_type_groups::adding::{
+    Module as ModuleTypes, canonicalize_and_intern_rec_group,
+};
 pub use wasm_module_validator_type_list::{MAX_TYPES, TypeList};
 pub use wasm_module_validator_type_storage::snapshots::SnapshotList;
