@@ -14,7 +14,7 @@ ghost use Rattle.wasm_check_command.specs.declared.judging.Mode.TheVariants.{Who
 ghost use Rattle.wasm_check_command.specs.Reports.{sources_of, IsReported, Stops};
 
 use crate::pieces::judge_in_pieces;
-use crate::steady::read_steadily;
+use crate::steady::{read_steadily, write_steadily};
 use std::alloc::{AllocError, Global};
 use std::io::{self, Read, Write};
 use wasm_check_faults::{Below, CheckError, Reason};
@@ -271,21 +271,17 @@ pub(crate) fn write_text<W: Write>(text: &[u8], out: &mut W) -> Result<(), Check
         × WritesFront text.now (W.contents out.old) (W.contents out.new)) }
 {
     let mut written = 0;
-    for _turn in 0..u64::MAX {
+    for _turn in 0..=text.len() {
         if written == text.len() {
             return Ok(());
         }
-        match out.write(&text[written..]) {
+        match write_steadily(out, &text[written..]) {
             Ok(0) => return Err(CheckError::Write),
             Ok(count) => written += count,
-            Err(error) => {
-                if error.kind() != io::ErrorKind::Interrupted {
-                    return Err(CheckError::Write);
-                }
-            }
+            Err(_error) => return Err(CheckError::Write),
         }
     }
-    Err(CheckError::Write)
+    unreachable!()
 }
 
 /// Judges these bytes, writes their line, and says whether they spell a valid module.

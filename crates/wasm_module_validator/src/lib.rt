@@ -26,6 +26,7 @@ mod validator;
 
 pub use laws::{
     ids_stay, lists_are_worked, states_are_worked, validators_begin, vectors_are_asked_for,
+    verdicts_are_isolated,
 };
 pub use lists::Verdict;
 pub use parts::{parts_are_whole, validate_part};
@@ -49,6 +50,8 @@ pub use wasm_module_validator_type_alloc::{
     MaybeOwned, TypeAlloc, TypeData, TypeIdentifier, TypeInfo, at_canonicalized_packed_index,
     at_canonicalized_unpacked_index,
 };
-pub use wasm_module_validator_type_groups::adding::canonicalize_and_intern_rec_group;
+pub use wasm_module_validator_type_groups::adding::{
+    Module as ModuleTypes, canonicalize_and_intern_rec_group,
+};
 pub use wasm_module_validator_type_list::{MAX_TYPES, TypeList};
 pub use wasm_module_validator_type_storage::snapshots::SnapshotList;

@@ -23,7 +23,9 @@ pub enum ReadError {
     TooLong,
 }
 
-/// Bytes that came and were not taken yet: fewer than can bring an item or a refusal (`IsPending`).
+/// Bytes that came and were not taken yet: fewer than can bring an item or a refusal (`IsPending`). So they are of the item that is being
+/// read, and none of the bytes behind it is held (`few`): in whatever item a call stops, it has read no more than a piece behind the end of
+/// it (`StopsWithin` of `specs/Pieces.antt`).
 #[derive(Drop)]
 pub(crate) struct Pending {
     pub(crate) bytes: Vec<u8>,

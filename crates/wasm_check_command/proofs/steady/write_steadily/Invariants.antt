@@ -1,0 +1,6 @@
+-- Nothing was written yet.
+use Rattle.std.specs.Io.KnownBytes.{Keeps}
+use Rattle.wasm_check_command.proofs.steady.write_steadily.Given as goal
+
+abbrev pub invariant-loop-turn : goal.invariant-loop-turn
+invariant-loop-turn g l = Keeps (g.W.Write.contents l.initial.out) (g.W.Write.contents l.out)
