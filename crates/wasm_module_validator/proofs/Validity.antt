@@ -1,9 +1,10 @@
 -- A valid module is a valid program.
-use Rattle.std.proofs.Common.{◌≡◌, ◌<◌, ℕ, zero, suc, List, [], ◌∷◌, ◌++◌, length, map, Option, Some, None, Bool, true, false, refl, sym, ap, subst, ◌∙◌, slice_get, replicate, inl, inr, true≢false}
+use Rattle.std.proofs.Common.{◌≡◌, ◌<◌, ℕ, zero, suc, ◌+◌, List, [], ◌∷◌, ◌++◌, length, map, Option, Some, None, Bool, true, false, refl, sym, ap, subst, ◌∙◌, slice_get, replicate, inl, inr, true≢false, arith, length-append}
 use Rattle.std.proofs.lemmas.Option.{same_Some}
 use Rattle.std.specs.Prelude.{All, Contains, filter_map, take}
 use Rattle.std.specs.List.{AllZip, cons_option}
 use Rattle.std.proofs.lemmas.Option.{slice_get_within, slice_get-get_or, get_or_from_slice_get}
+use Rattle.std.proofs.lemmas.List.{length-map}
 use Rattle.std.proofs.lemmas.List.Elements.{All-nil, All-cons, All-append, All-contains, All-replicate}
 use Rattle.wasm_types.specs.settings.Settings.{Settings}
 use Rattle.wasm_types.specs.trees.declared.index.UnpackedIndex.{UnpackedIndex}
@@ -26,7 +27,8 @@ use Rattle.wasm_sections_items.specs.declared.imports.type_ref.TypeRef.TheVarian
 use Rattle.wasm_sections_items.specs.imports.Spells.{ImportTree}
 use Rattle.wasm_sections_items.specs.segments.Spells.{GlobalTree, DataTree, DataMode}
 use Rattle.wasm_sections_items.specs.segments.Spells as data_mode
-use Rattle.wasm_sections_items.specs.elements.Spells.{ElementMode, ElementItems, passive, active, declared, functions, expressions}
+use Rattle.wasm_sections_items.specs.segments.Tables.{TableTree}
+use Rattle.wasm_sections_items.specs.elements.Spells.{ElementTree, ElementMode, ElementItems, passive, active, declared, functions, expressions}
 use Rattle.wasm_operators_encoding.specs.expressions.Code.{Code as Expression}
 use Rattle.wasm_operator_validator_rules.specs.Operands.{ValueType, known}
 use Rattle.wasm_operator_validator_rules.specs.constants.Constants.{IsConstant}
@@ -34,7 +36,7 @@ use Rattle.wasm_operator_validator_rules.specs.Context.{Global, Signature, IsTyp
 use Rattle.wasm_module_validator_rules.specs.Syntax.{Function as CodeItem, ModuleTree}
 use Rattle.wasm_module_validator_rules.specs.Binary.{SpelledModule}
 use Rattle.wasm_module_validator_rules.specs.ModuleLaws.{one_module}
-use Rattle.wasm_module_validator_rules.specs.Spaces.{with_types, value_in, FunctionEntry, function_with, function_of, imported, imported_globals, element_type, function_space, tag_of, tag_space, module_of}
+use Rattle.wasm_module_validator_rules.specs.Spaces.{with_types, value_in, FunctionEntry, function_with, function_of, imported, imported_globals, element_type, function_space, table_of, table_in, global_of, global_in, tag_of, tag_space, module_of}
 use Rattle.wasm_module_validator_rules.specs.Valid.{Each, IfThere, IsValidStart, IsFunctionIndex, IsValidElementType, IsValidTableType, IsValidTagType, IsValidImport, IsValidValueType, IsInitialised, IsValidTable, AreValidGlobals, IsValidMode, AreValidItems, IsValidElement, IsValidData, locals_in, HasValidBody, IsValid}
 use Rattle.wasm_operator_validator_soundness.specs.runs.Values.{Function, Program, IsStandard, IsStandardType, Value, number_value, ref_null, ref_function, ref_object, ref_i31, ref_host, ref_extern, ref_exn, Fits as FitsType, null_of, default_of}
 use Rattle.wasm_operator_validator_soundness.specs.runs.Soundness as sound
@@ -45,11 +47,16 @@ use Rattle.wasm_operator_validator_soundness.proofs.Options.{address_is}
 use Rattle.wasm_operator_validator_soundness.proofs.RunsFitting.{fits_below}
 use Rattle.wasm_operator_validator_soundness.proofs.Objects.{function_abstract}
 use Rattle.wasm_operator_validator_soundness.proofs.RunsSteps.{programs_sound, constants_sound, constants_valid as constant_states, runs_stay_valid, starts_valid}
+use Rattle.wasm_operator_validator_store.specs.ValidStores as stores
+use Rattle.wasm_operator_validator_store.specs.Instantiation.{IsConstant as InstantiationConstant, function_item, constant_item, IsItem, IsFilling, IsUse, GlobalsAreTyped, TablesAreTyped, SegmentsAreTyped, AreInitials}
+use Rattle.wasm_operator_validator_store.proofs.Lists.{get_past}
 use Rattle.wasm_operator_validator_store.proofs.Steps.{store_runs_sound}
+use Rattle.wasm_operator_validator_store.proofs.Instantiating.{first_stores_fit}
 use Rattle.wasm_operator_validator_soundness.proofs.Values.{calls_through}
 use Rattle.wasm_types.specs.trees.Matches.{ResultsMatch}
 use Rattle.wasm_module_validator.specs.soundness.Modules.{types_in, host_function, own_function, own_functions, program_of, MayBeImported, AreHosts}
 use Rattle.wasm_module_validator.specs.soundness.Constants.{without_body, seen_with, Gives, all_seen, GlobalsFit, ContentFits, TableFits, FunctionFits, ItemsFit, PlaceFits, ElementFits, DataFits, EachConstantFits}
+use Rattle.wasm_module_validator.specs.soundness.FirstStores.{filling_of, items_of, use_of, segment_of, initials_of}
 use Rattle.wasm_module_validator.specs.soundness.Soundness.{MayStart, ModulesAreSound, AcceptedIsSound}
 
 -- ---- lists
@@ -371,6 +378,99 @@ module _ (z : Settings) (m : ModuleTree) (hosts : List TypeTree) (standard : IsS
         (λ x h. data_fits x.mode h) valid.data_segments;
   }
 
+-- ---- the first store
+
+-- a list goes on at a place as another one does from there on
+abbrev GoesOn : {A B : Type 0} → (A → B) → List A → List B → ℕ → Type 0
+GoesOn {A} f xs ys n = (length ys ≡ n + length xs) × ((i : ℕ) (x : A) → slice_get xs i ≡ Some x → slice_get ys (n + i) ≡ Some (f x))
+
+first_there : {A B : Type 0} (f : A → B) (x : A) (xs : List A) (ys : List B) (n : ℕ) → GoesOn f (x ∷ xs) ys n → slice_get ys n ≡ Some (f x)
+first_there f x xs ys n h = let same : n + 0 ≡ n = omega arith in subst (λ k. slice_get ys k ≡ Some (f x)) same (h.1 0 x refl)
+
+others_there : {A B : Type 0} (f : A → B) (x : A) (xs : List A) (ys : List B) (n : ℕ) → GoesOn f (x ∷ xs) ys n → GoesOn f xs ys (suc n)
+others_there f x xs ys n h = (omega (arith, h.0), λ i y e. let same : n + suc i ≡ suc n + i = omega arith in subst (λ k. slice_get ys k ≡ Some (f y)) same (h.1 (suc i) y e))
+
+ended : {A B : Type 0} (f : A → B) (ys : List B) (n : ℕ) → GoesOn f [] ys n → length ys ≡ n
+ended f ys n h = omega (arith, h.0)
+
+all_there : {A B : Type 0} (f : A → B) (xs : List A) → GoesOn f xs (map f xs) 0
+all_there f xs = (omega (arith, length-map xs f), λ i x e. let same : i ≡ 0 + i = omega arith in subst (λ k. slice_get (map f xs) k ≡ Some (f x)) same (map_there f xs i x e))
+
+-- what a space has of the module itself, after what is imported
+own_there : {A B C : Type 0} (g : B → C) (f : A → B) (bs : List B) (xs : List A) → GoesOn (λ (x : A). g (f x)) xs (map g (bs ++ map f xs)) (length bs)
+own_there g f bs xs = (
+  length-map (bs ++ map f xs) g ∙ length-append bs (map f xs) ∙ ap (λ n. length bs + n) (length-map xs f),
+  λ i x e. map_there g (bs ++ map f xs) (length bs + i) (f x) (get_past bs (map f xs) i (f x) (map_there f xs i x e)),
+)
+
+module _ (z : Settings) (m : ModuleTree) (hosts : List TypeTree) (standard : IsStandard z.features) (valid : IsValid z m)
+    (hosted : AreHosts m hosts) where
+  abbrev program : Program
+  program = program_of z m hosts
+
+  abbrev own_types : List TypeTree
+  own_types = types_in m
+
+  globals_typed : (xs : List (GlobalTree Expression)) (n : ℕ) → AreValidGlobals z (module_of m) (imported_globals m) n xs → GoesOn (λ (x : GlobalTree Expression). global_in own_types x.ty) xs (module_of m).globals n
+      → GlobalsAreTyped program n (map (λ (x : GlobalTree Expression). x.init) xs)
+  globals_typed [] n v h = ended (λ (x : GlobalTree Expression). global_in own_types x.ty) (module_of m).globals n h
+  globals_typed (x ∷ xs) n v h = (
+    global_in own_types x.ty,
+    first_there (λ (y : GlobalTree Expression). global_in own_types y.ty) x xs (module_of m).globals n h,
+    v.0.1.typed,
+    globals_typed xs (suc n) v.1 (others_there (λ (y : GlobalTree Expression). global_in own_types y.ty) x xs (module_of m).globals n h),
+  )
+
+  filling_typed : (t : TableType) (o : Option Expression) → IsValidTableType z (module_of m) t → IsInitialised z (module_of m) (imported_globals m) t o
+      → IsFilling program (imported_globals m) (value_in own_types (value.Ref t.element_type)) o
+  filling_typed t None v i = content_fits z m hosts standard valid hosted t None v i
+  filling_typed t (Some c) v i = i.1.typed
+
+  tables_typed : (xs : List (TableTree Expression)) (n : ℕ) → Each (IsValidTable z (module_of m) (imported_globals m)) xs → GoesOn (λ (x : TableTree Expression). table_in own_types x.ty) xs (module_of m).tables n
+      → TablesAreTyped program (imported_globals m) n (map filling_of xs)
+  tables_typed [] n v h = ended (λ (x : TableTree Expression). table_in own_types x.ty) (module_of m).tables n h
+  tables_typed (x ∷ xs) n v h = (
+    table_in own_types x.ty,
+    first_there (λ (y : TableTree Expression). table_in own_types y.ty) x xs (module_of m).tables n h,
+    filling_typed x.ty x.init v.0.0 v.0.1,
+    tables_typed xs (suc n) v.1 (others_there (λ (y : TableTree Expression). table_in own_types y.ty) x xs (module_of m).tables n h),
+  )
+
+  functions_typed : (xs : List ℕ) → Each (FunctionFits z m hosts (ref false (abstract false func))) xs → stores.Each (IsItem program (ref false (abstract false func))) (map function_item xs)
+  functions_typed [] h = tt
+  functions_typed (x ∷ xs) h = (h.0, functions_typed xs h.1)
+
+  constants_typed : (t : ValueType) (cs : List Expression) → Each (IsConstant z.features (module_of m) (imported_globals m) t) cs → stores.Each (IsItem program t) (map constant_item cs)
+  constants_typed t [] h = tt
+  constants_typed t (c ∷ cs) h = (h.0.typed, constants_typed t cs h.1)
+
+  elements_typed : (items : ElementItems Expression) → AreValidItems z (module_of m) (imported_globals m) items → stores.Each (IsItem program (element_type own_types items)) (items_of items)
+  elements_typed (functions xs) h = functions_typed xs (each_weaker (λ x. x < length (module_of m).functions) (FunctionFits z m hosts (ref false (abstract false func))) xs (function_fits z m hosts standard valid hosted) h)
+  elements_typed (expressions r cs) h = constants_typed (value_in own_types (value.Ref r)) cs h.1
+
+  use_typed : (t : ValueType) (mode : ElementMode Expression) → IsValidMode z (module_of m) (imported_globals m) t mode → IsUse program t (use_of mode)
+  use_typed t passive h = tt
+  use_typed t declared h = tt
+  use_typed t (active x c) h = (h.0, h.1, h.2, subst (λ (v : ValueType). InstantiationConstant program (module_of m).globals v c) (sym (address_is (h.0).table64)) h.3.typed)
+
+  segments_typed : (xs : List (ElementTree Expression)) (n : ℕ) → Each (IsValidElement z (module_of m) (imported_globals m)) xs
+      → GoesOn (λ (x : ElementTree Expression). element_type own_types x.items) xs (module_of m).elements n → SegmentsAreTyped program n (map segment_of xs)
+  segments_typed [] n v h = ended (λ (x : ElementTree Expression). element_type own_types x.items) (module_of m).elements n h
+  segments_typed (x ∷ xs) n v h = (
+    element_type own_types x.items,
+    first_there (λ (y : ElementTree Expression). element_type own_types y.items) x xs (module_of m).elements n h,
+    elements_typed x.items v.0.items,
+    use_typed (element_type own_types x.items) x.mode v.0.mode,
+    segments_typed xs (suc n) v.1 (others_there (λ (y : ElementTree Expression). element_type own_types y.items) x xs (module_of m).elements n h),
+  )
+
+  pub initials_typed : AreInitials program (initials_of m)
+  initials_typed = record {
+    globals = globals_typed m.globals (imported_globals m) valid.globals (own_there (global_in own_types) (λ (x : GlobalTree Expression). x.ty) (imported global_of m) m.globals);
+    tables = tables_typed m.tables (length (imported table_of m)) valid.tables (own_there (table_in own_types) (λ (x : TableTree Expression). x.ty) (imported table_of m) m.tables);
+    segments = segments_typed m.element_segments 0 valid.element_segments (all_there (λ (x : ElementTree Expression). element_type own_types x.items) m.element_segments);
+  }
+
 -- ---- modules
 
 no_more : (us : List ValueType) → ResultsMatch [] us → us ≡ []
@@ -400,6 +500,7 @@ modules_sound z m standard valid hosts hosted = record {
   stores = λ s results u started fits knows. store_runs_sound (program_of z m hosts) s results u (program_valid z m hosts standard valid hosted) started fits knows;
   start = may_start (program_of z m hosts) (program_valid z m hosts standard valid hosted) m.start valid.start;
   constants = each_constant_fits z m hosts standard valid hosted;
+  first_stores = λ host u fits first. first_stores_fit (program_of z m hosts) (initials_of m) host u (program_valid z m hosts standard valid hosted) (initials_typed z m hosts standard valid hosted) fits first;
 }
 
 pub accepted_sound : AcceptedIsSound

@@ -11,7 +11,8 @@ ghost use Rattle.wasm_module_validator.specs.soundness.ModuleWorked.{ModuleWorke
 ghost use Rattle.wasm_module_validator.specs.soundness.Soundness.{AcceptedIsSound, ModulesAreSound};
 
 /// A valid module runs soundly under the features of the standard: a function of it, started with fitting arguments and answered by
-/// fitting values, is never stuck, what it returns or throws fits, and each constant gives what fits its place.
+/// fitting values, is never stuck, what it returns or throws fits, and each constant gives what fits its place. All fits in its first
+/// store, if it does in what the host gives for imports.
 pub fn modules_are_sound()
     ensures { ModulesAreSound }
 {}

@@ -12,13 +12,13 @@ use Rattle.wasm_operator_validator_soundness.specs.runs.States.{Activation, Answ
 use Rattle.wasm_operator_validator_soundness.specs.runs.States.{Move, asks}
 use Rattle.wasm_operator_validator_soundness.specs.runs.Machine.{address, goes, gives, exchange, execute}
 use Rattle.wasm_operator_validator_soundness.specs.runs.Soundness.{IsValidProgram}
-use Rattle.wasm_operator_validator_store.specs.Stores.{Store, nothing, bits_of, placed, sized, failure, global_in, table_in, with_global, with_table, without_segment}
-use Rattle.wasm_operator_validator_store.specs.ValidStores.{Each, Knows, Has}
+use Rattle.wasm_operator_validator_store.specs.Stores.{GlobalInstance, TableInstance, Store, nothing, bits_of, placed, sized, failure, value_held, elements_held, global_address, table_address, global_in, table_in, with_global, with_table, without_segment}
+use Rattle.wasm_operator_validator_store.specs.ValidStores.{Each, Knows, Has, GlobalFits, TableFits}
 use Rattle.wasm_operator_validator_store.specs.Giving.{OrTraps, GivesOperator, is_wide}
 use Rattle.wasm_operator_validator_store.specs.Soundness.{AreValid}
-use Rattle.wasm_operator_validator_store.proofs.Lists.{each_get, each_map, each_one, each_placed, placed_length, pairs_get, pairs_get_or, get_or_there}
+use Rattle.wasm_operator_validator_store.proofs.Lists.{each_get, each_map, each_one, each_placed, placed_length}
 use Rattle.wasm_operator_validator_store.proofs.Operating.{CodeNew}
-use Rattle.wasm_operator_validator_store.proofs.Storing.{stays, global_evolves, global_fits, table_evolves, table_fits, segment_evolves, segment_fits}
+use Rattle.wasm_operator_validator_store.proofs.Storing.{stays, global_holds, table_holds, global_fits, table_evolves, table_fits, segment_evolves, segment_fits}
 use Rattle.wasm_operator_validator_store.proofs.Answering.{IsDone, found_needs, found_answer, no_trap, a_trap, first_fits, told, top_known}
 
 pub sized_fits : (p : Program) (b : Bool) (n : ℕ) → Fits p (sized b n) (address b)
@@ -43,7 +43,7 @@ module _ (p : Program) (valid : IsValidProgram p) (results : List ValueType) (ac
   unchanged c a u e answer values new = subst (λ w. IsDone p act acts c s a w) (sym e) (record {
     answer = answer;
     store = v.store;
-    evolves = stays p s;
+    evolves = stays s;
     values = values;
     new = new;
   })
@@ -52,15 +52,18 @@ module _ (p : Program) (valid : IsValidProgram p) (results : List ValueType) (ac
   values_known u a vs e k = subst (Each (Knows u)) (sym e) k
 
   pub global_known : (x : ℕ) → Knows s (global_in s x)
-  global_known x = pairs_get_or (λ (g : Global) w. Has p s g.content w) (Knows s) nothing (λ g w h. h.1) tt p.«module».globals s.globals x v.store.globals
+  global_known x = held (slice_get s.globals (global_address s x)) refl
+    where
+      held : (o : Option GlobalInstance) → slice_get s.globals (global_address s x) ≡ o → Knows s (value_held o)
+      held None e = tt
+      held (Some g) e = (each_get (GlobalFits p s) s.globals (global_address s x) g v.store.globals e).1
 
   pub table_known : (x : ℕ) → Each (Knows s) (table_in s x)
-  table_known x = pairs_get_or (λ (t : Table) ws. Each (Has p s t.element) ws) (Each (Knows s)) [] (λ t ws h. each_map (Has p s t.element) (Knows s) ws (λ w k. k.1) h) tt p.«module».tables s.tables x v.store.tables
-
-  pub table_holds : (x : ℕ) (t : Table) → slice_get p.«module».tables x ≡ Some t → Each (Has p s t.element) (table_in s x)
-  table_holds x t e =
-      let r = pairs_get (λ (k : Table) ws. Each (Has p s k.element) ws) p.«module».tables s.tables x t v.store.tables e in
-      subst (Each (Has p s t.element)) (sym (get_or_there s.tables x r.0 [] r.1)) r.2
+  table_known x = held (slice_get s.tables (table_address s x)) refl
+    where
+      held : (o : Option TableInstance) → slice_get s.tables (table_address s x) ≡ o → Each (Knows s) (elements_held o)
+      held None e = tt
+      held (Some t) e = each_map (Has p s t.type.element) (Knows s) t.elements (λ w k. k.1) (each_get (TableFits p s) s.tables (table_address s x) t v.store.tables e)
 
   module _ (more : Code) (a : Answer) (u : Store) where
     abbrev Done : Op → Type 0
@@ -87,8 +90,7 @@ module _ (p : Program) (valid : IsValidProgram p) (results : List ValueType) (ac
     pub global_get_done : (x : ℕ) → Next (op.Memory (memory.GlobalGet x)) → Given (op.Memory (memory.GlobalGet x)) → Done (op.Memory (memory.GlobalGet x))
     global_get_done x c h = unchanged (plain (op.Memory (memory.GlobalGet x)) more) a u h.2
         (found_answer (slice_get p.«module».globals x) (λ (t : Global). exchange p a act acts [] (t.content ∷ []) more) (λ (t : Global) e.
-        let r = pairs_get (λ (g : Global) w. Has p s g.content w) p.«module».globals s.globals x t v.store.globals e in
-        exchanged [] (t.content ∷ []) h.1 (fit_as (r.0 ∷ []) (t.content ∷ []) (h.0 ∙ ap (λ w. w ∷ []) (get_or_there s.globals x r.0 nothing r.1)) (r.2.0, tt))))
+        exchanged [] (t.content ∷ []) h.1 (fit_as (global_in s x ∷ []) (t.content ∷ []) h.0 ((global_holds p s v.store x t e).0, tt))))
         (values_known s a (global_in s x ∷ []) h.0 (global_known x, tt)) tt
 
     pub global_set_done : (x : ℕ) → Next (op.Memory (memory.GlobalSet x)) → Given (op.Memory (memory.GlobalSet x)) → Done (op.Memory (memory.GlobalSet x))
@@ -99,10 +101,11 @@ module _ (p : Program) (valid : IsValidProgram p) (results : List ValueType) (ac
         let k = told p valid results act acts s v a (plain (op.Memory (memory.GlobalSet x)) more) c answer in
         let n = found_needs p results (slice_get p.«module».globals x) f k.0 k.1 in
         let top = get_or act.innermost.values 0 nothing in
+        let written = global_fits p s x top n.0 v.store n.1 n.2.0 (first_fits p act.innermost.values (known (n.0).content) [] 0 n.2.1.0, top_known p valid results act acts s v 0) in
         subst (λ w. IsDone p act acts (plain (op.Memory (memory.GlobalSet x)) more) s a w) (sym h.2) (record {
           answer = answer;
-          store = global_fits p s x top n.0 n.1 n.2.0 v.store (first_fits p act.innermost.values (known (n.0).content) [] 0 n.2.1.0, top_known p valid results act acts s v 0);
-          evolves = global_evolves p s x top n.0 n.1 n.2.0;
+          store = written.0;
+          evolves = written.1;
           values = values_known (with_global s x top) a [] h.0 tt;
           new = tt;
         })
@@ -120,7 +123,7 @@ module _ (p : Program) (valid : IsValidProgram p) (results : List ValueType) (ac
         go (Some w) e k = unchanged (plain (op.Bulk (bulk.TableGet x)) more) a u k.2
             (found_answer (slice_get p.«module».tables x) (λ (t : Table). exchange p a act acts (address t.table64 ∷ []) (t.element ∷ []) more) (λ (t : Table) d.
             exchanged (address t.table64 ∷ []) (t.element ∷ []) k.1
-            (fit_as (w ∷ []) (t.element ∷ []) k.0 ((each_get (Has p s t.element) (table_in s x) (bits_of (get_or act.innermost.values 0 nothing)) w (table_holds x t d) e).0, tt))))
+            (fit_as (w ∷ []) (t.element ∷ []) k.0 ((each_get (Has p s t.element) (table_in s x) (bits_of (get_or act.innermost.values 0 nothing)) w (table_holds p s v.store x t d) e).0, tt))))
             (values_known s a (w ∷ []) k.0 (each_get (Knows s) (table_in s x) (bits_of (get_or act.innermost.values 0 nothing)) w (table_known x) e, tt)) tt
 
     pub table_size_done : (x : ℕ) → Next (op.Bulk (bulk.TableSize x)) → Given (op.Bulk (bulk.TableSize x)) → Done (op.Bulk (bulk.TableSize x))
@@ -146,8 +149,8 @@ module _ (p : Program) (valid : IsValidProgram p) (results : List ValueType) (ac
             subst (λ w. IsDone p act acts (plain (op.Bulk (bulk.TableSet x)) more) s a w) (sym k.2) (record {
               answer = answer;
               store = table_fits p s x vs n.0 n.1 (omega (arith, placed_length (table_in s x) (bits_of (get_or act.innermost.values 1 nothing)) (take 1 act.innermost.values) vs e)) v.store
-                  (each_placed (Has p s (n.0).element) (table_in s x) (bits_of (get_or act.innermost.values 1 nothing)) (take 1 act.innermost.values) vs (table_holds x n.0 n.1) (each_one (Has p s (n.0).element) nothing act.innermost.values value) e);
-              evolves = table_evolves p s x vs (omega (arith, placed_length (table_in s x) (bits_of (get_or act.innermost.values 1 nothing)) (take 1 act.innermost.values) vs e));
+                  (each_placed (Has p s (n.0).element) (table_in s x) (bits_of (get_or act.innermost.values 1 nothing)) (take 1 act.innermost.values) vs (table_holds p s v.store x n.0 n.1) (each_one (Has p s (n.0).element) nothing act.innermost.values value) e);
+              evolves = table_evolves s x vs (omega (arith, placed_length (table_in s x) (bits_of (get_or act.innermost.values 1 nothing)) (take 1 act.innermost.values) vs e));
               values = values_known (with_table s x vs) a [] k.0 tt;
               new = tt;
             })
@@ -163,7 +166,7 @@ module _ (p : Program) (valid : IsValidProgram p) (results : List ValueType) (ac
         subst (λ w. IsDone p act acts (plain (op.Bulk (bulk.ElemDrop i)) more) s a w) (sym h.2) (record {
           answer = answer;
           store = segment_fits p s i n.0 n.1 v.store;
-          evolves = segment_evolves p s i;
+          evolves = segment_evolves s i;
           values = values_known (without_segment s i) a [] h.0 tt;
           new = tt;
         })

@@ -20,7 +20,7 @@ use Rattle.wasm_operator_validator_store.proofs.Storing.{knows_plain, activation
 pub record IsDone (p : Program) (act : Activation) (acts : List Activation) (c : Code) (s : Store) (a : Answer) (u : Store) : Type 0 where
   pub answer : (execute p a act acts c).is_answer
   pub store : StoreFits p u
-  pub evolves : Evolves p s u
+  pub evolves : Evolves s u
   pub values : Each (Knows u) a.values
   pub new : CodeNew (Knows u) p a act acts c
 
@@ -73,5 +73,5 @@ module _ (p : Program) (valid : IsValidProgram p) (results : List ValueType) (ac
         outcome = r.1;
         store = d.store;
         evolves = d.evolves;
-        known = (execute_keeps (Knows u) p a act acts (knows_plain u) d.values (activation_later p s u d.evolves act v.known.0) (state_later p s u d.evolves acts v.known.1) act.innermost.code d.new).keeps;
+        known = (execute_keeps (Knows u) p a act acts (knows_plain u) d.values (activation_later s u d.evolves act v.known.0) (state_later s u d.evolves acts v.known.1) act.innermost.code d.new).keeps;
       }

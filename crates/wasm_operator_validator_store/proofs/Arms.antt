@@ -3,7 +3,7 @@ use Rattle.std.proofs.Common.{refl, sym, inr, true≢false}
 use Rattle.wasm_types.specs.trees.Trees.{opened}
 use Rattle.wasm_types.specs.trees.AbstractOrder.{same}
 use Rattle.wasm_types.specs.trees.ValidGroup.{types_from}
-use Rattle.wasm_operator_validator_store.specs.worked.Program.{program, store}
+use Rattle.wasm_operator_validator_store.specs.worked.Program.{store}
 use Rattle.wasm_operator_validator_store.specs.worked.Arms.{BranchesWorked, CallsWorked, DelegatesWorked, CastsWorked, ArraysWorked, AccessesWorked, ArmsWorked}
 use Rattle.wasm_operator_validator_store.proofs.Storing.{stays}
 
@@ -25,13 +25,13 @@ branches_worked = record {
 calls_worked : CallsWorked
 unfolding opened types_from
 calls_worked = record {
-  replaced = (_, _, _, (_, _, (refl, refl), refl, (_, _, (refl, refl, refl), refl, (refl, refl))), (refl, refl), refl);
+  replaced = (_, _, _, (_, _, (refl, (refl, refl)), refl, (_, _, (refl, refl, refl), refl, (refl, refl))), (refl, refl), refl);
   null_traps = (_, _, _, (refl, refl), (refl, refl), refl);
-  replaced_through = λ f. (_, _, _, (_, _, (refl, refl, refl), refl, (_, _, (refl, refl, ((λ e. f), (λ g. refl)), (refl, refl)), refl, (_, _, (refl, refl, refl), refl, (refl, refl)))), (refl, refl), refl);
-  null_through = (_, _, _, (refl, refl), (refl, refl, ((λ e. absurd (true≢false (sym e))), (λ g. absurd g.1.0)), (refl, refl)), refl);
+  replaced_through = λ f. (_, _, _, (_, _, (refl, refl, refl), refl, (_, _, (refl, ((λ e. f), (λ g. refl)), (refl, (refl, refl))), refl, (_, _, (refl, refl, refl), refl, (refl, refl)))), (refl, refl), refl);
+  null_through = (_, _, _, (refl, refl), (refl, ((λ e. absurd (true≢false (sym e))), (λ g. absurd g.1.0)), (refl, refl)), refl);
   past_the_table = (_, _, _, (refl, refl), (refl, (refl, refl)), refl);
-  host_caught = λ f m. (_, _, _, (_, _, (refl, refl), refl, (_, _, (refl, refl), refl, (store, _, ((m, (((tt, refl), tt), (refl, tt))), stays program store, f, (_, refl, refl, refl, (refl, refl))), refl, (refl, refl)))), (refl, refl), refl);
-  host_passes = λ f m. (_, _, store, (_, _, (refl, refl), refl, (_, _, (refl, refl), refl, (refl, refl))), ((m, (((tt, refl), tt), tt)), stays program store, f, (_, refl, refl, refl, (refl, refl))), refl);
+  host_caught = λ f m. (_, _, _, (_, _, (refl, refl), refl, (_, _, (refl, refl), refl, (store, _, ((m, (((tt, refl), tt), (refl, tt))), stays store, f, (_, refl, refl, refl, (refl, refl))), refl, (refl, refl)))), (refl, refl), refl);
+  host_passes = λ f m. (_, _, store, (_, _, (refl, refl), refl, (_, _, (refl, refl), refl, (refl, refl))), ((m, (((tt, refl), tt), tt)), stays store, f, (_, refl, refl, refl, (refl, refl))), refl);
 }
 
 delegates_worked : DelegatesWorked

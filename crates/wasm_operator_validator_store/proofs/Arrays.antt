@@ -23,13 +23,13 @@ use Rattle.wasm_operator_validator_store.specs.Giving.{Traps, Makes, GivesOperat
 use Rattle.wasm_operator_validator_store.specs.Soundness.{AreValid}
 use Rattle.wasm_operator_validator_store.proofs.Lists.{same_some, each_map, each_get, each_range, each_placed, each_take, each_replicate, each_reverse, placed_length, pairs_each}
 use Rattle.wasm_operator_validator_store.proofs.Operating.{CodeNew}
-use Rattle.wasm_operator_validator_store.proofs.Storing.{knows_later, object_evolves, object_fits, object_known, fields_evolve, written_fits}
+use Rattle.wasm_operator_validator_store.proofs.Storing.{segment_holds, knows_later, object_evolves, object_fits, object_known, fields_evolve, written_fits}
 use Rattle.wasm_operator_validator_store.proofs.Answering.{IsDone, found_needs, found_answer, no_trap, a_trap, no_trap_needs, told, top_known}
 use Rattle.wasm_operator_validator_store.proofs.Accessing.{values_known}
 use Rattle.wasm_operator_validator_store.proofs.Objects.{there_some, or_traps, of_object, type_known, under_fits, object_any, trap_any, under_traps, under_answer, pops_any, pops_split, write_any, write_needs}
 use Rattle.wasm_operator_validator_store.proofs.Making.{array_is, fit_in_order}
 use Rattle.wasm_operator_validator_store.proofs.Control.{numbers_known}
-use Rattle.wasm_operator_validator_store.proofs.Ranges.{each_fits, has_each, segment_known, segment_holds, trapped_done, answer_fits}
+use Rattle.wasm_operator_validator_store.proofs.Ranges.{each_fits, has_each, segment_known, trapped_done, answer_fits}
 
 abbrev Fields : Type 0
 Fields = List (FieldOf TypeTree)
@@ -112,13 +112,13 @@ module _ (p : Program) (valid : IsValidProgram p) (results : List ValueType) (ac
       → EachFits p ws (operand_of f.storage) → Each (Knows s) ws → Each (Knows s) given → Makes p (act ∷ acts) s a u t ws given → Done o
   array_made o x t f ws given e is answer new fit there_is gives h =
       let b : ObjectInstance = record { type = t; fields = ws } in
-      let later = object_evolves p s b in
+      let later = object_evolves s b in
       subst (λ y. IsDone p act acts (plain o more) s a y) (sym h.1.2) (record {
         answer = answer;
         store = object_fits p s b v.store (subst (λ (y : InnerOf TypeTree). FieldsFit p s y ws) (sym is) (has_each p s (operand_of f.storage) ws fit there_is));
         evolves = later;
-        values = values_known p valid results act acts s v (with_object s b) a given h.1.0 (each_map (Knows s) (Knows (with_object s b)) given (knows_later p s (with_object s b) later) gives);
-        new = new (with_object s b) (λ q d. subst (λ (y : TypeTree). Knows (with_object s b) (ref_object a.made y)) (same_some t q (sym e ∙ d)) (object_known p s t ws a.made h.0));
+        values = values_known p valid results act acts s v (with_object s b) a given h.1.0 (each_map (Knows s) (Knows (with_object s b)) given (knows_later s (with_object s b) later) gives);
+        new = new (with_object s b) (λ q d. subst (λ (y : TypeTree). Knows (with_object s b) (ref_object a.made y)) (same_some t q (sym e ∙ d)) (object_known s t ws a.made h.0));
       })
 
   pub array_new_fixed_done : (x n : ℕ) → Next (op.Gc (gc.ArrayNewFixed x n)) → Given (op.Gc (gc.ArrayNewFixed x n)) → Done (op.Gc (gc.ArrayNewFixed x n))
@@ -173,7 +173,7 @@ module _ (p : Program) (valid : IsValidProgram p) (results : List ValueType) (ac
   segment_answer : (i : ℕ) (fs : Fields) (may : FieldOf TypeTree → Move → Move) (m : Move) (us : List Value) (from n : ℕ) → range (segment_in s i) from n ≡ Some us → a.values ≡ us → m.is_answer
       → ((f : FieldOf TypeTree) (k : Move) → k.is_answer → (may f k).is_answer) → (stores_from p a act acts i fs may m).is_answer
   segment_answer i fs may m us from n e values answer any = found_answer {A = ValueType} (slice_get p.«module».elements i) _ (λ (q : ValueType) d. found_answer {A = FieldOf TypeTree} (slice_get fs 0) _ (λ (f : FieldOf TypeTree) b.
-      any f (copies p a q (operand_of f.storage) m) (answer_fits p valid results act acts s v more a u q us values (each_range (Has p s q) (segment_in s i) from n us (segment_holds p valid results act acts s v i q d) e), answer)))
+      any f (copies p a q (operand_of f.storage) m) (answer_fits p valid results act acts s v more a u q us values (each_range (Has p s q) (segment_in s i) from n us (segment_holds p s v.store i q d) e), answer)))
 
   pub array_new_elem_done : (x i : ℕ) → Next (op.Gc (gc.ArrayNewElem x i)) → Given (op.Gc (gc.ArrayNewElem x i)) → Done (op.Gc (gc.ArrayNewElem x i))
   array_new_elem_done x i c h =
@@ -214,12 +214,12 @@ module _ (p : Program) (valid : IsValidProgram p) (results : List ValueType) (ac
       let is : expanded b.type ≡ array_of f = ap (λ (z : TypeTree). expanded z) type ∙ y.1 ∙ ap (λ (z : FieldOf TypeTree). array_of z) one in
       let later = array_later b f zs is m (placed_length b.fields i us zs d) in
       let old : Each (HasField p s f) b.fields = subst (λ (z : InnerOf TypeTree). FieldsFit p s z b.fields) is (each_get (ObjectFits p s) s.objects k b v.store.objects e) in
-      let after = fields_evolve p s k b zs e later in
+      let after = fields_evolve s k b zs e later in
       subst (λ z. IsDone p act acts (plain o more) s a z) (sym same) (record {
         answer = answer;
         store = written_fits p s k b zs e later v.store (subst (λ (z : InnerOf TypeTree). FieldsFit p s z zs) (sym is) (each_placed (HasField p s f) b.fields i us zs old has d));
         evolves = after;
-        values = values_known p valid results act acts s v (with_fields s k b zs) a given values (each_map (Knows s) (Knows (with_fields s k b zs)) given (knows_later p s (with_fields s k b zs) after) were);
+        values = values_known p valid results act acts s v (with_fields s k b zs) a given values (each_map (Knows s) (Knows (with_fields s k b zs)) given (knows_later s (with_fields s k b zs) after) were);
         new = new;
       })
 

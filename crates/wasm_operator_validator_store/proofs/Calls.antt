@@ -22,7 +22,7 @@ use Rattle.wasm_operator_validator_store.specs.Soundness.{AreValid}
 use Rattle.wasm_operator_validator_store.proofs.Lists.{none_some, same_some, each_get}
 use Rattle.wasm_operator_validator_store.proofs.Operating.{OnTop, HostNew, CallsNew, CodeNew}
 use Rattle.wasm_operator_validator_store.proofs.Answering.{IsDone, found_answer, no_trap, a_trap}
-use Rattle.wasm_operator_validator_store.proofs.Accessing.{table_holds}
+use Rattle.wasm_operator_validator_store.proofs.Storing.{table_holds}
 use Rattle.wasm_operator_validator_store.proofs.Objects.{there_some, or_traps}
 use Rattle.wasm_operator_validator_store.proofs.Throwing.{back_any}
 use Rattle.wasm_operator_validator_store.proofs.Casting.{choose_any, pops_top}
@@ -64,7 +64,7 @@ module _ (p : Program) (valid : IsValidProgram p) (results : List ValueType) (ac
     values = host_values tail a.throws h.2 h.3;
     new = new u (λ e. host_new tail h.3);
   }
-  begins_done o tail (Some f) c h answer new = still o (answer f refl) (new s (λ e. absurd (none_some f (sym e)))) h
+  begins_done o tail (Some f) c h answer new = still o (answer f refl) (new s (λ e. absurd (none_some f (sym e)))) h.1
 
   begin_some : (q : Option Body) (f : Body) (t : TypeTree) (b : Signature) (args : List Value) (owed : List ValueType) (rest : List Activation) → q ≡ Some f → (begin p a q t b args owed rest).is_answer
   begin_some q f t b args owed rest e = subst (λ (o : Option Body). (begin p a o t b args owed rest).is_answer) (sym e) tt
@@ -109,10 +109,19 @@ module _ (p : Program) (valid : IsValidProgram p) (results : List ValueType) (ac
   through_answer : (tail : Bool) (y x i : ℕ) (w : Value) → slice_get (table_in s x) i ≡ Some w → a.held ≡ w → a.traps ≡ false
       → ((q : TypeTree) (ws : List Value) → slice_get p.«module».types y ≡ Some q → (tested tail q ws a.condition).is_answer) → (call_indirect p a act acts tail y x more).is_answer
   through_answer tail y x i w e held traps g = found_answer {A = Table} (slice_get p.«module».tables x) _ (λ (t : Table) d. found_answer {A = TypeTree} (slice_get p.«module».types y) _ (λ (q : TypeTree) c.
-      no_trap p a (through tail t q (drop 1 vs)) traps (subst (λ z. Fits p z t.element) (sym held) (each_get (Has p s t.element) (table_in s x) i w (table_holds p valid results act acts s v x t d) e).0, g q (drop 1 vs) c)))
+      no_trap p a (through tail t q (drop 1 vs)) traps (subst (λ z. Fits p z t.element) (sym held) (each_get (Has p s t.element) (table_in s x) i w (table_holds p s v.store x t d) e).0, g q (drop 1 vs) c)))
 
   through_traps : (tail : Bool) (y x : ℕ) → IsTrue a.traps → (call_indirect p a act acts tail y x more).is_answer
   through_traps tail y x e = found_answer {A = Table} (slice_get p.«module».tables x) _ (λ (t : Table) d. found_answer {A = TypeTree} (slice_get p.«module».types y) _ (λ (q : TypeTree) c. a_trap p a (through tail t q (drop 1 vs)) e))
+
+  -- it traps, or goes on with what is there
+  through_any : (tail : Bool) (y x i : ℕ) (w : Value) → slice_get (table_in s x) i ≡ Some w → a.held ≡ w
+      → ((q : TypeTree) (ws : List Value) → slice_get p.«module».types y ≡ Some q → (tested tail q ws a.condition).is_answer) → (call_indirect p a act acts tail y x more).is_answer
+  through_any tail y x i w e held g = by_trap a.traps refl
+    where
+      by_trap : (b : Bool) → a.traps ≡ b → (call_indirect p a act acts tail y x more).is_answer
+      by_trap true t = through_traps tail y x t
+      by_trap false t = through_answer tail y x i w e held t g
 
   indirect_done : (tail : Bool) (o : Op) (y x : ℕ) → Next o → ((call_indirect p a act acts tail y x more).is_answer → (execute p a act acts (plain o more)).is_answer)
       → ((w : Store) → (a.traps ≡ false → a.condition ≡ true → CallsNew (Knows w) p a act acts a.held) → CodeNew (Knows w) p a act acts (plain o more))
@@ -121,19 +130,19 @@ module _ (p : Program) (valid : IsValidProgram p) (results : List ValueType) (ac
       (λ t. still o (answer (through_traps tail y x t.0)) (new s (λ n q. absurd (true≢false (sym t.0 ∙ n)))) t.1)
       (λ r.
       let t = there_some p (act ∷ acts) s a u (slice_get p.«module».types y) _ r.2 in
-      by_test r.0 r.1 t.0 t.1 t.2.0 t.2.1 t.2.2 a.condition refl t.2.3)
+      by_test r.0 r.1 t.0 t.1 t.2.0 t.2.1 a.condition refl t.2.2)
       (or_traps p (act ∷ acts) s a u (slice_get (table_in s x) (bits_of top)) _ h)
     where
-      by_test : (w : Value) → slice_get (table_in s x) (bits_of top) ≡ Some w → (t : TypeTree) → slice_get p.«module».types y ≡ Some t → a.held ≡ w → a.traps ≡ false
+      by_test : (w : Value) → slice_get (table_in s x) (bits_of top) ≡ Some w → (t : TypeTree) → slice_get p.«module».types y ≡ Some t → a.held ≡ w
           → (IsTrue a.condition ↔ Fits p w (ref false (concrete t))) → (b : Bool) → a.condition ≡ b → Either b (Calls p (act ∷ acts) s a u tail w) (Stays p (act ∷ acts) s a u) → Done o
-      by_test w e t d held traps test true b k = calls_done o tail w c k
-          (λ g. answer (through_answer tail y x (bits_of top) w e held traps (λ q ws f. subst (λ z. (tested tail q ws z).is_answer) (sym b) (
+      by_test w e t d held test true b k = calls_done o tail w c k
+          (λ g. answer (through_any tail y x (bits_of top) w e held (λ q ws f. subst (λ z. (tested tail q ws z).is_answer) (sym b) (
             subst (λ z. Fits p z (ref false (concrete q))) (sym held) (subst (λ (z : TypeTree). Fits p w (ref false (concrete z))) (same_some t q (sym d ∙ f)) (test.0 b)),
             subst (λ z. (invoke p a act acts tail z ws more).is_answer) (sym held) (g ws),
           ))))
           (λ y n. new y (λ q r. subst (CallsNew (Knows y) p a act acts) (sym held) n))
-      by_test w e t d held traps test false b k = still o
-          (answer (through_answer tail y x (bits_of top) w e held traps (λ q ws f. subst (λ z. (tested tail q ws z).is_answer) (sym b) tt)))
+      by_test w e t d held test false b k = still o
+          (answer (through_any tail y x (bits_of top) w e held (λ q ws f. subst (λ z. (tested tail q ws z).is_answer) (sym b) tt)))
           (new s (λ q r. absurd (true≢false (sym r ∙ b)))) k
 
   -- ---- control

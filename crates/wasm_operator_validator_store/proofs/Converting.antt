@@ -1,5 +1,5 @@
 -- References that go from one hierarchy to another and back, and unboxed scalars.
-use Rattle.std.proofs.Common.{◌≡◌, ℕ, Bool, true, false, List, [], ◌∷◌, ◌++◌, refl, sym, ap, subst, ◌∙◌, get_or, slice_get, arith, true≢false}
+use Rattle.std.proofs.Common.{◌≡◌, ℕ, Bool, true, false, List, [], ◌∷◌, ◌++◌, refl, sym, ap, subst, ◌∙◌, inl, get_or, slice_get, true≢false}
 use Rattle.std.proofs.lemmas.List.Elements.{All-nil, All-cons, All-contains}
 use Rattle.std.specs.Prelude.{All, ◌%◌, ◌^◌}
 use mathlib.Core.Logic.{⊎_elim}
@@ -27,7 +27,7 @@ use Rattle.wasm_operator_validator_store.specs.ValidStores.{Each, Knows, Has, St
 use Rattle.wasm_operator_validator_store.specs.Giving.{Stays, Unboxes, Externalises, ConvertsToExtern, ConvertsToAny, GivesOperator}
 use Rattle.wasm_operator_validator_store.specs.Soundness.{AreValid}
 use Rattle.wasm_operator_validator_store.proofs.Lists.{each_append, each_get, get_append}
-use Rattle.wasm_operator_validator_store.proofs.Storing.{stays, is_same, globals_fit, tables_fit, segments_fit, objects_fit, exceptions_fit, externs_fit, has_later}
+use Rattle.wasm_operator_validator_store.proofs.Storing.{stays, is_same, global_is_same, table_is_same, globals_fit, tables_fit, segments_fit, objects_fit, exceptions_fit, externs_fit, globals_there, tables_there, tags_there, has_later}
 use Rattle.wasm_operator_validator_store.proofs.Answering.{IsDone, told, top_known}
 use Rattle.wasm_operator_validator_store.proofs.Accessing.{unchanged, values_known, exchanged, fit_as}
 use Rattle.wasm_operator_validator_store.proofs.Objects.{there_some, pops_split}
@@ -58,11 +58,12 @@ not_shared t s = All-contains (λ (u : TypeTree). is_shared u ≡ false) s.types
 
 -- ---- an external reference is made
 
-module _ (p : Program) (s : Store) (w : Value) where
-  pub extern_evolves : Evolves p s (with_extern s w)
+module _ (s : Store) (w : Value) where
+  pub extern_evolves : Evolves s (with_extern s w)
   extern_evolves = record {
-    globals = λ y g e m. refl;
-    tables = λ y. omega arith;
+    globals = λ k g d. (g, d, global_is_same g);
+    tables = λ k t d. (t, d, table_is_same t);
+    segments = λ i vs d. (vs, d, inl refl);
     objects = λ k q d. (q, d, is_same q);
     exceptions = λ k y d. d;
     tags = λ k t d. d;
@@ -70,16 +71,19 @@ module _ (p : Program) (s : Store) (w : Value) where
     addresses = refl;
   }
 
+module _ (p : Program) (s : Store) (w : Value) where
   pub extern_fits : StoreFits p s → Has p s (ref false (abstract false any)) w → StoreFits p (with_extern s w)
   extern_fits f h = record {
-    globals = globals_fit p s (with_extern s w) extern_evolves f;
-    tables = tables_fit p s (with_extern s w) extern_evolves f;
-    segments = segments_fit p s (with_extern s w) extern_evolves f;
-    objects = objects_fit p s (with_extern s w) extern_evolves f;
-    exceptions = exceptions_fit p s (with_extern s w) extern_evolves f;
+    globals = globals_fit p s (with_extern s w) (extern_evolves s w) f;
+    tables = tables_fit p s (with_extern s w) (extern_evolves s w) f;
+    segments = segments_fit p s (with_extern s w) (extern_evolves s w) f;
+    objects = objects_fit p s (with_extern s w) (extern_evolves s w) f;
+    exceptions = exceptions_fit p s (with_extern s w) (extern_evolves s w) f;
     tags = f.tags;
-    externs = each_append (Has p (with_extern s w) (ref false (abstract false any))) s.externs (w ∷ []) (externs_fit p s (with_extern s w) extern_evolves f) (has_later p s (with_extern s w) extern_evolves (ref false (abstract false any)) w h, tt);
-    addresses = f.addresses;
+    externs = each_append (Has p (with_extern s w) (ref false (abstract false any))) s.externs (w ∷ []) (externs_fit p s (with_extern s w) (extern_evolves s w) f) (has_later p s (with_extern s w) (extern_evolves s w) (ref false (abstract false any)) w h, tt);
+    global_addresses = globals_there p s (with_extern s w) (extern_evolves s w) f;
+    table_addresses = tables_there p s (with_extern s w) (extern_evolves s w) f;
+    tag_addresses = tags_there p s (with_extern s w) (extern_evolves s w) f;
   }
 
 -- what is in `any`, or an external reference, is not shared
@@ -139,8 +143,8 @@ module _ (p : Program) (valid : IsValidProgram p) (results : List ValueType) (ac
       let has : Has p s (ref false (abstract false any)) w = (subst (λ c. Fits p w (ref false (abstract c any))) (sym (internal_whole p w of.0 n of.1)) fit, subst (Knows s) e (top_known p valid results act acts s v 0)) in
       let known : Each (Knows u) a.values = subst (Each (Knows u)) (sym h.1) ((w, h.2), tt) in
       ⊎_elim
-      (λ d. record { answer = answer; store = subst (StoreFits p) (sym d) v.store; evolves = subst (Evolves p s) (sym d) (stays p s); values = known; new = tt })
-      (λ d. record { answer = answer; store = subst (StoreFits p) (sym d) (extern_fits p s w v.store has); evolves = subst (Evolves p s) (sym d) (extern_evolves p s w); values = known; new = tt })
+      (λ d. record { answer = answer; store = subst (StoreFits p) (sym d) v.store; evolves = subst (Evolves s) (sym d) (stays s); values = known; new = tt })
+      (λ d. record { answer = answer; store = subst (StoreFits p) (sym d) (extern_fits p s w v.store has); evolves = subst (Evolves s) (sym d) (extern_evolves s w); values = known; new = tt })
       h.3
 
   to_extern : (w : Value) → top ≡ w → Next (op.Gc gc.ExternConvertAny) → ConvertsToExtern p (act ∷ acts) s a u act w → Done (op.Gc gc.ExternConvertAny)

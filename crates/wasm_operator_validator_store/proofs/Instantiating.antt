@@ -1,24 +1,58 @@
 -- In the first store of a program all fits.
-use Rattle.std.proofs.Common.{◌≡◌, ℕ, zero, suc, ◌+◌, false, List, [], ◌∷◌, ◌++◌, Option, Some, None, refl, sym, ap, subst, ◌∙◌, length, map, take, slice_get, arith}
+use Rattle.std.proofs.Common.{◌≡◌, ℕ, suc, ◌+◌, ◌≤◌, false, List, [], ◌∷◌, ◌++◌, Option, Some, None, refl, sym, ap, subst, ◌∙◌, length, map, take, slice_get, take_all, arith}
 use Rattle.std.specs.Prelude.{replicate}
 use Rattle.wasm_types.specs.trees.Types.{ref, abstract, any, InnerOf, array_of, struct_of}
 use Rattle.wasm_types.specs.trees.Trees.{TypeTree}
-use Rattle.wasm_types.specs.trees.Below.{expanded}
+use Rattle.wasm_types.specs.trees.Below.{Below, expanded}
+use Rattle.wasm_types.specs.trees.laws.Below.{below_reflexive}
 use Rattle.wasm_operators_encoding.specs.expressions.Code.{Code}
 use Rattle.wasm_operator_validator_rules.specs.Operands.{ValueType, Operand, bottom, some_reference, known, stack}
 use Rattle.wasm_operator_validator_rules.specs.Context.{Table, Global}
-use Rattle.wasm_operator_validator_soundness.specs.runs.Values.{Function, Program, Value, number_value, ref_null, ref_function, ref_object, ref_i31, ref_host, ref_extern, ref_exn, IsMade, IsNamed, Fits, AllFit, default_of}
+use Rattle.wasm_operator_validator_soundness.specs.runs.Values.{Function, Program, Value, number_value, ref_null, ref_function, ref_object, ref_i31, ref_host, ref_extern, ref_exn, IsMade, IsNamed, Fits, AllFit}
+use Rattle.wasm_operator_validator_soundness.specs.runs.ValidStates.{IsThrown}
+use Rattle.wasm_operator_validator_soundness.specs.runs.Machine.{address}
 use Rattle.wasm_operator_validator_soundness.specs.runs.Soundness.{IsValidProgram}
-use Rattle.wasm_operator_validator_store.specs.Stores.{Store, with_table}
-use Rattle.wasm_operator_validator_store.specs.ValidStores.{Each, Pairs, Knows, Has, HasField, FieldsFit, ObjectFits, ThrownFits, StoreFits, Evolves, HasLocal}
-use Rattle.wasm_operator_validator_store.specs.Instantiation.{without_body, seen_with, Filling, with_globals, with_segment, GlobalsBecome, Fills, TablesBecome, ElementsBecome, SegmentsBecome, FirstStoresFit}
-use Rattle.wasm_operator_validator_store.proofs.Lists.{same_some, none_some, each_map, each_replicate, pairs_map, pairs_set}
+use Rattle.wasm_operator_validator_store.specs.Stores.{GlobalInstance, TableInstance, ExceptionInstance, Store, bits_of, with_elements, table_address, table_in, segment_in, with_table}
+use Rattle.wasm_operator_validator_store.specs.ValidStores.{Each, Pairs, Knows, Has, HasField, FieldsFit, ObjectFits, ThrownFits, GlobalMatches, TableMatches, IsGlobalAt, IsTableAt, IsTagAt, GlobalFits, TableFits, StoreFits, Evolves, HasLocal}
+use Rattle.wasm_operator_validator_store.specs.Instantiation.{without_body, seen_with, IsConstant, Filling, Item, function_item, constant_item, Use, kept, dropped, written, Segment, Initials, GlobalsAreTyped, IsFilling, TablesAreTyped, IsItem, IsUse, SegmentsAreTyped, addresses_from, empty_table, imports_of, own_tables, own_tags, allocated, with_new_global, seeing_globals, with_segment, all_seen, GlobalsBecome, Fills, TablesBecome, ItemBecomes, ItemsBecome, SegmentsBecome, IsUsed, AreUsed, FirstStoresFit}
+use Rattle.wasm_operator_validator_store.proofs.Lists.{same_some, each_append, each_changed, each_map, each_placed, each_replicate, each_from, each_of_map, pairs_map, pairs_set, pairs_of_map, pairs_take, pairs_more, pairs_join, get_append, get_last, get_map, get_past, get_drop, get_changed_by}
 use Rattle.wasm_operator_validator_store.proofs.Keeping.{default_kept}
-use Rattle.wasm_operator_validator_store.proofs.Storing.{knows_plain, knows_later, stays, has_later}
+use Rattle.wasm_operator_validator_store.proofs.Storing.{knows_plain, stays, global_there, has_later, all_above, table_at, table_holds, segment_holds, segment_fits}
 use Rattle.wasm_operator_validator_store.proofs.Throwing.{get_map_back}
 use Rattle.wasm_operator_validator_store.proofs.Steps.{store_constants_sound, evolves_again}
 
 -- ---- what fits in one program and store fits in another
+
+-- a value of a program is one of another that has functions of these types
+module _ (p q : Program) (named : (x : ℕ) (f : Function) → slice_get p.functions x ≡ Some f → (h : Function) × (slice_get q.functions x ≡ Some h) × (h.type ≡ f.type)) where
+  named_too : (i : Option ℕ) (t : TypeTree) → IsNamed p i t → IsNamed q i t
+  named_too None t h = tt
+  named_too (Some x) t h = let r = named x h.0 h.1 in (r.0, r.1, r.2 ∙ h.2)
+
+  made_too : (w : Value) → IsMade p w → IsMade q w
+  made_too (ref_function i t) h = (h.0, h.1, named_too i t h.2)
+  made_too (ref_object k t) h = h
+  made_too (ref_exn k t) h = h
+  made_too (number_value n b) h = tt
+  made_too (ref_null c r) h = tt
+  made_too (ref_i31 b) h = tt
+  made_too (ref_host k) h = tt
+  made_too (ref_extern k) h = tt
+
+-- what a store knows another knows, which has the same objects, exceptions and external references
+module _ (s u : Store) (objects : u.objects ≡ s.objects) (exceptions : u.exceptions ≡ s.exceptions) (externs : u.externs ≡ s.externs) (tags : (k : ℕ) (t : TypeTree) → slice_get s.tags k ≡ Some t → slice_get u.tags k ≡ Some t) where
+  knows_too : (w : Value) → Knows s w → Knows u w
+  knows_too (ref_object k r) h = (h.0, ap (λ os. slice_get os k) objects ∙ h.1, h.2)
+  knows_too (ref_exn k r) h = (h.0, ap (λ xs. slice_get xs k) exceptions ∙ h.1, tags (h.0).tag r h.2)
+  knows_too (ref_extern k) h = (h.0, ap (λ es. slice_get es k) externs ∙ h.1)
+  knows_too (number_value n b) h = tt
+  knows_too (ref_null c r) h = tt
+  knows_too (ref_function i r) h = tt
+  knows_too (ref_i31 b) h = tt
+  knows_too (ref_host k) h = tt
+
+same_knows : (s u : Store) → u.objects ≡ s.objects → u.exceptions ≡ s.exceptions → u.externs ≡ s.externs → u.tags ≡ s.tags → (w : Value) → Knows s w → Knows u w
+same_knows s u o x e t w h = knows_too s u o x e (λ k r i. ap (λ ts. slice_get ts k) t ∙ i) w h
 
 module _ (p q : Program) (s u : Store) (made : (w : Value) → IsMade p w → IsMade q w) (knows : (w : Value) → Knows s w → Knows u w) where
   has_too : (t : ValueType) (w : Value) → Has p s t w → Has q u t w
@@ -40,59 +74,67 @@ module _ (p q : Program) (s u : Store) (made : (w : Value) → IsMade p w → Is
   fields_too (array_of f) ws h = each_map (HasField p s f) (HasField q u f) ws (λ w i. has_too _ w i) h
   fields_too x ws h = absurd h
 
-  -- with the same objects, exceptions and the like
-  fits_too : (globals : Pairs (λ (g : Global) w. Has q u g.content w) q.«module».globals u.globals) (tables : Pairs (λ (t : Table) ws. Each (Has p s t.element) ws) q.«module».tables u.tables)
-      (segments : Pairs (λ t ws. Each (Has p s t) ws) q.«module».elements u.segments) → u.objects ≡ s.objects → u.exceptions ≡ s.exceptions → u.tags ≡ s.tags → u.externs ≡ s.externs → u.tag_addresses ≡ s.tag_addresses → q.«module».tags ≡ p.«module».tags
+  globals_too : (gs : List GlobalInstance) → Each (GlobalFits p s) gs → Each (GlobalFits q u) gs
+  globals_too gs h = each_map (GlobalFits p s) (GlobalFits q u) gs (λ g i. has_too g.type.content g.value i) h
+
+  tables_too : (ts : List TableInstance) → Each (TableFits p s) ts → Each (TableFits q u) ts
+  tables_too ts h = each_map (TableFits p s) (TableFits q u) ts (λ t i. each_too t.type.element t.elements i) h
+
+  segments_too : (ts : List ValueType) (vss : List (List Value)) → Pairs (λ t ws. Each (Has p s t) ws) ts vss → Pairs (λ t ws. Each (Has q u t) ws) ts vss
+  segments_too ts vss h = pairs_map (λ t ws. Each (Has p s t) ws) (λ t ws. Each (Has q u t) ws) ts vss (λ t ws i. each_too t ws i) h
+
+  -- with the same objects, exceptions and external references, and with the tags that there were
+  fits_too : Each (GlobalFits q u) u.globals → Each (TableFits q u) u.tables → Pairs (λ t ws. Each (Has q u t) ws) q.«module».elements u.segments
+      → Pairs (IsGlobalAt u) q.«module».globals u.addresses.globals → Pairs (IsTableAt u) q.«module».tables u.addresses.tables → Pairs (IsTagAt u) q.«module».tags u.addresses.tags
+      → u.objects ≡ s.objects → u.exceptions ≡ s.exceptions → u.externs ≡ s.externs → ((k : ℕ) (t : TypeTree) → slice_get s.tags k ≡ Some t → slice_get u.tags k ≡ Some t) → Each IsThrown u.tags
       → StoreFits p s → StoreFits q u
-  fits_too globals tables segments objects exceptions tags externs addresses same f = record {
+  fits_too globals tables segments global_addresses table_addresses tag_addresses objects exceptions externs tags_kept tags f = record {
     globals = globals;
-    tables = pairs_map (λ (t : Table) ws. Each (Has p s t.element) ws) (λ (t : Table) ws. Each (Has q u t.element) ws) q.«module».tables u.tables (λ t ws i. each_too t.element ws i) tables;
-    segments = pairs_map (λ t ws. Each (Has p s t) ws) (λ t ws. Each (Has q u t) ws) q.«module».elements u.segments (λ t ws i. each_too t ws i) segments;
+    tables = tables;
+    segments = segments;
     objects = subst (Each (ObjectFits q u)) (sym objects) (each_map (ObjectFits p s) (ObjectFits q u) s.objects (λ o h. fields_too (expanded o.type) o.fields h) f.objects);
-    exceptions = subst (Each (ThrownFits q u)) (sym exceptions) (each_map (ThrownFits p s) (ThrownFits q u) s.exceptions (λ x h. (h.0, subst (λ ts. slice_get ts x.tag ≡ Some h.0) (sym tags) h.1, (λ b is. all_too x.values (stack b.params) (h.2 b is)), each_map (Knows s) (Knows u) x.values knows h.3)) f.exceptions);
-    tags = subst (Each _) (sym tags) f.tags;
+    exceptions = subst (Each (ThrownFits q u)) (sym exceptions) (each_map (ThrownFits p s) (ThrownFits q u) s.exceptions thrown f.exceptions);
+    tags = tags;
     externs = subst (Each (Has q u (ref false (abstract false any)))) (sym externs) (each_too (ref false (abstract false any)) s.externs f.externs);
-    addresses = addressed;
+    global_addresses = global_addresses;
+    table_addresses = table_addresses;
+    tag_addresses = tag_addresses;
   }
     where
-      addressed : Pairs (λ t k. slice_get u.tags k ≡ Some t) q.«module».tags u.tag_addresses
-      addressed = subst (λ ts. Pairs (λ t k. slice_get ts k ≡ Some t) q.«module».tags u.tag_addresses) (sym tags) (subst (λ ks. Pairs (λ t k. slice_get s.tags k ≡ Some t) q.«module».tags ks) (sym addresses) (subst (λ ts. Pairs (λ t k. slice_get s.tags k ≡ Some t) ts s.tag_addresses) (sym same) f.addresses))
+      thrown : (x : ExceptionInstance) → ThrownFits p s x → ThrownFits q u x
+      thrown x h = (h.0, tags_kept x.tag h.0 h.1, (λ b is. all_too x.values (stack b.params) (h.2 b is)), each_map (Knows s) (Knows u) x.values knows h.3)
 
--- ---- stores that differ in globals, tables or segments alone
+-- what is at an address of one store is there in another that has it too
+module _ (s u : Store) where
+  globals_stay : ((k : ℕ) (g : GlobalInstance) → slice_get s.globals k ≡ Some g → slice_get u.globals k ≡ Some g) → (gs : List Global) (ks : List ℕ) → Pairs (IsGlobalAt s) gs ks → Pairs (IsGlobalAt u) gs ks
+  globals_stay still gs ks h = pairs_map (IsGlobalAt s) (IsGlobalAt u) gs ks (λ g k r. (r.0, still k r.0 r.1, r.2)) h
 
-pub same_knows : (s u : Store) → u.objects ≡ s.objects → u.exceptions ≡ s.exceptions → u.tags ≡ s.tags → u.externs ≡ s.externs → (w : Value) → Knows s w → Knows u w
-same_knows s u o x t e (ref_object k q) h = (h.0, ap (λ os. slice_get os k) o ∙ h.1, h.2)
-same_knows s u o x t e (ref_exn k q) h = (h.0, ap (λ xs. slice_get xs k) x ∙ h.1, ap (λ ts. slice_get ts (h.0).tag) t ∙ h.2)
-same_knows s u o x t e (ref_extern k) h = (h.0, ap (λ es. slice_get es k) e ∙ h.1)
-same_knows s u o x t e (number_value n b) h = tt
-same_knows s u o x t e (ref_null c q) h = tt
-same_knows s u o x t e (ref_function i q) h = tt
-same_knows s u o x t e (ref_i31 b) h = tt
-same_knows s u o x t e (ref_host k) h = tt
+  tables_stay : ((k : ℕ) (t : TableInstance) → slice_get s.tables k ≡ Some t → slice_get u.tables k ≡ Some t) → (ts : List Table) (ks : List ℕ) → Pairs (IsTableAt s) ts ks → Pairs (IsTableAt u) ts ks
+  tables_stay still ts ks h = pairs_map (IsTableAt s) (IsTableAt u) ts ks (λ t k r. (r.0, still k r.0 r.1, r.2)) h
 
--- ---- what constants see
+  tags_stay : ((k : ℕ) (t : TypeTree) → slice_get s.tags k ≡ Some t → slice_get u.tags k ≡ Some t) → (ts : List TypeTree) (ks : List ℕ) → Pairs (IsTagAt s) ts ks → Pairs (IsTagAt u) ts ks
+  tags_stay still ts ks h = pairs_map (IsTagAt s) (IsTagAt u) ts ks (λ t k r. still k t r) h
 
-get_map : {A B : Type 0} (f : A → B) (xs : List A) (i : ℕ) (x : A) → slice_get xs i ≡ Some x → slice_get (map f xs) i ≡ Some (f x)
-get_map f [] i x e = absurd (none_some x e)
-get_map f (y ∷ xs) zero x e = ap (λ z. Some (f z)) (same_some y x e)
-get_map f (y ∷ xs) (suc i) x e = get_map f xs i x e
+global_matches : (g : Global) → GlobalMatches g g
+global_matches g = (refl, refl, below_reflexive g.content, (λ m. below_reflexive g.content))
 
-module _ {A B : Type 0} (P : A → B → Type 0) where
-  pairs_take : (n : ℕ) (xs : List A) (ys : List B) → Pairs P xs ys → Pairs P (take n xs) (take n ys)
-  pairs_take zero xs ys h = tt
-  pairs_take (suc n) [] [] h = tt
-  pairs_take (suc n) [] (y ∷ ys) h = absurd h
-  pairs_take (suc n) (x ∷ xs) [] h = absurd h
-  pairs_take (suc n) (x ∷ xs) (y ∷ ys) h = (h.0, pairs_take n xs ys h.1)
+table_matches : (t : Table) → TableMatches t t
+table_matches t = (refl, refl, below_reflexive t.element, below_reflexive t.element)
 
-  pairs_more : (n : ℕ) (xs : List A) (ys : List B) (x : A) (y : B) → slice_get xs n ≡ Some x → P x y → Pairs P (take n xs) ys → Pairs P (take (suc n) xs) (ys ++ y ∷ [])
-  pairs_more n [] ys x y e k h = absurd (none_some x e)
-  pairs_more zero (z ∷ xs) [] x y e k h = (subst (λ w. P w y) (sym (same_some z x e)) k, tt)
-  pairs_more zero (z ∷ xs) (w ∷ ys) x y e k h = absurd h
-  pairs_more (suc n) (z ∷ xs) [] x y e k h = absurd h
-  pairs_more (suc n) (z ∷ xs) (w ∷ ys) x y e k h = (h.0, pairs_more n xs ys x y e k h.1)
+-- ---- new addresses
+
+one_further : (P : ℕ → Type 0) (n i : ℕ) → P (n + suc i) → P (suc n + i)
+one_further P n i h = let same : n + suc i ≡ suc n + i = omega arith in subst P same h
+
+fresh : {A : Type 0} (P : A → ℕ → Type 0) (xs : List A) (n : ℕ) → ((i : ℕ) (x : A) → slice_get xs i ≡ Some x → P x (n + i)) → Pairs P xs (addresses_from n (length xs))
+fresh P [] n h = tt
+fresh P (x ∷ xs) n h =
+    let same : n + 0 ≡ n = omega arith in
+    (subst (P x) same (h 0 x refl), fresh P xs (suc n) (λ i y e. one_further (P y) n i (h (suc i) y e)))
 
 module _ (p : Program) (valid : IsValidProgram p) where
+  -- ---- what constants see
+
   seen_valid : (gs : List Global) → IsValidProgram (seen_with p gs)
   seen_valid gs = record {
     standard = valid.standard;
@@ -102,148 +144,202 @@ module _ (p : Program) (valid : IsValidProgram p) where
     tags = valid.tags;
   }
 
-  named_seen : (gs hs : List Global) (i : Option ℕ) (t : TypeTree) → IsNamed (seen_with p gs) i t → IsNamed (seen_with p hs) i t
-  named_seen gs hs None t h = tt
-  named_seen gs hs (Some x) t h = h
-
+  -- values of the program with these globals are values of it with others, and of the whole program, and back
   made_seen : (gs hs : List Global) (w : Value) → IsMade (seen_with p gs) w → IsMade (seen_with p hs) w
-  made_seen gs hs (ref_function i t) h = (h.0, h.1, named_seen gs hs i t h.2)
-  made_seen gs hs (ref_object k t) h = h
-  made_seen gs hs (ref_exn k t) h = h
-  made_seen gs hs (number_value n b) h = tt
-  made_seen gs hs (ref_null c q) h = tt
-  made_seen gs hs (ref_i31 b) h = tt
-  made_seen gs hs (ref_host k) h = tt
-  made_seen gs hs (ref_extern k) h = tt
-
-  named_whole : (gs : List Global) (i : Option ℕ) (t : TypeTree) → IsNamed (seen_with p gs) i t → IsNamed p i t
-  named_whole gs None t h = tt
-  named_whole gs (Some x) t h = let r = get_map_back without_body p.functions x h.0 h.1 in (r.0, r.1, ap (λ (f : Function). f.type) r.2 ∙ h.2)
+  made_seen gs hs w h = made_too (seen_with p gs) (seen_with p hs) (λ x f e. (f, e, refl)) w h
 
   made_whole : (gs : List Global) (w : Value) → IsMade (seen_with p gs) w → IsMade p w
-  made_whole gs (ref_function i t) h = (h.0, h.1, named_whole gs i t h.2)
-  made_whole gs (ref_object k t) h = h
-  made_whole gs (ref_exn k t) h = h
-  made_whole gs (number_value n b) h = tt
-  made_whole gs (ref_null c q) h = tt
-  made_whole gs (ref_i31 b) h = tt
-  made_whole gs (ref_host k) h = tt
-  made_whole gs (ref_extern k) h = tt
-
-  named_bare : (gs : List Global) (i : Option ℕ) (t : TypeTree) → IsNamed p i t → IsNamed (seen_with p gs) i t
-  named_bare gs None t h = tt
-  named_bare gs (Some x) t h = (without_body h.0, get_map without_body p.functions x h.0 h.1, h.2)
+  made_whole gs w h = made_too (seen_with p gs) p (λ x f e. let r = get_map_back without_body p.functions x f e in (r.0, r.1, ap (λ (k : Function). k.type) r.2)) w h
 
   made_bare : (gs : List Global) (w : Value) → IsMade p w → IsMade (seen_with p gs) w
-  made_bare gs (ref_function i t) h = (h.0, h.1, named_bare gs i t h.2)
-  made_bare gs (ref_object k t) h = h
-  made_bare gs (ref_exn k t) h = h
-  made_bare gs (number_value n b) h = tt
-  made_bare gs (ref_null c q) h = tt
-  made_bare gs (ref_i31 b) h = tt
-  made_bare gs (ref_host k) h = tt
-  made_bare gs (ref_extern k) h = tt
+  made_bare gs w h = made_too p (seen_with p gs) (λ x f e. (without_body f, get_map without_body p.functions x f e, refl)) w h
 
-  -- a store with other globals
-  other_globals : (gs hs : List Global) (s : Store) (vs : List Value) → Pairs (λ (g : Global) w. Has (seen_with p hs) (with_globals s vs) g.content w) hs vs → StoreFits (seen_with p gs) s → StoreFits (seen_with p hs) (with_globals s vs)
-  other_globals gs hs s vs globals f = fits_too (seen_with p gs) (seen_with p hs) s (with_globals s vs) (made_seen gs hs) (same_knows s (with_globals s vs) refl refl refl refl) globals f.tables f.segments refl refl refl refl refl refl f
+  abbrev all : List Global
+  all = p.«module».globals
 
-  globals_too : (gs hs : List Global) (s u : Store) (knows : (w : Value) → Knows s w → Knows u w) (xs : List Global) (vs : List Value) → Pairs (λ (g : Global) w. Has (seen_with p gs) s g.content w) xs vs → Pairs (λ (g : Global) w. Has (seen_with p hs) u g.content w) xs vs
-  globals_too gs hs s u knows xs vs h = pairs_map (λ (g : Global) w. Has (seen_with p gs) s g.content w) (λ (g : Global) w. Has (seen_with p hs) u g.content w) xs vs (λ g w i. has_too (seen_with p gs) (seen_with p hs) s u (made_seen gs hs) knows g.content w i) h
+  abbrev q : Program
+  q = all_seen p
+
+  -- ---- what is allocated
+
+  module _ (i : Initials) (host : Store) (f : StoreFits (imports_of p i) host) where
+    abbrev first : List Global
+    first = take i.imported_globals p.«module».globals
+
+    abbrev u : Store
+    u = allocated p i host
+
+    tags_kept : (k : ℕ) (t : TypeTree) → slice_get host.tags k ≡ Some t → slice_get (host.tags ++ own_tags p i) k ≡ Some t
+    tags_kept k t e = get_append host.tags (own_tags p i) k t e
+
+    made_first : (w : Value) → IsMade (imports_of p i) w → IsMade (seen_with p first) w
+    made_first w h = made_too (imports_of p i) (seen_with p first) (λ x g e. (g, e, refl)) w h
+
+    knows_first : (w : Value) → Knows host w → Knows u w
+    knows_first w h = knows_too host u refl refl refl tags_kept w h
+
+    own_thrown : Each IsThrown (own_tags p i)
+    own_thrown = each_from IsThrown (own_tags p i) (λ k t e. valid.tags (i.imported_tags + k) t (get_drop i.imported_tags p.«module».tags k t e))
+
+    tables_placed : Pairs (IsTableAt u) p.«module».tables (host.addresses.tables ++ addresses_from (length host.tables) (length (own_tables p i)))
+    tables_placed = pairs_join (IsTableAt u) i.imported_tables p.«module».tables host.addresses.tables (addresses_from (length host.tables) (length (own_tables p i)))
+        (tables_stay host u (λ k t e. get_append host.tables (map empty_table (own_tables p i)) k t e) (take i.imported_tables p.«module».tables) host.addresses.tables f.table_addresses)
+        (fresh (IsTableAt u) (own_tables p i) (length host.tables) (λ k t e. (empty_table t, get_past host.tables (map empty_table (own_tables p i)) k (empty_table t) (get_map empty_table (own_tables p i) k t e), table_matches t)))
+
+    tags_placed : Pairs (IsTagAt u) p.«module».tags (host.addresses.tags ++ addresses_from (length host.tags) (length (own_tags p i)))
+    tags_placed = pairs_join (IsTagAt u) i.imported_tags p.«module».tags host.addresses.tags (addresses_from (length host.tags) (length (own_tags p i)))
+        (tags_stay host u tags_kept (take i.imported_tags p.«module».tags) host.addresses.tags f.tag_addresses)
+        (fresh (IsTagAt u) (own_tags p i) (length host.tags) (λ k t e. get_past host.tags (own_tags p i) k t e))
+
+    allocated_fits : StoreFits (seen_with p first) u
+    allocated_fits = fits_too (imports_of p i) (seen_with p first) host u made_first knows_first
+        (globals_too (imports_of p i) (seen_with p first) host u made_first knows_first host.globals f.globals)
+        (each_append (TableFits (seen_with p first) u) host.tables (map empty_table (own_tables p i)) (tables_too (imports_of p i) (seen_with p first) host u made_first knows_first host.tables f.tables)
+        (each_of_map (TableFits (seen_with p first) u) empty_table (own_tables p i) (λ t. tt)))
+        (pairs_of_map (λ t ws. Each (Has (seen_with p first) u t) ws) (λ t. []) p.«module».elements (λ t. tt))
+        (globals_stay host u (λ k g e. e) first host.addresses.globals f.global_addresses) tables_placed tags_placed refl refl refl tags_kept (each_append IsThrown host.tags (own_tags p i) f.tags own_thrown) f
 
   -- ---- globals
 
-  globals_fit : (cs : List Code) (n m : ℕ) (s u : Store) → m ≡ n + length cs → StoreFits (seen_with p (take n p.«module».globals)) s → GlobalsBecome p n cs s u → StoreFits (seen_with p (take m p.«module».globals)) u
-  globals_fit [] n m s u e f h =
-      let same : n ≡ m = omega (arith, e) in
-      subst (λ k. StoreFits (seen_with p (take k p.«module».globals)) u) same (subst (λ x. StoreFits (seen_with p (take n p.«module».globals)) x) h f)
-  globals_fit (c ∷ cs) n m s u e f h =
-      let gs = take n p.«module».globals in
-      let k = store_constants_sound (seen_with p gs) (h.0).content c s h.1 h.2 (seen_valid gs) h.4 f h.5 in
-      let x = with_globals h.2 ((h.2).globals ++ h.1 ∷ []) in
+  globals_fit : (cs : List Code) (n : ℕ) (s u : Store) → GlobalsAreTyped p n cs → StoreFits (seen_with p (take n all)) s → GlobalsBecome p n cs s u → StoreFits q u
+  globals_fit [] n s u e f h =
+      let size : length all ≤ n = omega (arith, e) in
+      subst (λ gs. StoreFits (seen_with p gs) u) (take_all n all size) (subst (λ x. StoreFits (seen_with p (take n all)) x) h f)
+  globals_fit (c ∷ cs) n s u a f h =
+      let gs = take n all in
+      let hs = take (suc n) all in
+      let typed : IsConstant p gs (h.0).content c = subst (λ (g : Global). IsConstant p gs g.content c) (same_some a.0 h.0 (sym a.1 ∙ h.3)) a.2 in
+      let k = store_constants_sound (seen_with p gs) (h.0).content c s h.1 h.2 (seen_valid gs) typed f h.4 in
+      let i : GlobalInstance = record { type = h.0; value = h.1 } in
+      let x = with_new_global h.2 i in
       let knows = same_knows h.2 x refl refl refl refl in
-      let hs = take (suc n) p.«module».globals in
-      let value : Has (seen_with p hs) x (h.0).content h.1 = has_too (seen_with p gs) (seen_with p hs) h.2 x (made_seen gs hs) knows (h.0).content h.1 k.0 in
-      let old : Pairs (λ (g : Global) w. Has (seen_with p hs) x g.content w) gs (h.2).globals = globals_too gs hs h.2 x knows gs (h.2).globals (k.1).globals in
-      let all = pairs_more (λ (g : Global) w. Has (seen_with p hs) x g.content w) n p.«module».globals (h.2).globals h.0 h.1 h.3 value old in
-      globals_fit cs (suc n) m x u (omega (arith, e)) (other_globals gs hs h.2 ((h.2).globals ++ h.1 ∷ []) all k.1) h.6
+      let made = made_seen gs hs in
+      let there : Pairs (IsGlobalAt x) gs (h.2).addresses.globals = globals_stay h.2 x (λ b g e. get_append (h.2).globals (i ∷ []) b g e) gs (h.2).addresses.globals (k.1).global_addresses in
+      globals_fit cs (suc n) x u a.3 (fits_too (seen_with p gs) (seen_with p hs) h.2 x made knows
+      (each_append (GlobalFits (seen_with p hs) x) (h.2).globals (i ∷ []) (globals_too (seen_with p gs) (seen_with p hs) h.2 x made knows (h.2).globals (k.1).globals) (has_too (seen_with p gs) (seen_with p hs) h.2 x made knows (h.0).content h.1 k.0, tt))
+      (tables_too (seen_with p gs) (seen_with p hs) h.2 x made knows (h.2).tables (k.1).tables)
+      (segments_too (seen_with p gs) (seen_with p hs) h.2 x made knows p.«module».elements (h.2).segments (k.1).segments)
+      (pairs_more (IsGlobalAt x) n all (h.2).addresses.globals h.0 (length (h.2).globals) h.3 (i, get_last (h.2).globals i, global_matches h.0) there)
+      (tables_stay h.2 x (λ b t e. e) p.«module».tables (h.2).addresses.tables (k.1).table_addresses) (tags_stay h.2 x (λ b t e. e) p.«module».tags (h.2).addresses.tags (k.1).tag_addresses)
+      refl refl refl (λ b t r. r) (k.1).tags k.1) h.5
+
+  -- a store in which the module sees other globals
+  seeing_fits : (gs hs : List Global) (s : Store) (ks : List ℕ) → Pairs (IsGlobalAt s) hs ks → StoreFits (seen_with p gs) s → StoreFits (seen_with p hs) (seeing_globals s ks)
+  seeing_fits gs hs s ks there f =
+      let x = seeing_globals s ks in
+      let knows = same_knows s x refl refl refl refl in
+      let made = made_seen gs hs in
+      fits_too (seen_with p gs) (seen_with p hs) s x made knows
+      (globals_too (seen_with p gs) (seen_with p hs) s x made knows s.globals f.globals)
+      (tables_too (seen_with p gs) (seen_with p hs) s x made knows s.tables f.tables)
+      (segments_too (seen_with p gs) (seen_with p hs) s x made knows p.«module».elements s.segments f.segments)
+      (globals_stay s x (λ b g e. e) hs ks there) (tables_stay s x (λ b t e. e) p.«module».tables s.addresses.tables f.table_addresses) (tags_stay s x (λ b t e. e) p.«module».tags s.addresses.tags f.tag_addresses)
+      refl refl refl (λ b t r. r) f.tags f
 
   -- ---- tables
 
-  module _ (defaults : (x : ℕ) (t : Table) (v : Value) → slice_get p.«module».tables x ≡ Some t → default_of t.element ≡ Some v → Fits p v t.element) where
-    -- a value for a table comes with a store in which all fits
-    filled : (n x : ℕ) (t : Table) (c : Option Code) (s u : Store) (v : Value) → slice_get p.«module».tables x ≡ Some t → StoreFits (seen_with p p.«module».globals) s → Fills p n t.element c s v u
-        → Has (seen_with p p.«module».globals) u t.element v × StoreFits (seen_with p p.«module».globals) u
-    filled n x t None s u v e f h =
-        let fit = defaults x t v e h.0 in
-        let has : Has (seen_with p p.«module».globals) s t.element v = ((made_bare p.«module».globals v fit.0, fit.1), subst (HasLocal (Knows s)) h.0 (default_kept (Knows s) (knows_plain s) t.element)) in
-        subst (λ y. Has (seen_with p p.«module».globals) y t.element v × StoreFits (seen_with p p.«module».globals) y) h.1 (has, f)
-    filled n x t (Some c) s u v e f h =
-        let gs = take n p.«module».globals in
-        let vs = take n s.globals in
-        let before = with_globals s vs in
-        let some : Pairs (λ (g : Global) w. Has (seen_with p gs) before g.content w) gs vs =
-        globals_too p.«module».globals gs s before (same_knows s before refl refl refl refl) gs vs (pairs_take (λ (g : Global) w. Has (seen_with p p.«module».globals) s g.content w) n p.«module».globals s.globals f.globals) in
-        let k = store_constants_sound (seen_with p gs) t.element c before v h.0 (seen_valid gs) h.1 (other_globals p.«module».globals gs s vs some f) h.2 in
-        let after = with_globals h.0 s.globals in
-        let knows = same_knows h.0 after refl refl refl refl in
-        let onward : (w : Value) → Knows s w → Knows after w = λ w i. knows w (knows_later (seen_with p gs) before h.0 k.2 w (same_knows s before refl refl refl refl w i)) in
-        let all = globals_too p.«module».globals p.«module».globals s after onward p.«module».globals s.globals f.globals in
-        let has = has_too (seen_with p gs) (seen_with p p.«module».globals) h.0 after (made_seen gs p.«module».globals) knows t.element v k.0 in
-        subst (λ y. Has (seen_with p p.«module».globals) y t.element v × StoreFits (seen_with p p.«module».globals) y) h.3 (has, other_globals gs p.«module».globals h.0 s.globals all k.1)
+  -- a value for a table comes with a store in which all fits
+  filled : (n : ℕ) (t : ValueType) (c : Option Code) (s u : Store) (v : Value) → IsFilling p n t c → StoreFits q s → Fills p n t c s v u → Has q u t v × StoreFits q u
+  filled n t None s u v a f h =
+      let fit : Fits p v t = subst (λ w. Fits p w t) (same_some a.0 v (sym a.1 ∙ h.0)) a.2 in
+      let has : Has q s t v = ((made_bare all v fit.0, fit.1), subst (HasLocal (Knows s)) h.0 (default_kept (Knows s) (knows_plain s) t)) in
+      subst (λ y. Has q y t v × StoreFits q y) h.1 (has, f)
+  filled n t (Some c) s u v a f h =
+      let gs = take n all in
+      let before = seeing_globals s (take n s.addresses.globals) in
+      let after = seeing_globals h.0 s.addresses.globals in
+      let k = store_constants_sound (seen_with p gs) t c before v h.0 (seen_valid gs) a (seeing_fits all gs s (take n s.addresses.globals) (pairs_take (IsGlobalAt s) n all s.addresses.globals f.global_addresses) f) h.1 in
+      let there : Pairs (IsGlobalAt h.0) all s.addresses.globals = pairs_map (IsGlobalAt s) (IsGlobalAt h.0) all s.addresses.globals (λ g b r. global_there before h.0 k.2 g b (r.0, r.1, r.2)) f.global_addresses in
+      let has = has_too (seen_with p gs) q h.0 after (made_seen gs all) (same_knows h.0 after refl refl refl refl) t v k.0 in
+      subst (λ y. Has q y t v × StoreFits q y) h.2 (has, seeing_fits gs all h.0 s.addresses.globals there k.1)
 
-    -- a table of a store that fits is another one
-    other_table : (s : Store) (x : ℕ) (t : Table) (ws : List Value) → slice_get p.«module».tables x ≡ Some t → StoreFits (seen_with p p.«module».globals) s → Each (Has (seen_with p p.«module».globals) s t.element) ws → StoreFits (seen_with p p.«module».globals) (with_table s x ws)
-    other_table s x t ws e f h =
-        let u = with_table s x ws in
-        let knows = same_knows s u refl refl refl refl in
-        fits_too (seen_with p p.«module».globals) (seen_with p p.«module».globals) s u (λ w i. i) knows (globals_too p.«module».globals p.«module».globals s u knows p.«module».globals s.globals f.globals)
-        (pairs_set (λ (q : Table) vs. Each (Has (seen_with p p.«module».globals) s q.element) vs) p.«module».tables s.tables x t ws f.tables e h) f.segments refl refl refl refl refl refl f
+  -- a table of a store that fits holds something else
+  written_fits : (s : Store) (x : ℕ) (t : Table) (ws : List Value) → slice_get p.«module».tables x ≡ Some t → StoreFits q s → Each (Has q s t.element) ws → StoreFits q (with_table s x ws)
+  written_fits s x t ws e f h =
+      let y = with_table s x ws in
+      let knows = same_knows s y refl refl refl refl in
+      let r = table_at q s f x t e in
+      fits_too q q s y (λ w i. i) knows
+      (globals_too q q s y (λ w i. i) knows s.globals f.globals)
+      (each_changed (TableFits q y) (with_elements ws) s.tables (table_address s x) (tables_too q q s y (λ w i. i) knows s.tables f.tables)
+      (λ i d. subst (λ (k : TableInstance). Each (Has q y k.type.element) ws) (same_some r.0 i (sym r.1 ∙ d)) (each_too q q s y (λ w m. m) knows (r.0).type.element ws (all_above q s t.element (r.0).type.element ws r.2.3 h))))
+      (segments_too q q s y (λ w i. i) knows p.«module».elements s.segments f.segments)
+      (globals_stay s y (λ b g d. d) all s.addresses.globals f.global_addresses)
+      (pairs_map (IsTableAt s) (IsTableAt y) p.«module».tables s.addresses.tables (λ k b d. still k b d) f.table_addresses)
+      (tags_stay s y (λ b k d. d) p.«module».tags s.addresses.tags f.tag_addresses) refl refl refl (λ b k d. d) f.tags f
+    where
+      still : (k : Table) (b : ℕ) → IsTableAt s k b → IsTableAt (with_table s x ws) k b
+      still k b d =
+          let r = get_changed_by (λ (i j : TableInstance). j.type ≡ i.type) (with_elements ws) s.tables (table_address s x) (λ i. refl) (λ i m. refl) b d.0 d.1 in
+          (r.0, r.1, subst (λ (own : Table). TableMatches own k) (sym r.2) d.2)
 
-    tables_fit : (fs : List Filling) (n x : ℕ) (s u : Store) → StoreFits (seen_with p p.«module».globals) s → TablesBecome p n x fs s u → StoreFits (seen_with p p.«module».globals) u
-    tables_fit [] n x s u f h = subst (λ y. StoreFits (seen_with p p.«module».globals) y) h f
-    tables_fit (q ∷ fs) n x s u f h =
-        let k = filled n x h.0 q.constant s h.2 h.1 h.3 f h.4 in
-        tables_fit fs n (suc x) (with_table h.2 x (replicate q.size h.1)) u (other_table h.2 x h.0 (replicate q.size h.1) h.3 k.1 (each_replicate (Has (seen_with p p.«module».globals) h.2 (h.0).element) q.size h.1 k.0)) h.5
+  tables_fit : (fs : List Filling) (n x : ℕ) (s u : Store) → TablesAreTyped p n x fs → StoreFits q s → TablesBecome p n x fs s u → StoreFits q u
+  tables_fit [] n x s u a f h = subst (λ y. StoreFits q y) h f
+  tables_fit (c ∷ fs) n x s u a f h =
+      let typed : IsFilling p n (h.0).element c.constant = subst (λ (t : Table). IsFilling p n t.element c.constant) (same_some a.0 h.0 (sym a.1 ∙ h.3)) a.2 in
+      let k = filled n (h.0).element c.constant s h.2 h.1 typed f h.4 in
+      tables_fit fs n (suc x) (with_table h.2 x (replicate c.size h.1)) u a.3 (written_fits h.2 x h.0 (replicate c.size h.1) h.3 k.1 (each_replicate (Has q h.2 (h.0).element) c.size h.1 k.0)) h.5
 
   -- ---- segments
 
-  elements_fit : (t : ValueType) (cs : List Code) (s u : Store) (vs : List Value) → StoreFits (seen_with p p.«module».globals) s → ElementsBecome p t cs s vs u
-      → Each (Has (seen_with p p.«module».globals) u t) vs × StoreFits (seen_with p p.«module».globals) u × Evolves (seen_with p p.«module».globals) s u
-  elements_fit t [] s u vs f h = (
-    subst (Each (Has (seen_with p p.«module».globals) u t)) (sym h.0) tt,
-    subst (λ y. StoreFits (seen_with p p.«module».globals) y) h.1 f,
-    subst (λ y. Evolves (seen_with p p.«module».globals) s y) h.1 (stays (seen_with p p.«module».globals) s),
-  )
-  elements_fit t (c ∷ cs) s u vs f h =
-      let q = seen_with p p.«module».globals in
-      let k = store_constants_sound q t c s h.0 h.2 (seen_valid p.«module».globals) h.3 f h.4 in
-      let r = elements_fit t cs h.2 u h.1 k.1 h.5 in (
-        subst (Each (Has q u t)) (sym h.6) (has_later q h.2 u r.2 t h.0 k.0, r.0),
-        r.1,
-        evolves_again q s h.2 u k.2 r.2,
-      )
+  item_fits : (t : ValueType) (i : Item) (s u : Store) (v : Value) → IsItem p t i → StoreFits q s → ItemBecomes p t i s v u → Has q u t v × StoreFits q u × Evolves s u
+  item_fits t (function_item x) s u v a f h =
+      let fit : Fits p (ref_function (Some x) (h.0).type) t = subst (λ (g : Function). Fits p (ref_function (Some x) g.type) t) (same_some a.0 h.0 (sym a.1 ∙ h.1)) a.2 in
+      let has : Has q s t v = subst (Has q s t) (sym h.2) ((made_bare all (ref_function (Some x) (h.0).type) fit.0, fit.1), tt) in
+      subst (λ y. Has q y t v × StoreFits q y × Evolves s y) h.3 (has, f, stays s)
+  item_fits t (constant_item c) s u v a f h = store_constants_sound q t c s v u (seen_valid all) a f h
 
-  segments_fit : (css : List (List Code)) (i : ℕ) (s u : Store) → StoreFits (seen_with p p.«module».globals) s → SegmentsBecome p i css s u → StoreFits (seen_with p p.«module».globals) u
-  segments_fit [] i s u f h = subst (λ y. StoreFits (seen_with p p.«module».globals) y) h f
-  segments_fit (cs ∷ css) i s u f h =
-      let q = seen_with p p.«module».globals in
-      let k = elements_fit h.0 cs s h.2 h.1 f h.4 in
-      let x = with_segment h.2 i h.1 in
-      let knows = same_knows h.2 x refl refl refl refl in
-      segments_fit css (suc i) x u (fits_too q q h.2 x (λ w m. m) knows (globals_too p.«module».globals p.«module».globals h.2 x knows p.«module».globals (h.2).globals (k.1).globals) (k.1).tables
-      (pairs_set (λ t vs. Each (Has q h.2 t) vs) p.«module».elements (h.2).segments i h.0 h.1 (k.1).segments h.3 k.0) refl refl refl refl refl refl k.1) h.5
+  items_fit : (t : ValueType) (is : List Item) (s u : Store) (vs : List Value) → Each (IsItem p t) is → StoreFits q s → ItemsBecome p t is s vs u → Each (Has q u t) vs × StoreFits q u × Evolves s u
+  items_fit t [] s u vs a f h = (subst (Each (Has q u t)) (sym h.0) tt, subst (λ y. StoreFits q y) h.1 f, subst (λ y. Evolves s y) h.1 (stays s))
+  items_fit t (i ∷ is) s u vs a f h =
+      let k = item_fits t i s h.2 h.0 a.0 f h.3 in
+      let r = items_fit t is h.2 u h.1 a.1 k.1 h.4 in
+      (subst (Each (Has q u t)) (sym h.5) (has_later q h.2 u r.2 t h.0 k.0, r.0), r.1, evolves_again s h.2 u k.2 r.2)
+
+  segments_fit : (xs : List Segment) (i : ℕ) (s u : Store) → SegmentsAreTyped p i xs → StoreFits q s → SegmentsBecome p i xs s u → StoreFits q u
+  segments_fit [] i s u a f h = subst (λ y. StoreFits q y) h f
+  segments_fit (x ∷ xs) i s u a f h =
+      let typed : Each (IsItem p h.0) x.items = subst (λ t. Each (IsItem p t) x.items) (same_some a.0 h.0 (sym a.1 ∙ h.3)) a.2 in
+      let k = items_fit h.0 x.items s h.2 h.1 typed f h.4 in
+      let y = with_segment h.2 i h.1 in
+      let knows = same_knows h.2 y refl refl refl refl in
+      segments_fit xs (suc i) y u a.4 (fits_too q q h.2 y (λ w m. m) knows
+      (globals_too q q h.2 y (λ w m. m) knows (h.2).globals (k.1).globals)
+      (tables_too q q h.2 y (λ w m. m) knows (h.2).tables (k.1).tables)
+      (pairs_set (λ t vs. Each (Has q y t) vs) p.«module».elements (h.2).segments i h.0 h.1 (segments_too q q h.2 y (λ w m. m) knows p.«module».elements (h.2).segments (k.1).segments) h.3 (each_too q q h.2 y (λ w m. m) knows h.0 h.1 k.0))
+      (globals_stay h.2 y (λ b g d. d) all (h.2).addresses.globals (k.1).global_addresses)
+      (tables_stay h.2 y (λ b g d. d) p.«module».tables (h.2).addresses.tables (k.1).table_addresses)
+      (tags_stay h.2 y (λ b g d. d) p.«module».tags (h.2).addresses.tags (k.1).tag_addresses) refl refl refl (λ b t d. d) (k.1).tags k.1) h.5
+
+  -- ---- active segments
+
+  use_fits : (i : ℕ) (t : ValueType) (c : Use) (s u : Store) → slice_get p.«module».elements i ≡ Some t → IsUse p t c → StoreFits q s → IsUsed p i c s u → StoreFits q u
+  use_fits i t kept s u e a f h = subst (λ y. StoreFits q y) h f
+  use_fits i t dropped s u e a f h = subst (λ y. StoreFits q y) h (segment_fits q s i t e f)
+  use_fits i t (written x c) s u e a f h =
+      let same : a.0 ≡ h.0 = same_some a.0 h.0 (sym a.1 ∙ h.4) in
+      let typed : IsConstant p all (address (h.0).table64) c = subst (λ (k : Table). IsConstant p all (address k.table64) c) same a.3 in
+      let k = store_constants_sound q (address (h.0).table64) c s h.1 h.2 (seen_valid all) typed f h.5 in
+      let elements : Each (Has q h.2 (h.0).element) (segment_in h.2 i) = all_above q h.2 t (h.0).element (segment_in h.2 i) (subst (λ (b : Table). Below t b.element) same a.2) (segment_holds q h.2 k.1 i t e) in
+      let all_fit : Each (Has q h.2 (h.0).element) h.3 = each_placed (Has q h.2 (h.0).element) (table_in h.2 x) (bits_of h.1) (segment_in h.2 i) h.3 (table_holds q h.2 k.1 x h.0 h.4) elements h.6 in
+      subst (λ y. StoreFits q y) h.7 (segment_fits q (with_table h.2 x h.3) i t e (written_fits h.2 x h.0 h.3 h.4 k.1 all_fit))
+
+  uses_fit : (xs : List Segment) (i : ℕ) (s u : Store) → SegmentsAreTyped p i xs → StoreFits q s → AreUsed p i xs s u → StoreFits q u
+  uses_fit [] i s u a f h = subst (λ y. StoreFits q y) h f
+  uses_fit (x ∷ xs) i s u a f h = uses_fit xs (suc i) h.0 u a.4 (use_fits i a.0 x.first_use s h.0 a.1 a.3 f h.1) h.2
 
   -- ---- all of them
 
-  whole : (s : Store) → StoreFits (seen_with p p.«module».globals) s → StoreFits p s
-  whole s f = fits_too (seen_with p p.«module».globals) p s s (made_whole p.«module».globals) (λ w k. k)
-      (pairs_map (λ (g : Global) w. Has (seen_with p p.«module».globals) s g.content w) (λ (g : Global) w. Has p s g.content w) p.«module».globals s.globals (λ g w i. has_too (seen_with p p.«module».globals) p s s (made_whole p.«module».globals) (λ w k. k) g.content w i) f.globals)
-      f.tables f.segments refl refl refl refl refl refl f
+  whole : (s : Store) → StoreFits q s → StoreFits p s
+  whole s f =
+      let made = made_whole all in
+      let knows : (w : Value) → Knows s w → Knows s w = λ w k. k in
+      fits_too q p s s made knows (globals_too q p s s made knows s.globals f.globals) (tables_too q p s s made knows s.tables f.tables) (segments_too q p s s made knows p.«module».elements s.segments f.segments)
+      f.global_addresses f.table_addresses f.tag_addresses refl refl refl (λ b t d. d) f.tags f
 
 pub first_stores_fit : FirstStoresFit
-first_stores_fit p i host u valid defaults fits h =
-    let g = globals_fit p valid i.globals i.imported_globals (i.imported_globals + length i.globals) host h.with_all_globals refl fits h.globals in
-    let f : StoreFits (seen_with p p.«module».globals) h.with_all_globals = subst (λ gs. StoreFits (seen_with p gs) h.with_all_globals) h.complete g in
-    let k = tables_fit p valid defaults i.tables i.imported_globals i.imported_tables h.with_all_globals h.with_all_tables f h.tables in
-    whole p valid u (segments_fit p valid i.segments 0 h.with_all_tables u k h.segments)
+first_stores_fit p i host u valid typed fits h =
+    let g = globals_fit p valid i.globals i.imported_globals (allocated p i host) h.with_globals typed.globals (allocated_fits p valid i host fits) h.globals in
+    let k = tables_fit p valid i.tables i.imported_globals i.imported_tables h.with_globals h.with_tables typed.tables g h.tables in
+    let n = segments_fit p valid i.segments 0 h.with_tables h.with_segments typed.segments k h.segments in
+    whole p valid u (uses_fit p valid i.segments 0 h.with_segments u typed.segments n h.used)

@@ -20,3 +20,4 @@ pub mod Converting
 pub mod Operators
 pub mod Steps
 pub mod Instantiating
+pub mod Linked

@@ -1,9 +1,8 @@
 -- What holds of each member of a list, or of each and its partner, and still holds where the list changes.
 use Rattle.std.specs.Prelude.{option_map, replicate}
-use Rattle.std.proofs.Common.{◌≡◌, ℕ, zero, suc, List, [], ◌∷◌, ◌++◌, Option, Some, None, refl, sym, ap, subst, ◌∙◌, ◌≤◌, ◌⊎◌, inl, inr, length, take, drop, reverse, get_or, slice_get, slice_set, unwrap_or, arith}
-use mathlib.Core.Logic.{⊎_elim}
+use Rattle.std.proofs.Common.{◌≡◌, ℕ, zero, suc, List, [], ◌∷◌, ◌++◌, Option, Some, None, refl, sym, ap, subst, ◌∙◌, ◌+◌, length, map, take, drop, reverse, get_or, slice_get, slice_set, unwrap_or, arith}
 use mathlib.Core.List.{reverse_aux}
-use Rattle.wasm_operator_validator_store.specs.Stores.{front, range, over, placed}
+use Rattle.wasm_operator_validator_store.specs.Stores.{front, range, over, placed, changed}
 use Rattle.wasm_operator_validator_store.specs.ValidStores.{Each, Pairs}
 
 IsNothing : {A : Type 0} → Option A → Type 0
@@ -63,6 +62,11 @@ module _ {A : Type 0} (P : A → Type 0) where
   each_set [] i x h k = tt
   each_set (y ∷ ys) zero x h k = (k, h.1)
   each_set (y ∷ ys) (suc i) x h k = (h.0, each_set ys i x h.1 k)
+
+  pub each_changed : (f : A → A) (xs : List A) (k : ℕ) → Each P xs → ((x : A) → slice_get xs k ≡ Some x → P (f x)) → Each P (changed f xs k)
+  each_changed f [] k h g = tt
+  each_changed f (x ∷ xs) zero h g = (g x refl, h.1)
+  each_changed f (x ∷ xs) (suc k) h g = (h.0, each_changed f xs k h.1 g)
 
   pub each_front : (n : ℕ) (xs ys : List A) → Each P xs → front n xs ≡ Some ys → Each P ys
   each_front zero xs ys h e = subst (Each P) (same_some [] ys e) tt
@@ -136,15 +140,7 @@ module _ {A : Type 0} where
   get_or_there (z ∷ xs) zero x d e = same_some z x e
   get_or_there (z ∷ xs) (suc i) x d e = get_or_there xs i x d e
 
-  -- where one is replaced, the others are as they were
-  pub get_set : (xs : List A) (k : ℕ) (z : A) (i : ℕ) (x : A) → slice_get xs i ≡ Some x → (y : A) × (slice_get (slice_set xs k z) i ≡ Some y)
-  get_set [] k z i x e = absurd (none_some x e)
-  get_set (w ∷ xs) zero z zero x e = (z, refl)
-  get_set (w ∷ xs) zero z (suc i) x e = (x, e)
-  get_set (w ∷ xs) (suc k) z zero x e = (x, e)
-  get_set (w ∷ xs) (suc k) z (suc i) x e = get_set xs k z i x e
-
-  -- by a relation to what was there
+  -- where one is replaced, the others are as they were, by a relation to what was there
   pub get_set_by : (R : A → A → Type 0) (xs : List A) (k : ℕ) (o q : A) → ((x : A) → R x x) → slice_get xs k ≡ Some o → R o q
       → (i : ℕ) (x : A) → slice_get xs i ≡ Some x → (y : A) × (slice_get (slice_set xs k q) i ≡ Some y) × R x y
   get_set_by R [] k o q same e r i x h = absurd (none_some x h)
@@ -153,20 +149,23 @@ module _ {A : Type 0} where
   get_set_by R (w ∷ xs) (suc k) o q same e r zero x h = (x, h, same x)
   get_set_by R (w ∷ xs) (suc k) o q same e r (suc i) x h = get_set_by R xs k o q same e r i x h
 
-  -- elsewhere than where one is replaced, the list is as it was
-  pub get_elsewhere : (xs : List A) (k : ℕ) (z : A) (i : ℕ) → (i ≡ k) ⊎ (slice_get (slice_set xs k z) i ≡ slice_get xs i)
-  get_elsewhere [] k z i = inr refl
-  get_elsewhere (w ∷ xs) zero z zero = inl refl
-  get_elsewhere (w ∷ xs) zero z (suc i) = inr refl
-  get_elsewhere (w ∷ xs) (suc k) z zero = inr refl
-  get_elsewhere (w ∷ xs) (suc k) z (suc i) = ⊎_elim (λ e. inl (ap suc e)) (λ e. inr e) (get_elsewhere xs k z i)
+  -- by one that each is related to
+  pub get_set_any : (R : A → A → Type 0) (xs : List A) (k : ℕ) (q : A) → ((x : A) → R x x) → ((x : A) → R x q)
+      → (i : ℕ) (x : A) → slice_get xs i ≡ Some x → (y : A) × (slice_get (slice_set xs k q) i ≡ Some y) × R x y
+  get_set_any R [] k q same r i x h = absurd (none_some x h)
+  get_set_any R (w ∷ xs) zero q same r zero x h = (q, refl, r x)
+  get_set_any R (w ∷ xs) zero q same r (suc i) x h = (x, h, same x)
+  get_set_any R (w ∷ xs) (suc k) q same r zero x h = (x, h, same x)
+  get_set_any R (w ∷ xs) (suc k) q same r (suc i) x h = get_set_any R xs k q same r i x h
 
-pub lists_grow : {A : Type 0} (xss : List (List A)) (k : ℕ) (ys : List A) → length (get_or xss k []) ≤ length ys → (i : ℕ) → length (get_or xss i []) ≤ length (get_or (slice_set xss k ys) i [])
-lists_grow [] k ys h i = omega arith
-lists_grow (xs ∷ xss) zero ys h zero = h
-lists_grow (xs ∷ xss) zero ys h (suc i) = omega arith
-lists_grow (xs ∷ xss) (suc k) ys h zero = omega arith
-lists_grow (xs ∷ xss) (suc k) ys h (suc i) = lists_grow xss k ys h i
+  -- where one is changed
+  pub get_changed_by : (R : A → A → Type 0) (f : A → A) (xs : List A) (k : ℕ) → ((x : A) → R x x) → ((x : A) → slice_get xs k ≡ Some x → R x (f x))
+      → (i : ℕ) (x : A) → slice_get xs i ≡ Some x → (y : A) × (slice_get (changed f xs k) i ≡ Some y) × R x y
+  get_changed_by R f [] k same r i x h = absurd (none_some x h)
+  get_changed_by R f (w ∷ xs) zero same r zero x h = (f w, refl, subst (λ v. R v (f w)) (same_some w x h) (r w refl))
+  get_changed_by R f (w ∷ xs) zero same r (suc i) x h = (x, h, same x)
+  get_changed_by R f (w ∷ xs) (suc k) same r zero x h = (x, h, same x)
+  get_changed_by R f (w ∷ xs) (suc k) same r (suc i) x h = get_changed_by R f xs k same r i x h
 
 pub over_length : {A : Type 0} (ys xs zs : List A) → over ys xs ≡ Some zs → length zs ≡ length xs
 over_length [] xs zs e = ap length (sym (same_some xs zs e))
@@ -195,3 +194,58 @@ pairs_each P Q f [] [] h = tt
 pairs_each P Q f [] (y ∷ ys) h = absurd h
 pairs_each P Q f (x ∷ xs) [] h = absurd h
 pairs_each P Q f (x ∷ xs) (y ∷ ys) h = (f x y h.0, pairs_each P Q f xs ys h.1)
+
+-- ---- lists that are joined, taken apart and made of others
+
+pub get_map : {A B : Type 0} (f : A → B) (xs : List A) (i : ℕ) (x : A) → slice_get xs i ≡ Some x → slice_get (map f xs) i ≡ Some (f x)
+get_map f [] i x e = absurd (none_some x e)
+get_map f (y ∷ xs) zero x e = ap (λ z. Some (f z)) (same_some y x e)
+get_map f (y ∷ xs) (suc i) x e = get_map f xs i x e
+
+pub get_past : {A : Type 0} (xs ys : List A) (i : ℕ) (y : A) → slice_get ys i ≡ Some y → slice_get (xs ++ ys) (length xs + i) ≡ Some y
+get_past [] ys i y e = let same : i ≡ 0 + i = omega arith in subst (λ n. slice_get ys n ≡ Some y) same e
+get_past (x ∷ xs) ys i y e =
+    let same : suc (length xs + i) ≡ suc (length xs) + i = omega arith in
+    subst (λ n. slice_get (x ∷ (xs ++ ys)) n ≡ Some y) same (get_past xs ys i y e)
+
+pub get_drop : {A : Type 0} (n : ℕ) (xs : List A) (i : ℕ) (x : A) → slice_get (drop n xs) i ≡ Some x → slice_get xs (n + i) ≡ Some x
+get_drop zero xs i x e = let same : i ≡ 0 + i = omega arith in subst (λ n. slice_get xs n ≡ Some x) same e
+get_drop (suc n) [] i x e = absurd (none_some x e)
+get_drop (suc n) (y ∷ xs) i x e =
+    let same : suc (n + i) ≡ suc n + i = omega arith in
+    subst (λ k. slice_get (y ∷ xs) k ≡ Some x) same (get_drop n xs i x e)
+
+pub each_from : {A : Type 0} (P : A → Type 0) (xs : List A) → ((i : ℕ) (x : A) → slice_get xs i ≡ Some x → P x) → Each P xs
+each_from P [] h = tt
+each_from P (x ∷ xs) h = (h 0 x refl, each_from P xs (λ i y e. h (suc i) y e))
+
+pub each_of_map : {A B : Type 0} (P : B → Type 0) (f : A → B) (xs : List A) → ((x : A) → P (f x)) → Each P (map f xs)
+each_of_map P f [] h = tt
+each_of_map P f (x ∷ xs) h = (h x, each_of_map P f xs h)
+
+pub pairs_of_map : {A B : Type 0} (P : A → B → Type 0) (f : A → B) (xs : List A) → ((x : A) → P x (f x)) → Pairs P xs (map f xs)
+pairs_of_map P f [] h = tt
+pairs_of_map P f (x ∷ xs) h = (h x, pairs_of_map P f xs h)
+
+module _ {A B : Type 0} (P : A → B → Type 0) where
+  pub pairs_take : (n : ℕ) (xs : List A) (ys : List B) → Pairs P xs ys → Pairs P (take n xs) (take n ys)
+  pairs_take zero xs ys h = tt
+  pairs_take (suc n) [] [] h = tt
+  pairs_take (suc n) [] (y ∷ ys) h = absurd h
+  pairs_take (suc n) (x ∷ xs) [] h = absurd h
+  pairs_take (suc n) (x ∷ xs) (y ∷ ys) h = (h.0, pairs_take n xs ys h.1)
+
+  pub pairs_more : (n : ℕ) (xs : List A) (ys : List B) (x : A) (y : B) → slice_get xs n ≡ Some x → P x y → Pairs P (take n xs) ys → Pairs P (take (suc n) xs) (ys ++ y ∷ [])
+  pairs_more n [] ys x y e k h = absurd (none_some x e)
+  pairs_more zero (z ∷ xs) [] x y e k h = (subst (λ w. P w y) (sym (same_some z x e)) k, tt)
+  pairs_more zero (z ∷ xs) (w ∷ ys) x y e k h = absurd h
+  pairs_more (suc n) (z ∷ xs) [] x y e k h = absurd h
+  pairs_more (suc n) (z ∷ xs) (w ∷ ys) x y e k h = (h.0, pairs_more n xs ys x y e k h.1)
+
+  pub pairs_join : (n : ℕ) (xs : List A) (ys zs : List B) → Pairs P (take n xs) ys → Pairs P (drop n xs) zs → Pairs P xs (ys ++ zs)
+  pairs_join zero xs [] zs h k = k
+  pairs_join zero xs (y ∷ ys) zs h k = absurd h
+  pairs_join (suc n) [] [] zs h k = k
+  pairs_join (suc n) [] (y ∷ ys) zs h k = absurd h
+  pairs_join (suc n) (x ∷ xs) [] zs h k = absurd h
+  pairs_join (suc n) (x ∷ xs) (y ∷ ys) zs h k = (h.0, pairs_join n xs ys zs h.1 k)

@@ -26,9 +26,9 @@ use Rattle.wasm_operator_validator_store.specs.Giving.{GivesOperator, is_wide}
 use Rattle.wasm_operator_validator_store.specs.Soundness.{AreValid}
 use Rattle.wasm_operator_validator_store.proofs.Lists.{same_some, none_some, each_append, each_take, each_reverse, each_placed, each_replicate, placed_length}
 use Rattle.wasm_operator_validator_store.proofs.Operating.{CodeNew}
-use Rattle.wasm_operator_validator_store.proofs.Storing.{object_evolves, object_fits, object_known, table_evolves, table_fits}
+use Rattle.wasm_operator_validator_store.proofs.Storing.{table_holds, object_evolves, object_fits, object_known, table_evolves, table_fits}
 use Rattle.wasm_operator_validator_store.proofs.Answering.{IsDone, found_needs, found_answer, second_fits, told, top_known}
-use Rattle.wasm_operator_validator_store.proofs.Accessing.{sized_fits, failure_fits, sized_known, failure_known, unchanged, values_known, table_holds, exchanged, exchange_traps, fit_as}
+use Rattle.wasm_operator_validator_store.proofs.Accessing.{sized_fits, failure_fits, sized_known, failure_known, unchanged, values_known, exchanged, exchange_traps, fit_as}
 use Rattle.wasm_operator_validator_store.proofs.Objects.{there_some, or_traps}
 
 abbrev Fields : Type 0
@@ -77,9 +77,9 @@ module _ (p : Program) (valid : IsValidProgram p) (results : List ValueType) (ac
       subst (λ y. IsDone p act acts (plain o more) s a y) (sym same) (record {
         answer = answer;
         store = object_fits p s b v.store fit;
-        evolves = object_evolves p s b;
+        evolves = object_evolves s b;
         values = values_known p valid results act acts s v (with_object s b) a [] values tt;
-        new = new (λ q d. subst (λ (y : TypeTree). Knows (with_object s b) (ref_object a.made y)) (same_some t q (sym e ∙ d)) (object_known p s t vs a.made at));
+        new = new (λ q d. subst (λ (y : TypeTree). Knows (with_object s b) (ref_object a.made y)) (same_some t q (sym e ∙ d)) (object_known s t vs a.made at));
       })
 
   pub struct_new_done : (x : ℕ) → Next (op.Gc (gc.StructNew x)) → Given (op.Gc (gc.StructNew x)) → Done (op.Gc (gc.StructNew x))
@@ -143,8 +143,8 @@ module _ (p : Program) (valid : IsValidProgram p) (results : List ValueType) (ac
       subst (λ w. IsDone p act acts (plain (op.Bulk (bulk.TableFill x)) more) s a w) (sym k.2) (record {
         answer = answer;
         store = table_fits p s x g.0 n.0 n.1 (omega (arith, size)) v.store
-            (each_placed (Has p s (n.0).element) (table_in s x) (bits_of (get_or vs 2 nothing)) us g.0 (table_holds p valid results act acts s v x n.0 n.1) (each_replicate (Has p s (n.0).element) (bits_of (get_or vs 0 nothing)) (get_or vs 1 nothing) has) g.1);
-        evolves = table_evolves p s x g.0 (omega (arith, size));
+            (each_placed (Has p s (n.0).element) (table_in s x) (bits_of (get_or vs 2 nothing)) us g.0 (table_holds p s v.store x n.0 n.1) (each_replicate (Has p s (n.0).element) (bits_of (get_or vs 0 nothing)) (get_or vs 1 nothing) has) g.1);
+        evolves = table_evolves s x g.0 (omega (arith, size));
         values = values_known p valid results act acts s v (with_table s x g.0) a [] k.0 tt;
         new = tt;
       }))
@@ -168,8 +168,8 @@ module _ (p : Program) (valid : IsValidProgram p) (results : List ValueType) (ac
       subst (λ w. IsDone p act acts (plain (op.Bulk (bulk.TableGrow x)) more) s a w) (sym k.2) (record {
         answer = answer;
         store = table_fits p s x us n.0 n.1 (omega (arith, size)) v.store
-            (each_append (Has p s (n.0).element) (table_in s x) (replicate (bits_of (get_or vs 0 nothing)) (get_or vs 1 nothing)) (table_holds p valid results act acts s v x n.0 n.1) (each_replicate (Has p s (n.0).element) (bits_of (get_or vs 0 nothing)) (get_or vs 1 nothing) has));
-        evolves = table_evolves p s x us (omega (arith, size));
+            (each_append (Has p s (n.0).element) (table_in s x) (replicate (bits_of (get_or vs 0 nothing)) (get_or vs 1 nothing)) (table_holds p s v.store x n.0 n.1) (each_replicate (Has p s (n.0).element) (bits_of (get_or vs 0 nothing)) (get_or vs 1 nothing) has));
+        evolves = table_evolves s x us (omega (arith, size));
         values = values_known p valid results act acts s v (with_table s x us) a (sized (is_wide (slice_get p.«module».tables x)) old ∷ []) k.0 (sized_known (with_table s x us) (is_wide (slice_get p.«module».tables x)) old, tt);
         new = tt;
       }))

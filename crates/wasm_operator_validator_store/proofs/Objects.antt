@@ -297,7 +297,7 @@ module _ (p : Program) (valid : IsValidProgram p) (results : List ValueType) (ac
       subst (λ y. IsDone p act acts (plain o more) s a y) (sym same) (record {
         answer = answer;
         store = written_fits p s k b zs e later v.store (fields_placed p s (expanded b.type) b.fields i f w zs (each_get (ObjectFits p s) s.objects k b v.store.objects e) at has d);
-        evolves = fields_evolve p s k b zs e later;
+        evolves = fields_evolve s k b zs e later;
         values = values_known p valid results act acts s v (with_fields s k b zs) a [] values tt;
         new = new;
       })

@@ -17,11 +17,11 @@ use Rattle.wasm_operator_validator_store.specs.Stores.{Store, nothing, bits_of, 
 use Rattle.wasm_operator_validator_store.specs.ValidStores.{Each, Knows, Has}
 use Rattle.wasm_operator_validator_store.specs.Giving.{Traps, GivesOperator}
 use Rattle.wasm_operator_validator_store.specs.Soundness.{AreValid}
-use Rattle.wasm_operator_validator_store.proofs.Lists.{each_map, each_range, each_placed, placed_length, pairs_get, pairs_get_or, get_or_there}
+use Rattle.wasm_operator_validator_store.proofs.Lists.{each_map, each_range, each_placed, placed_length, pairs_get_or}
 use Rattle.wasm_operator_validator_store.proofs.Operating.{CodeNew}
-use Rattle.wasm_operator_validator_store.proofs.Storing.{knows_later, table_evolves, table_fits}
+use Rattle.wasm_operator_validator_store.proofs.Storing.{table_holds, segment_holds, knows_later, table_evolves, table_fits}
 use Rattle.wasm_operator_validator_store.proofs.Answering.{IsDone, found_needs, found_answer, no_trap, a_trap, told}
-use Rattle.wasm_operator_validator_store.proofs.Accessing.{unchanged, values_known, table_known, table_holds}
+use Rattle.wasm_operator_validator_store.proofs.Accessing.{unchanged, values_known, table_known}
 use Rattle.wasm_operator_validator_store.proofs.Objects.{or_traps}
 
 module _ (p : Program) where
@@ -46,11 +46,6 @@ module _ (p : Program) where
 module _ (p : Program) (valid : IsValidProgram p) (results : List ValueType) (act : Activation) (acts : List Activation) (s : Store) (v : AreValid p results (act ∷ acts) s) where
   pub segment_known : (i : ℕ) → Each (Knows s) (segment_in s i)
   segment_known i = pairs_get_or (λ (t : ValueType) ws. Each (Has p s t) ws) (Each (Knows s)) [] (λ t ws h. known_of p s t ws h) tt p.«module».elements s.segments i v.store.segments
-
-  pub segment_holds : (i : ℕ) (t : ValueType) → slice_get p.«module».elements i ≡ Some t → Each (Has p s t) (segment_in s i)
-  segment_holds i t e =
-      let r = pairs_get (λ (k : ValueType) ws. Each (Has p s k) ws) p.«module».elements s.segments i t v.store.segments e in
-      subst (Each (Has p s t)) (sym (get_or_there s.segments i r.0 [] r.1)) r.2
 
   module _ (more : Code) (a : Answer) (u : Store) where
     abbrev Done : Op → Type 0
@@ -91,13 +86,13 @@ module _ (p : Program) (valid : IsValidProgram p) (results : List ValueType) (ac
         → EachFits p a.values t.element → Each (Knows s) us → placed (table_in s x) i us ≡ Some zs → a.values ≡ us → u ≡ with_table s x zs → Done o
     table_written o x i t us zs e answer new fit known d values same =
         let size : length zs ≡ length (table_in s x) = placed_length (table_in s x) i us zs d in
-        let later = table_evolves p s x zs (omega (arith, size)) in
+        let later = table_evolves s x zs (omega (arith, size)) in
         let has : Each (Has p s t.element) us = has_each p s t.element us (subst (λ ws. EachFits p ws t.element) values fit) known in
         subst (λ w. IsDone p act acts (plain o more) s a w) (sym same) (record {
           answer = answer;
-          store = table_fits p s x zs t e (omega (arith, size)) v.store (each_placed (Has p s t.element) (table_in s x) i us zs (table_holds p valid results act acts s v x t e) has d);
+          store = table_fits p s x zs t e (omega (arith, size)) v.store (each_placed (Has p s t.element) (table_in s x) i us zs (table_holds p s v.store x t e) has d);
           evolves = later;
-          values = values_known p valid results act acts s v (with_table s x zs) a us values (each_map (Knows s) (Knows (with_table s x zs)) us (knows_later p s (with_table s x zs) later) known);
+          values = values_known p valid results act acts s v (with_table s x zs) a us values (each_map (Knows s) (Knows (with_table s x zs)) us (knows_later s (with_table s x zs) later) known);
           new = new;
         })
 
@@ -114,7 +109,7 @@ module _ (p : Program) (valid : IsValidProgram p) (results : List ValueType) (ac
         ⊎_elim (λ t. trapped_done (op.Bulk (bulk.TableInit i x)) (traps t.0) (λ e. tt) t) (λ g.
         let answer : (execute p a act acts (plain (op.Bulk (bulk.TableInit i x)) more)).is_answer =
         found_answer (slice_get p.«module».elements i) outer (λ q d. found_answer (slice_get p.«module».tables x) (inner q) (λ t f.
-        written_answer (init_types t) q t.element g.2.1 (answer_fits q r.0 g.2.0 (each_range (Has p s q) (segment_in s i) (at 1) (at 0) r.0 (segment_holds i q d) r.1)))) in
+        written_answer (init_types t) q t.element g.2.1 (answer_fits q r.0 g.2.0 (each_range (Has p s q) (segment_in s i) (at 1) (at 0) r.0 (segment_holds p s v.store i q d) r.1)))) in
         let m = told p valid results act acts s v a (plain (op.Bulk (bulk.TableInit i x)) more) c answer in
         let n = found_needs {A = ValueType} p results (slice_get p.«module».elements i) outer m.0 m.1 in
         let k = found_needs {A = Table} p results (slice_get p.«module».tables x) (inner n.0) n.2 n.3 in
@@ -135,7 +130,7 @@ module _ (p : Program) (valid : IsValidProgram p) (results : List ValueType) (ac
         ⊎_elim (λ t. trapped_done (op.Bulk (bulk.TableCopy x y)) (traps t.0) (λ e. tt) t) (λ g.
         let answer : (execute p a act acts (plain (op.Bulk (bulk.TableCopy x y)) more)).is_answer =
         found_answer (slice_get p.«module».tables x) outer (λ t d. found_answer (slice_get p.«module».tables y) (inner t) (λ q f.
-        written_answer (copy_types t q) q.element t.element g.2.1 (answer_fits q.element r.0 g.2.0 (each_range (Has p s q.element) (table_in s y) (at 1) (at 0) r.0 (table_holds p valid results act acts s v y q f) r.1)))) in
+        written_answer (copy_types t q) q.element t.element g.2.1 (answer_fits q.element r.0 g.2.0 (each_range (Has p s q.element) (table_in s y) (at 1) (at 0) r.0 (table_holds p s v.store y q f) r.1)))) in
         let m = told p valid results act acts s v a (plain (op.Bulk (bulk.TableCopy x y)) more) c answer in
         let n = found_needs {A = Table} p results (slice_get p.«module».tables x) outer m.0 m.1 in
         let k = found_needs {A = Table} p results (slice_get p.«module».tables y) (inner n.0) n.2 n.3 in

@@ -1,74 +1,173 @@
 -- A store in which all fits, and what becomes of it where something in it is replaced or added.
-use Rattle.std.proofs.Common.{◌≡◌, ◌≤◌, ℕ, true, false, List, [], ◌∷◌, ◌++◌, Option, Some, None, refl, sym, ap, subst, ◌∙◌, length, slice_get, arith, true≢false}
-use mathlib.Core.Logic.{⊎_elim}
+use Rattle.std.proofs.Common.{◌≡◌, ◌≤◌, ℕ, true, false, List, [], ◌∷◌, ◌++◌, Option, Some, None, refl, sym, ap, subst, ◌∙◌, inl, inr, length, slice_get, arith, true≢false}
 use Rattle.wasm_types.specs.trees.Types.{ref, abstract, any, InnerOf, array_of, struct_of}
 use Rattle.wasm_types.specs.trees.Trees.{TypeTree}
-use Rattle.wasm_types.specs.trees.Below.{expanded}
+use Rattle.wasm_types.specs.trees.Below.{Below, expanded}
+use Rattle.wasm_types.specs.trees.laws.Below.{below_transitive}
 use Rattle.wasm_operator_validator_rules.specs.Operands.{ValueType}
 use Rattle.wasm_operator_validator_rules.specs.Context.{Table, Global}
-use Rattle.wasm_operator_validator_soundness.specs.runs.Values.{Program, Value, number_value, ref_null, ref_function, ref_object, ref_i31, ref_host, ref_extern, ref_exn}
+use Rattle.wasm_operator_validator_soundness.specs.runs.Values.{Program, Value, number_value, ref_null, ref_function, ref_object, ref_i31, ref_host, ref_extern, ref_exn, least_type}
 use Rattle.wasm_operator_validator_soundness.specs.runs.States.{Exception, Label, Activation, State}
-use Rattle.wasm_operator_validator_store.specs.Stores.{ObjectInstance, ExceptionInstance, Store, table_in, with_global, with_table, without_segment, with_object, with_fields, with_exception}
-use Rattle.wasm_operator_validator_store.specs.ValidStores.{Each, Pairs, Knows, Has, HasField, FieldsFit, ObjectFits, ThrownFits, StoreFits, IsLater, Evolves, HasLocal, HasCaught, HasLabel, HasActivation, HasState}
-use Rattle.wasm_operator_validator_store.proofs.Lists.{same_some, each_append, each_set, each_map, pairs_set, pairs_map, get_append, get_last, get_set_by, get_elsewhere, lists_grow}
+use Rattle.wasm_operator_validator_store.specs.Stores.{GlobalInstance, TableInstance, ObjectInstance, ExceptionInstance, Addresses, Store, value_held, elements_held, with_value, with_elements, global_address, table_address, global_in, table_in, segment_in, with_global, with_table, without_segment, with_object, with_fields, with_exception}
+use Rattle.wasm_operator_validator_store.specs.ValidStores.{Each, Pairs, Knows, Has, HasField, FieldsFit, ObjectFits, ThrownFits, GlobalMatches, TableMatches, IsGlobalAt, IsTableAt, IsTagAt, GlobalFits, TableFits, StoreFits, GlobalIsLater, TableIsLater, SegmentIsLater, IsLater, Evolves, HasLocal, HasCaught, HasLabel, HasActivation, HasState}
+use Rattle.wasm_operator_validator_store.proofs.Lists.{same_some, each_get, each_append, each_set, each_changed, each_map, pairs_get, pairs_set, pairs_map, get_append, get_last, get_or_there, get_set_by, get_set_any, get_changed_by}
 use Rattle.wasm_operator_validator_store.proofs.Keeping.{IsPlain}
 
 pub is_same : (o : ObjectInstance) → IsLater o o
 is_same o = record { type = refl; size = refl; kept = λ i f e m. refl }
 
+pub global_is_same : (g : GlobalInstance) → GlobalIsLater g g
+global_is_same g = record { type = refl; kept = λ m. refl }
+
+pub table_is_same : (t : TableInstance) → TableIsLater t t
+table_is_same t = record { type = refl; size = omega arith }
+
 pub knows_plain : (s : Store) → IsPlain (Knows s)
 knows_plain s = record { numbers = λ n b. tt; nulls = λ c h. tt; functions = λ i t. tt; scalars = λ b. tt }
 
-module _ (p : Program) where
-  pub stays : (s : Store) → Evolves p s s
-  stays s = record {
-    globals = λ x g e m. refl;
-    tables = λ x. omega arith;
-    objects = λ k o e. (o, e, is_same o);
-    exceptions = λ k x e. e;
-    tags = λ k t e. e;
-    externs = λ k v e. e;
-    addresses = refl;
+pub stays : (s : Store) → Evolves s s
+stays s = record {
+  globals = λ k g e. (g, e, global_is_same g);
+  tables = λ k t e. (t, e, table_is_same t);
+  segments = λ i vs e. (vs, e, inl refl);
+  objects = λ k o e. (o, e, is_same o);
+  exceptions = λ k x e. e;
+  tags = λ k t e. e;
+  externs = λ k v e. e;
+  addresses = refl;
+}
+
+-- ---- what was there is there still
+
+module _ (s u : Store) (e : Evolves s u) where
+  pub knows_later : (v : Value) → Knows s v → Knows u v
+  knows_later (ref_object k t) h = let r = e.objects k h.0 h.1 in (r.0, r.1, r.2.type ∙ h.2)
+  knows_later (ref_exn k t) h = (h.0, e.exceptions k h.0 h.1, e.tags h.0.tag t h.2)
+  knows_later (ref_extern k) h = (h.0, e.externs k h.0 h.1)
+  knows_later (number_value n b) h = tt
+  knows_later (ref_null c h') h = tt
+  knows_later (ref_function i t) h = tt
+  knows_later (ref_i31 b) h = tt
+  knows_later (ref_host k) h = tt
+
+  pub local_later : (o : Option Value) → HasLocal (Knows s) o → HasLocal (Knows u) o
+  local_later None h = tt
+  local_later (Some v) h = knows_later v h
+
+  pub caught_later : (o : Option Exception) → HasCaught (Knows s) o → HasCaught (Knows u) o
+  caught_later None h = tt
+  caught_later (Some x) h = knows_later (ref_exn x.address x.type) h
+
+  pub label_later : (l : Label) → HasLabel (Knows s) l → HasLabel (Knows u) l
+  label_later l h = record { values = each_map (Knows s) (Knows u) l.values knows_later h.values; caught = caught_later l.caught h.caught }
+
+  pub activation_later : (act : Activation) → HasActivation (Knows s) act → HasActivation (Knows u) act
+  activation_later act h = record {
+    locals = each_map (HasLocal (Knows s)) (HasLocal (Knows u)) act.locals local_later h.locals;
+    innermost = label_later act.innermost h.innermost;
+    around = each_map (HasLabel (Knows s)) (HasLabel (Knows u)) act.around label_later h.around;
   }
 
-  -- ---- what was there is there still
+  pub state_later : (x : State) → HasState (Knows s) x → HasState (Knows u) x
+  state_later x h = each_map (HasActivation (Knows s)) (HasActivation (Knows u)) x activation_later h
 
-  module _ (s u : Store) (e : Evolves p s u) where
-    pub knows_later : (v : Value) → Knows s v → Knows u v
-    knows_later (ref_object k t) h = let r = e.objects k h.0 h.1 in (r.0, r.1, r.2.type ∙ h.2)
-    knows_later (ref_exn k t) h = (h.0, e.exceptions k h.0 h.1, e.tags h.0.tag t h.2)
-    knows_later (ref_extern k) h = (h.0, e.externs k h.0 h.1)
-    knows_later (number_value n b) h = tt
-    knows_later (ref_null c h') h = tt
-    knows_later (ref_function i t) h = tt
-    knows_later (ref_i31 b) h = tt
-    knows_later (ref_host k) h = tt
+  -- ---- at the module's addresses too
 
-    pub local_later : (o : Option Value) → HasLocal (Knows s) o → HasLocal (Knows u) o
-    local_later None h = tt
-    local_later (Some v) h = knows_later v h
+  pub global_there : (g : Global) (k : ℕ) → IsGlobalAt s g k → IsGlobalAt u g k
+  global_there g k h = let r = e.globals k h.0 h.1 in (r.0, r.1, subst (λ (t : Global). GlobalMatches t g) (sym r.2.type) h.2)
 
-    pub caught_later : (o : Option Exception) → HasCaught (Knows s) o → HasCaught (Knows u) o
-    caught_later None h = tt
-    caught_later (Some x) h = knows_later (ref_exn x.address x.type) h
+  pub table_there : (t : Table) (k : ℕ) → IsTableAt s t k → IsTableAt u t k
+  table_there t k h = let r = e.tables k h.0 h.1 in (r.0, r.1, subst (λ (q : Table). TableMatches q t) (sym r.2.type) h.2)
 
-    pub label_later : (l : Label) → HasLabel (Knows s) l → HasLabel (Knows u) l
-    label_later l h = record { values = each_map (Knows s) (Knows u) l.values knows_later h.values; caught = caught_later l.caught h.caught }
+-- ---- what becomes of a store in which something is replaced or added
 
-    pub activation_later : (act : Activation) → HasActivation (Knows s) act → HasActivation (Knows u) act
-    activation_later act h = record {
-      locals = each_map (HasLocal (Knows s)) (HasLocal (Knows u)) act.locals local_later h.locals;
-      innermost = label_later act.innermost h.innermost;
-      around = each_map (HasLabel (Knows s)) (HasLabel (Knows u)) act.around label_later h.around;
-    }
+pub global_evolves : (s : Store) (x : ℕ) (v : Value) (i : GlobalInstance) → slice_get s.globals (global_address s x) ≡ Some i → i.type.mutable ≡ true → Evolves s (with_global s x v)
+global_evolves s x v i e m = record {
+  globals = get_changed_by GlobalIsLater (with_value v) s.globals (global_address s x) global_is_same written;
+  tables = λ k t d. (t, d, table_is_same t);
+  segments = λ i vs d. (vs, d, inl refl);
+  objects = λ k q d. (q, d, is_same q);
+  exceptions = λ k y d. d;
+  tags = λ k t d. d;
+  externs = λ k w d. d;
+  addresses = refl;
+}
+  where
+    written : (g : GlobalInstance) → slice_get s.globals (global_address s x) ≡ Some g → GlobalIsLater g (with_value v g)
+    written g d = record { type = refl; kept = λ n. absurd (true≢false (sym m ∙ ap (λ (k : GlobalInstance). k.type.mutable) (same_some i g (sym e ∙ d)) ∙ n)) }
 
-    pub state_later : (x : State) → HasState (Knows s) x → HasState (Knows u) x
-    state_later x h = each_map (HasActivation (Knows s)) (HasActivation (Knows u)) x activation_later h
+pub table_evolves : (s : Store) (x : ℕ) (vs : List Value) → length (table_in s x) ≤ length vs → Evolves s (with_table s x vs)
+table_evolves s x vs l = record {
+  globals = λ k g d. (g, d, global_is_same g);
+  tables = get_changed_by TableIsLater (with_elements vs) s.tables (table_address s x) table_is_same written;
+  segments = λ i vs d. (vs, d, inl refl);
+  objects = λ k q d. (q, d, is_same q);
+  exceptions = λ k y d. d;
+  tags = λ k t d. d;
+  externs = λ k w d. d;
+  addresses = refl;
+}
+  where
+    written : (t : TableInstance) → slice_get s.tables (table_address s x) ≡ Some t → TableIsLater t (with_elements vs t)
+    written t d = record { type = refl; size = subst (λ (ws : List Value). length ws ≤ length vs) (ap elements_held d) l }
 
-    -- ---- and fits still
+pub segment_evolves : (s : Store) (i : ℕ) → Evolves s (without_segment s i)
+segment_evolves s i = record {
+  globals = λ k g d. (g, d, global_is_same g);
+  tables = λ k t d. (t, d, table_is_same t);
+  segments = get_set_any SegmentIsLater s.segments i [] (λ vs. inl refl) (λ vs. inr refl);
+  objects = λ k q d. (q, d, is_same q);
+  exceptions = λ k y d. d;
+  tags = λ k t d. d;
+  externs = λ k w d. d;
+  addresses = refl;
+}
 
+pub object_evolves : (s : Store) (o : ObjectInstance) → Evolves s (with_object s o)
+object_evolves s o = record {
+  globals = λ k g d. (g, d, global_is_same g);
+  tables = λ k t d. (t, d, table_is_same t);
+  segments = λ i vs d. (vs, d, inl refl);
+  objects = λ k q d. (q, get_append s.objects (o ∷ []) k q d, is_same q);
+  exceptions = λ k y d. d;
+  tags = λ k t d. d;
+  externs = λ k w d. d;
+  addresses = refl;
+}
+
+pub object_known : (s : Store) (t : TypeTree) (vs : List Value) (k : ℕ) → k ≡ length s.objects → Knows (with_object s (record { type = t; fields = vs })) (ref_object k t)
+object_known s t vs k e = (record { type = t; fields = vs }, subst (λ n. slice_get (s.objects ++ record { type = t; fields = vs } ∷ []) n ≡ Some (record { type = t; fields = vs })) (sym e) (get_last s.objects (record { type = t; fields = vs })), refl)
+
+pub fields_evolve : (s : Store) (k : ℕ) (o : ObjectInstance) (vs : List Value) → slice_get s.objects k ≡ Some o → IsLater o (record o { fields = vs }) → Evolves s (with_fields s k o vs)
+fields_evolve s k o vs e l = record {
+  globals = λ k g d. (g, d, global_is_same g);
+  tables = λ k t d. (t, d, table_is_same t);
+  segments = λ i vs d. (vs, d, inl refl);
+  objects = λ i q d. get_set_by IsLater s.objects k o (record o { fields = vs }) is_same e l i q d;
+  exceptions = λ k y d. d;
+  tags = λ k t d. d;
+  externs = λ k w d. d;
+  addresses = refl;
+}
+
+pub exception_evolves : (s : Store) (x : ExceptionInstance) → Evolves s (with_exception s x)
+exception_evolves s x = record {
+  globals = λ k g d. (g, d, global_is_same g);
+  tables = λ k t d. (t, d, table_is_same t);
+  segments = λ i vs d. (vs, d, inl refl);
+  objects = λ k q d. (q, d, is_same q);
+  exceptions = λ k y d. get_append s.exceptions (x ∷ []) k y d;
+  tags = λ k t d. d;
+  externs = λ k w d. d;
+  addresses = refl;
+}
+
+-- ---- and fits still
+
+module _ (p : Program) where
+  module _ (s u : Store) (e : Evolves s u) where
     pub has_later : (t : ValueType) (v : Value) → Has p s t v → Has p u t v
-    has_later t v h = (h.0, knows_later v h.1)
+    has_later t v h = (h.0, knows_later s u e v h.1)
 
     pub all_later : (t : ValueType) (vs : List Value) → Each (Has p s t) vs → Each (Has p u t) vs
     all_later t vs h = each_map (Has p s t) (Has p u t) vs (has_later t) h
@@ -82,14 +181,14 @@ module _ (p : Program) where
     object_later o h = fields_later (expanded o.type) o.fields h
 
     pub thrown_later : (x : ExceptionInstance) → ThrownFits p s x → ThrownFits p u x
-    thrown_later x h = (h.0, e.tags x.tag h.0 h.1, h.2, each_map (Knows s) (Knows u) x.values knows_later h.3)
+    thrown_later x h = (h.0, e.tags x.tag h.0 h.1, h.2, each_map (Knows s) (Knows u) x.values (knows_later s u e) h.3)
 
     module _ (f : StoreFits p s) where
-      pub globals_fit : Pairs (λ (g : Global) v. Has p u g.content v) p.«module».globals s.globals
-      globals_fit = pairs_map (λ (g : Global) v. Has p s g.content v) (λ (g : Global) v. Has p u g.content v) p.«module».globals s.globals (λ g v i. has_later g.content v i) f.globals
+      pub globals_fit : Each (GlobalFits p u) s.globals
+      globals_fit = each_map (GlobalFits p s) (GlobalFits p u) s.globals (λ g i. has_later g.type.content g.value i) f.globals
 
-      pub tables_fit : Pairs (λ (t : Table) vs. Each (Has p u t.element) vs) p.«module».tables s.tables
-      tables_fit = pairs_map (λ (t : Table) vs. Each (Has p s t.element) vs) (λ (t : Table) vs. Each (Has p u t.element) vs) p.«module».tables s.tables (λ t vs i. all_later t.element vs i) f.tables
+      pub tables_fit : Each (TableFits p u) s.tables
+      tables_fit = each_map (TableFits p s) (TableFits p u) s.tables (λ t i. all_later t.type.element t.elements i) f.tables
 
       pub segments_fit : Pairs (λ t vs. Each (Has p u t) vs) p.«module».elements s.segments
       segments_fit = pairs_map (λ t vs. Each (Has p s t) vs) (λ t vs. Each (Has p u t) vs) p.«module».elements s.segments (λ t vs i. all_later t vs i) f.segments
@@ -103,74 +202,105 @@ module _ (p : Program) where
       pub externs_fit : Each (Has p u (ref false (abstract false any))) s.externs
       externs_fit = all_later (ref false (abstract false any)) s.externs f.externs
 
+      pub globals_there : Pairs (IsGlobalAt u) p.«module».globals u.addresses.globals
+      globals_there = subst (λ (a : Addresses). Pairs (IsGlobalAt u) p.«module».globals a.globals) (sym e.addresses)
+          (pairs_map (IsGlobalAt s) (IsGlobalAt u) p.«module».globals s.addresses.globals (global_there s u e) f.global_addresses)
+
+      pub tables_there : Pairs (IsTableAt u) p.«module».tables u.addresses.tables
+      tables_there = subst (λ (a : Addresses). Pairs (IsTableAt u) p.«module».tables a.tables) (sym e.addresses)
+          (pairs_map (IsTableAt s) (IsTableAt u) p.«module».tables s.addresses.tables (table_there s u e) f.table_addresses)
+
+      pub tags_there : Pairs (IsTagAt u) p.«module».tags u.addresses.tags
+      tags_there = subst (λ (a : Addresses). Pairs (IsTagAt u) p.«module».tags a.tags) (sym e.addresses)
+          (pairs_map (IsTagAt s) (IsTagAt u) p.«module».tags s.addresses.tags (λ t k h. e.tags k t h) f.tag_addresses)
+
+  -- ---- what lies at an address of the module
+
+  -- of a type that is below another, which is below a third
+  pub has_above : (s : Store) (t q : ValueType) (v : Value) → Below t q → Has p s t v → Has p s q v
+  has_above s t q v b h = ((h.0.0, below_transitive (least_type v) t q h.0.1 b), h.1)
+
+  pub all_above : (s : Store) (t q : ValueType) (vs : List Value) → Below t q → Each (Has p s t) vs → Each (Has p s q) vs
+  all_above s t q vs b h = each_map (Has p s t) (Has p s q) vs (λ v i. has_above s t q v b i) h
+
+  module _ (s : Store) (f : StoreFits p s) where
+    pub global_at : (x : ℕ) (g : Global) → slice_get p.«module».globals x ≡ Some g → IsGlobalAt s g (global_address s x)
+    global_at x g e =
+        let r = pairs_get (IsGlobalAt s) p.«module».globals s.addresses.globals x g f.global_addresses e in
+        subst (IsGlobalAt s g) (sym (get_or_there s.addresses.globals x r.0 (length s.globals) r.1)) r.2
+
+    pub table_at : (x : ℕ) (t : Table) → slice_get p.«module».tables x ≡ Some t → IsTableAt s t (table_address s x)
+    table_at x t e =
+        let r = pairs_get (IsTableAt s) p.«module».tables s.addresses.tables x t f.table_addresses e in
+        subst (IsTableAt s t) (sym (get_or_there s.addresses.tables x r.0 (length s.tables) r.1)) r.2
+
+    -- a global has a value of the type by which the module knows it, and a table and a segment have such elements
+    pub global_holds : (x : ℕ) (g : Global) → slice_get p.«module».globals x ≡ Some g → Has p s g.content (global_in s x)
+    global_holds x g e =
+        let r = global_at x g e in
+        has_above s (r.0).type.content g.content (global_in s x) r.2.2
+        (subst (λ (w : Value). Has p s (r.0).type.content w) (sym (ap value_held r.1)) (each_get (GlobalFits p s) s.globals (global_address s x) r.0 f.globals r.1))
+
+    pub table_holds : (x : ℕ) (t : Table) → slice_get p.«module».tables x ≡ Some t → Each (Has p s t.element) (table_in s x)
+    table_holds x t e =
+        let r = table_at x t e in
+        all_above s (r.0).type.element t.element (table_in s x) r.2.2
+        (subst (Each (Has p s (r.0).type.element)) (sym (ap elements_held r.1)) (each_get (TableFits p s) s.tables (table_address s x) r.0 f.tables r.1))
+
+    pub segment_holds : (i : ℕ) (t : ValueType) → slice_get p.«module».elements i ≡ Some t → Each (Has p s t) (segment_in s i)
+    segment_holds i t e =
+        let r = pairs_get (λ (k : ValueType) ws. Each (Has p s k) ws) p.«module».elements s.segments i t f.segments e in
+        subst (Each (Has p s t)) (sym (get_or_there s.segments i r.0 [] r.1)) r.2
+
   -- ---- a global is written
 
-  pub global_evolves : (s : Store) (x : ℕ) (v : Value) (g : Global) → slice_get p.«module».globals x ≡ Some g → g.mutable ≡ true → Evolves p s (with_global s x v)
-  global_evolves s x v g e m = record {
-    globals = λ y k d n. ⊎_elim
-        (λ q. absurd (true≢false (sym m ∙ ap (λ (w : Global). w.mutable) (same_some g k (sym e ∙ subst (λ z. slice_get p.«module».globals z ≡ Some k) q d)) ∙ n)))
-        (λ q. q) (get_elsewhere s.globals x v y);
-    tables = λ y. omega arith;
-    objects = λ k o d. (o, d, is_same o);
-    exceptions = λ k y d. d;
-    tags = λ k t d. d;
-    externs = λ k w d. d;
-    addresses = refl;
-  }
-
-  pub global_fits : (s : Store) (x : ℕ) (v : Value) (g : Global) → slice_get p.«module».globals x ≡ Some g → g.mutable ≡ true → StoreFits p s → Has p s g.content v → StoreFits p (with_global s x v)
-  global_fits s x v g e m f h =
-      let later = global_evolves s x v g e m in
-      record {
-        globals = pairs_set (λ (k : Global) w. Has p (with_global s x v) k.content w) p.«module».globals s.globals x g v (globals_fit s (with_global s x v) later f) e (has_later s (with_global s x v) later g.content v h);
-        tables = tables_fit s (with_global s x v) later f;
-        segments = segments_fit s (with_global s x v) later f;
-        objects = objects_fit s (with_global s x v) later f;
-        exceptions = exceptions_fit s (with_global s x v) later f;
-        tags = f.tags;
-        externs = externs_fit s (with_global s x v) later f;
-        addresses = f.addresses;
-      }
+  pub global_fits : (s : Store) (x : ℕ) (v : Value) (g : Global) (f : StoreFits p s) → slice_get p.«module».globals x ≡ Some g → g.mutable ≡ true → Has p s g.content v
+      → StoreFits p (with_global s x v) × Evolves s (with_global s x v)
+  global_fits s x v g f e m h =
+      let r = global_at s f x g e in
+      let later = global_evolves s x v r.0 r.1 (r.2.0 ∙ m) in (
+        record {
+          globals = each_changed (GlobalFits p (with_global s x v)) (with_value v) s.globals (global_address s x) (globals_fit s (with_global s x v) later f) (λ i d. written r i d later);
+          tables = tables_fit s (with_global s x v) later f;
+          segments = segments_fit s (with_global s x v) later f;
+          objects = objects_fit s (with_global s x v) later f;
+          exceptions = exceptions_fit s (with_global s x v) later f;
+          tags = f.tags;
+          externs = externs_fit s (with_global s x v) later f;
+          global_addresses = globals_there s (with_global s x v) later f;
+          table_addresses = tables_there s (with_global s x v) later f;
+          tag_addresses = tags_there s (with_global s x v) later f;
+        },
+        later,
+      )
+    where
+      written : IsGlobalAt s g (global_address s x) → (i : GlobalInstance) → slice_get s.globals (global_address s x) ≡ Some i → Evolves s (with_global s x v) → Has p (with_global s x v) i.type.content v
+      written r i d later = has_later s (with_global s x v) later i.type.content v (subst (λ (k : GlobalInstance). Has p s k.type.content v) (same_some r.0 i (sym r.1 ∙ d)) (has_above s g.content (r.0).type.content v (r.2.3 m) h))
 
   -- ---- a table is written, or grows
-
-  pub table_evolves : (s : Store) (x : ℕ) (vs : List Value) → length (table_in s x) ≤ length vs → Evolves p s (with_table s x vs)
-  table_evolves s x vs l = record {
-    globals = λ y g e m. refl;
-    tables = λ y. lists_grow s.tables x vs l y;
-    objects = λ k o d. (o, d, is_same o);
-    exceptions = λ k y d. d;
-    tags = λ k t d. d;
-    externs = λ k w d. d;
-    addresses = refl;
-  }
 
   pub table_fits : (s : Store) (x : ℕ) (vs : List Value) (t : Table) → slice_get p.«module».tables x ≡ Some t → length (table_in s x) ≤ length vs → StoreFits p s → Each (Has p s t.element) vs → StoreFits p (with_table s x vs)
   table_fits s x vs t e l f h =
       let later = table_evolves s x vs l in
       record {
         globals = globals_fit s (with_table s x vs) later f;
-        tables = pairs_set (λ (k : Table) ws. Each (Has p (with_table s x vs) k.element) ws) p.«module».tables s.tables x t vs (tables_fit s (with_table s x vs) later f) e (all_later s (with_table s x vs) later t.element vs h);
+        tables = each_changed (TableFits p (with_table s x vs)) (with_elements vs) s.tables (table_address s x) (tables_fit s (with_table s x vs) later f) written;
         segments = segments_fit s (with_table s x vs) later f;
         objects = objects_fit s (with_table s x vs) later f;
         exceptions = exceptions_fit s (with_table s x vs) later f;
         tags = f.tags;
         externs = externs_fit s (with_table s x vs) later f;
-        addresses = f.addresses;
+        global_addresses = globals_there s (with_table s x vs) later f;
+        table_addresses = tables_there s (with_table s x vs) later f;
+        tag_addresses = tags_there s (with_table s x vs) later f;
       }
+    where
+      written : (i : TableInstance) → slice_get s.tables (table_address s x) ≡ Some i → Each (Has p (with_table s x vs) i.type.element) vs
+      written i d =
+          let r = table_at s f x t e in
+          all_later s (with_table s x vs) (table_evolves s x vs l) i.type.element vs (subst (λ (k : TableInstance). Each (Has p s k.type.element) vs) (same_some r.0 i (sym r.1 ∙ d)) (all_above s t.element (r.0).type.element vs r.2.3 h))
 
   -- ---- a segment is dropped
-
-  pub segment_evolves : (s : Store) (i : ℕ) → Evolves p s (without_segment s i)
-  segment_evolves s i = record {
-    globals = λ y g e m. refl;
-    tables = λ y. omega arith;
-    objects = λ k o d. (o, d, is_same o);
-    exceptions = λ k y d. d;
-    tags = λ k t d. d;
-    externs = λ k w d. d;
-    addresses = refl;
-  }
 
   pub segment_fits : (s : Store) (i : ℕ) (t : ValueType) → slice_get p.«module».elements i ≡ Some t → StoreFits p s → StoreFits p (without_segment s i)
   segment_fits s i t e f =
@@ -183,21 +313,12 @@ module _ (p : Program) where
         exceptions = exceptions_fit s (without_segment s i) later f;
         tags = f.tags;
         externs = externs_fit s (without_segment s i) later f;
-        addresses = f.addresses;
+        global_addresses = globals_there s (without_segment s i) later f;
+        table_addresses = tables_there s (without_segment s i) later f;
+        tag_addresses = tags_there s (without_segment s i) later f;
       }
 
   -- ---- an object is made
-
-  pub object_evolves : (s : Store) (o : ObjectInstance) → Evolves p s (with_object s o)
-  object_evolves s o = record {
-    globals = λ y g e m. refl;
-    tables = λ y. omega arith;
-    objects = λ k q d. (q, get_append s.objects (o ∷ []) k q d, is_same q);
-    exceptions = λ k y d. d;
-    tags = λ k t d. d;
-    externs = λ k w d. d;
-    addresses = refl;
-  }
 
   pub object_fits : (s : Store) (o : ObjectInstance) → StoreFits p s → ObjectFits p s o → StoreFits p (with_object s o)
   object_fits s o f h =
@@ -210,24 +331,12 @@ module _ (p : Program) where
         exceptions = exceptions_fit s (with_object s o) later f;
         tags = f.tags;
         externs = externs_fit s (with_object s o) later f;
-        addresses = f.addresses;
+        global_addresses = globals_there s (with_object s o) later f;
+        table_addresses = tables_there s (with_object s o) later f;
+        tag_addresses = tags_there s (with_object s o) later f;
       }
 
-  pub object_known : (s : Store) (t : TypeTree) (vs : List Value) (k : ℕ) → k ≡ length s.objects → Knows (with_object s (record { type = t; fields = vs })) (ref_object k t)
-  object_known s t vs k e = (record { type = t; fields = vs }, subst (λ n. slice_get (s.objects ++ record { type = t; fields = vs } ∷ []) n ≡ Some (record { type = t; fields = vs })) (sym e) (get_last s.objects (record { type = t; fields = vs })), refl)
-
   -- ---- fields of an object are written
-
-  pub fields_evolve : (s : Store) (k : ℕ) (o : ObjectInstance) (vs : List Value) → slice_get s.objects k ≡ Some o → IsLater o (record o { fields = vs }) → Evolves p s (with_fields s k o vs)
-  fields_evolve s k o vs e l = record {
-    globals = λ y g d m. refl;
-    tables = λ y. omega arith;
-    objects = λ i q d. get_set_by IsLater s.objects k o (record o { fields = vs }) is_same e l i q d;
-    exceptions = λ i y d. d;
-    tags = λ i t d. d;
-    externs = λ i w d. d;
-    addresses = refl;
-  }
 
   pub written_fits : (s : Store) (k : ℕ) (o : ObjectInstance) (vs : List Value) → slice_get s.objects k ≡ Some o → IsLater o (record o { fields = vs }) → StoreFits p s → FieldsFit p s (expanded o.type) vs
       → StoreFits p (with_fields s k o vs)
@@ -241,21 +350,12 @@ module _ (p : Program) where
         exceptions = exceptions_fit s (with_fields s k o vs) later f;
         tags = f.tags;
         externs = externs_fit s (with_fields s k o vs) later f;
-        addresses = f.addresses;
+        global_addresses = globals_there s (with_fields s k o vs) later f;
+        table_addresses = tables_there s (with_fields s k o vs) later f;
+        tag_addresses = tags_there s (with_fields s k o vs) later f;
       }
 
   -- ---- an exception is thrown
-
-  pub exception_evolves : (s : Store) (x : ExceptionInstance) → Evolves p s (with_exception s x)
-  exception_evolves s x = record {
-    globals = λ y g e m. refl;
-    tables = λ y. omega arith;
-    objects = λ k q d. (q, d, is_same q);
-    exceptions = λ k y d. get_append s.exceptions (x ∷ []) k y d;
-    tags = λ k t d. d;
-    externs = λ k w d. d;
-    addresses = refl;
-  }
 
   pub exception_fits : (s : Store) (x : ExceptionInstance) → StoreFits p s → ThrownFits p s x → StoreFits p (with_exception s x)
   exception_fits s x f h =
@@ -268,5 +368,7 @@ module _ (p : Program) where
         exceptions = each_append (ThrownFits p (with_exception s x)) s.exceptions (x ∷ []) (exceptions_fit s (with_exception s x) later f) (thrown_later s (with_exception s x) later x h, tt);
         tags = f.tags;
         externs = externs_fit s (with_exception s x) later f;
-        addresses = f.addresses;
+        global_addresses = globals_there s (with_exception s x) later f;
+        table_addresses = tables_there s (with_exception s x) later f;
+        tag_addresses = tags_there s (with_exception s x) later f;
       }

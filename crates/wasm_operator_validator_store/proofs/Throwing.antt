@@ -80,13 +80,13 @@ clause_there (turn q more) (suc n) o e = clause_there more n o e
 
 module _ (p : Program) (a : Answer) (s : Store) (fits : StoreFits p s) (tag : ℕ) (t : TypeTree) (is : slice_get s.tags tag ≡ Some t) (vs : List Value) where
   -- a tag at this address has this type
-  pub tag_type : (x : ℕ) (u : TypeTree) → slice_get p.«module».tags x ≡ Some u → is_for_tag s.tag_addresses tag (Some x) ≡ true → u ≡ t
+  pub tag_type : (x : ℕ) (u : TypeTree) → slice_get p.«module».tags x ≡ Some u → is_for_tag s.addresses.tags tag (Some x) ≡ true → u ≡ t
   tag_type x u e d =
-      let r = pairs_get (λ q k. slice_get s.tags k ≡ Some q) p.«module».tags s.tag_addresses x u fits.addresses e in
-      let at : r.0 ≡ tag = sym (get_or_there s.tag_addresses x r.0 (tag + 1) r.1) ∙ eqb-true (get_or s.tag_addresses x (tag + 1)) tag d in
+      let r = pairs_get (λ q k. slice_get s.tags k ≡ Some q) p.«module».tags s.addresses.tags x u fits.tag_addresses e in
+      let at : r.0 ≡ tag = sym (get_or_there s.addresses.tags x r.0 (tag + 1) r.1) ∙ eqb-true (get_or s.addresses.tags x (tag + 1)) tag d in
       same_some u t (sym (subst (λ k. slice_get s.tags k ≡ Some u) at r.2) ∙ is)
 
-  pub for_answer : (o : Option ℕ) (m : Move) → is_for_tag s.tag_addresses tag o ≡ true → m.is_answer → (is_for p a t vs o m).is_answer
+  pub for_answer : (o : Option ℕ) (m : Move) → is_for_tag s.addresses.tags tag o ≡ true → m.is_answer → (is_for p a t vs o m).is_answer
   for_answer None m d h = h
   for_answer (Some x) m d h = found_answer (slice_get p.«module».tags x) _ (λ u e. (tag_type x u e d, h))
 
@@ -96,41 +96,41 @@ module _ (p : Program) (a : Answer) (s : Store) (fits : StoreFits p s) (tag : �
   tag_carried (catch.All l) = refl
   tag_carried (catch.AllRef l) = refl
 
-  pub handle_answer : (h : Handlers) (act : Activation) (l : Label) (ls : List Label) (acts : List Activation) (n : ℕ) → first_of s.tag_addresses tag (tags_handled h) ≡ Some n → a.index ≡ n
+  pub handle_answer : (h : Handlers) (act : Activation) (l : Label) (ls : List Label) (acts : List Activation) (n : ℕ) → first_of s.addresses.tags tag (tags_handled h) ≡ Some n → a.index ≡ n
       → (handle p a t vs h act l ls acts).is_answer
   handle_answer no_handlers act l ls acts n e i = absurd (none_some n e)
   handle_answer (table cs) act l ls acts n e i =
-      let r = first_is s.tag_addresses tag (map tag_caught cs) n e in
+      let r = first_is s.addresses.tags tag (map tag_caught cs) n e in
       let k = get_map_back tag_caught cs n r.0 r.1 in
       subst (λ (o : Option Catch). (catch_by p a t vs o act ls acts).is_answer) (sym (ap (λ m. slice_get cs m) i ∙ k.1))
-      (for_answer (caught_by p a t vs k.0).tag _ (ap (λ o. is_for_tag s.tag_addresses tag o) (tag_carried k.0 ∙ k.2) ∙ r.2)
+      (for_answer (caught_by p a t vs k.0).tag _ (ap (λ o. is_for_tag s.addresses.tags tag o) (tag_carried k.0 ∙ k.2) ∙ r.2)
       (found_answer (slice_get (map branch_type ls) (caught_by p a t vs k.0).label) _ (λ ts d. jump_any p a (caught_by p a t vs k.0).label act ls (caught_by p a t vs k.0).values acts)))
   handle_answer (clauses c) act l ls acts n e i =
-      let r = first_is s.tag_addresses tag (tags_turned_to c) n e in
+      let r = first_is s.addresses.tags tag (tags_turned_to c) n e in
       let k = clause_there c n r.0 r.1 in
       subst (λ (o : Option Clause). (turn_to p a t vs o act l ls acts).is_answer) (sym (ap (λ m. clause_at c m) i ∙ k.1))
-      (for_answer (k.0).tag _ (ap (λ o. is_for_tag s.tag_addresses tag o) k.2 ∙ r.2) tt)
+      (for_answer (k.0).tag _ (ap (λ o. is_for_tag s.addresses.tags tag o) k.2 ∙ r.2) tt)
 
   -- where the place is found among labels, the answer that tells it is one
   abbrev Tells : Place → ℕ → Type 0
   Tells q n = (n ≡ q.leaves) × (a.index ≡ q.clause)
 
-  at_label : (act : Activation) (l : Label) (ls : List Label) (n : ℕ) (rest : List Label) (acts : List Activation) (further : ℕ → Move) → ((k m : ℕ) → Tells (caught_from s.tag_addresses tag k rest) m → (further m).is_answer)
-      → (o : Option ℕ) → first_of s.tag_addresses tag (tags_handled l.handlers) ≡ o
-      → ((m : ℕ) → Tells (caught_from s.tag_addresses tag (passed_over l.handlers) (ls ++ rest)) m → (leave_labels p a t vs act ls m acts further).is_answer)
-      → Tells (caught_if s.tag_addresses tag o (caught_from s.tag_addresses tag (passed_over l.handlers) (ls ++ rest))) n → (leave_labels p a t vs act (l ∷ ls) n acts further).is_answer
+  at_label : (act : Activation) (l : Label) (ls : List Label) (n : ℕ) (rest : List Label) (acts : List Activation) (further : ℕ → Move) → ((k m : ℕ) → Tells (caught_from s.addresses.tags tag k rest) m → (further m).is_answer)
+      → (o : Option ℕ) → first_of s.addresses.tags tag (tags_handled l.handlers) ≡ o
+      → ((m : ℕ) → Tells (caught_from s.addresses.tags tag (passed_over l.handlers) (ls ++ rest)) m → (leave_labels p a t vs act ls m acts further).is_answer)
+      → Tells (caught_if s.addresses.tags tag o (caught_from s.addresses.tags tag (passed_over l.handlers) (ls ++ rest))) n → (leave_labels p a t vs act (l ∷ ls) n acts further).is_answer
   at_label act l ls n rest acts further f (Some c) e deeper k = subst (λ m. (leave_labels p a t vs act (l ∷ ls) m acts further).is_answer) (sym k.0) (handle_answer l.handlers act l ls acts c e k.1)
   at_label act l ls n rest acts further f None e deeper k = subst (λ m. (leave_labels p a t vs act (l ∷ ls) m acts further).is_answer) (sym k.0) (deeper _ (refl, k.1))
 
-  pub leave_answer : (act : Activation) (ls : List Label) (skip n : ℕ) (rest : List Label) (acts : List Activation) (further : ℕ → Move) → Tells (caught_from s.tag_addresses tag skip (ls ++ rest)) n
-      → ((k m : ℕ) → Tells (caught_from s.tag_addresses tag k rest) m → (further m).is_answer) → (leave_labels p a t vs act ls n acts further).is_answer
+  pub leave_answer : (act : Activation) (ls : List Label) (skip n : ℕ) (rest : List Label) (acts : List Activation) (further : ℕ → Move) → Tells (caught_from s.addresses.tags tag skip (ls ++ rest)) n
+      → ((k m : ℕ) → Tells (caught_from s.addresses.tags tag k rest) m → (further m).is_answer) → (leave_labels p a t vs act ls n acts further).is_answer
   leave_answer act [] skip n rest acts further h f = f skip n h
   leave_answer act (l ∷ ls) (suc skip) n rest acts further h f =
       subst (λ m. (leave_labels p a t vs act (l ∷ ls) m acts further).is_answer) (sym h.0) (leave_answer act ls skip _ rest acts further (refl, h.1) f)
   leave_answer act (l ∷ ls) zero n rest acts further h f =
-      at_label act l ls n rest acts further f (first_of s.tag_addresses tag (tags_handled l.handlers)) refl (λ m k. leave_answer act ls (passed_over l.handlers) m rest acts further k f) h
+      at_label act l ls n rest acts further f (first_of s.addresses.tags tag (tags_handled l.handlers)) refl (λ m k. leave_answer act ls (passed_over l.handlers) m rest acts further k f) h
 
-  pub unwind_answer : (x : List Activation) (skip n : ℕ) → Tells (caught_from s.tag_addresses tag skip (labels_of x)) n → (unwind p a t vs x n).is_answer
+  pub unwind_answer : (x : List Activation) (skip n : ℕ) → Tells (caught_from s.addresses.tags tag skip (labels_of x)) n → (unwind p a t vs x n).is_answer
   unwind_answer [] skip n h = tt
   unwind_answer (act ∷ acts) skip n h = leave_answer act (act.innermost ∷ act.around) skip n (labels_of acts) acts (unwind p a t vs acts) h (λ k m q. unwind_answer acts k m q)
 
@@ -138,15 +138,15 @@ module _ (p : Program) (a : Answer) (s : Store) (fits : StoreFits p s) (tag : �
 
 module _ (p : Program) (valid : IsValidProgram p) (results : List ValueType) (act : Activation) (acts : List Activation) (s : Store) (v : AreValid p results (act ∷ acts) s) (more : Code) (a : Answer) (u : Store) where
   -- the address of a tag of the module has its type
-  pub tag_there : (x : ℕ) (t : TypeTree) → slice_get p.«module».tags x ≡ Some t → slice_get s.tags (get_or s.tag_addresses x 0) ≡ Some t
+  pub tag_there : (x : ℕ) (t : TypeTree) → slice_get p.«module».tags x ≡ Some t → slice_get s.tags (get_or s.addresses.tags x 0) ≡ Some t
   tag_there x t e =
-      let r = pairs_get (λ q k. slice_get s.tags k ≡ Some q) p.«module».tags s.tag_addresses x t v.store.addresses e in
-      subst (λ k. slice_get s.tags k ≡ Some t) (sym (get_or_there s.tag_addresses x r.0 0 r.1)) r.2
+      let r = pairs_get (λ q k. slice_get s.tags k ≡ Some q) p.«module».tags s.addresses.tags x t v.store.tag_addresses e in
+      subst (λ k. slice_get s.tags k ≡ Some t) (sym (get_or_there s.addresses.tags x r.0 0 r.1)) r.2
 
   pub throw_done : (x : ℕ) → act.innermost.code ≡ plain (op.Exception (op.Throw x)) more → GivesOperator p (act ∷ acts) s a u act (op.Exception (op.Throw x)) → IsDone p act acts (plain (op.Exception (op.Throw x)) more) s a u
   throw_done x c h =
       let vs = act.innermost.values in
-      let tag = get_or s.tag_addresses x 0 in
+      let tag = get_or s.addresses.tags x 0 in
       let thrown : ExceptionInstance = record { tag = tag; values = take (arity (function_type_in (slice_get p.«module».tags x))) vs } in
       let inner : TypeTree → Signature → Move = λ t b. takes p a b.params vs (λ us ws. unwind p a t us (act ∷ acts) a.leaves) in
       let outer : TypeTree → Move = λ t. found (function_type t) (inner t) in
@@ -162,7 +162,7 @@ module _ (p : Program) (valid : IsValidProgram p) (results : List ValueType) (ac
       subst (λ w. IsDone p act acts (plain (op.Exception (op.Throw x)) more) s a w) (sym h.2) (record {
         answer = answer;
         store = exception_fits p s thrown v.store (q.0, tag_there x q.0 q.1, fit, each_take (Knows s) (arity (function_type_in (slice_get p.«module».tags x))) vs v.known.0.innermost.values);
-        evolves = exception_evolves p s thrown;
+        evolves = exception_evolves s thrown;
         values = values_known p valid results act acts s v (with_exception s thrown) a [] h.1 tt;
         new = λ t e. (thrown, subst (λ k. slice_get (s.exceptions ++ thrown ∷ []) k ≡ Some thrown) (sym h.0) (get_last s.exceptions thrown), tag_there x t e);
       })

@@ -92,8 +92,8 @@ module _ (p : Program) (s : State) (before : Store) (a : Answer) (after : Store)
 
   -- one of this tag, thrown in such a state, goes to the clause that catches it
   abbrev pub LandsFrom : State → ℕ → Type 0
-  LandsFrom x tag = (a.leaves ≡ (place_of before.tag_addresses tag x).leaves)
-      × (a.index ≡ (place_of before.tag_addresses tag x).clause)
+  LandsFrom x tag = (a.leaves ≡ (place_of before.addresses.tags tag x).leaves)
+      × (a.index ≡ (place_of before.addresses.tags tag x).clause)
 
   abbrev pub Lands : ℕ → Type 0
   Lands tag = LandsFrom s tag
@@ -122,11 +122,11 @@ module _ (p : Program) (s : State) (before : Store) (a : Answer) (after : Store)
 
     -- It may change whatever may change, as long as all fits.
     abbrev pub HostActs : Type 0
-    HostActs = (step p s a).is_answer × Evolves p before after × StoreFits p after × HostEnds a.throws
+    HostActs = (step p s a).is_answer × Evolves before after × StoreFits p after × HostEnds a.throws
 
     abbrev pub Begins : Option Body → Type 0
     Begins None = HostActs
-    Begins (Some f) = Stays
+    Begins (Some f) = (a.traps ≡ false) × Stays
 
     abbrev pub Calls : Value → Type 0
     Calls (ref_function i t) = Begins (body_of (named p a i))
@@ -156,7 +156,7 @@ module _ (p : Program) (s : State) (before : Store) (a : Answer) (after : Store)
     -- a call through a table, by the type of what is there
     abbrev pub CallsIndirect : Bool → ℕ → ℕ → Type 0
     CallsIndirect tail y x = OrTraps (slice_get (table_in before x) (index 0)) (λ v. There (type_named y) (λ t.
-        (a.held ≡ v) × (a.traps ≡ false) × (IsTrue a.condition ↔ Fits p v (ref false (concrete t)))
+        (a.held ≡ v) × (IsTrue a.condition ↔ Fits p v (ref false (concrete t)))
         × Either a.condition (Calls tail v) Stays))
 
     abbrev pub GivesControl : ControlOperator → Type 0
@@ -180,7 +180,7 @@ module _ (p : Program) (s : State) (before : Store) (a : Answer) (after : Store)
 
     abbrev pub GivesException : ExceptionTree → Type 0
     GivesException (op.Throw x) = Throws (record {
-      tag = get_or before.tag_addresses x 0;
+      tag = get_or before.addresses.tags x 0;
       values = tops (arity (function_type_in (slice_get p.«module».tags x)));
     })
     GivesException op.ThrowRef = ThrowsReference (top 0)

@@ -1,15 +1,18 @@
--- The first store of a program (WebAssembly 3.0, execution, modules, instantiation), before its active segments are written: what the host
--- gives for imports, and what constants come to, one after the other.
-use Rattle.std.specs.Prelude.{◌≡◌, ℕ, suc, List, [], ◌∷◌, ◌++◌, ◌+◌, length, map, take, replicate, Option, Some, None, slice_get, slice_set}
+-- The first store of a program (WebAssembly 3.0, execution, modules, allocation and instantiation): what the host gives for imports, new
+-- addresses for what is the program's own, what constants come to, one after the other, and active segments of elements, which are written.
+use Rattle.std.specs.Prelude.{◌≡◌, ℕ, zero, suc, List, [], ◌∷◌, ◌++◌, length, map, take, drop, replicate, Option, Some, None, slice_get, slice_set}
+use Rattle.wasm_types.specs.trees.Trees.{TypeTree}
+use Rattle.wasm_types.specs.trees.Below.{Below}
 use Rattle.wasm_operators_encoding.specs.expressions.Code.{Code}
 use Rattle.wasm_operator_validator_rules.specs.Operands.{ValueType}
 use Rattle.wasm_operator_validator_rules.specs.Context.{Table, Global}
 use Rattle.wasm_operator_validator_rules.specs.Typed.{IsBody}
 use Rattle.wasm_operator_validator_rules.specs.constants.Constants.{constant_context}
-use Rattle.wasm_operator_validator_soundness.specs.runs.Values.{Function, Program, Value, Fits, default_of}
+use Rattle.wasm_operator_validator_soundness.specs.runs.Values.{Function, Program, Value, ref_function, Fits, default_of}
+use Rattle.wasm_operator_validator_soundness.specs.runs.Machine.{address}
 use Rattle.wasm_operator_validator_soundness.specs.runs.Soundness.{IsValidProgram}
-use Rattle.wasm_operator_validator_store.specs.Stores.{Store, with_table}
-use Rattle.wasm_operator_validator_store.specs.ValidStores.{StoreFits}
+use Rattle.wasm_operator_validator_store.specs.Stores.{GlobalInstance, TableInstance, Store, bits_of, placed, table_in, segment_in, with_table, without_segment}
+use Rattle.wasm_operator_validator_store.specs.ValidStores.{Each, StoreFits}
 use Rattle.wasm_operator_validator_store.specs.Soundness.{Evaluates}
 
 -- ---- constants
@@ -29,45 +32,157 @@ seen_with p globals = record {
 abbrev pub IsConstant : Program → List Global → ValueType → Code → Type 0
 IsConstant p globals t c = IsBody (constant_context p.bits (seen_with p globals).«module» t) 0 c
 
--- what a table holds at first, everywhere: a constant, or a default
+-- ---- what a program has of its own
+
+-- what a table holds at first: so many times the value of a constant, or the default of its type
 pub record Filling : Type 0 where
   pub size : ℕ
   pub constant : Option Code
 
--- The constants of the program's own globals, tables and element segments, each in order; and how many globals and tables are imported.
+-- an element of a segment: a reference to a function, or the value of a constant
+pub data Item : Type 0 where
+  function_item : ℕ → Item
+  constant_item : Code → Item
+
+-- What becomes of a segment at first: it is kept, or dropped, or it is written to a table from an offset on, and dropped.
+pub data Use : Type 0 where
+  kept : Use
+  dropped : Use
+  written : ℕ → Code → Use
+
+pub record Segment : Type 0 where
+  pub items : List Item
+  pub first_use : Use
+
+-- The program's own globals, by their constants, its own tables, and its element segments, each in order; and how many globals, tables
+-- and tags are imported.
 pub record Initials : Type 0 where
   pub imported_globals : ℕ
   pub imported_tables : ℕ
+  pub imported_tags : ℕ
   pub globals : List Code
   pub tables : List Filling
-  pub segments : List (List Code)
+  pub segments : List Segment
 
-abbrev pub with_globals : Store → List Value → Store
-with_globals s vs = record s { globals = vs }
+-- ---- each of its type
+
+module _ (p : Program) where
+  -- each constant for a global sees those before it, from this index on
+  abbrev pub GlobalsAreTyped : ℕ → List Code → Type 0
+  GlobalsAreTyped n [] = length p.«module».globals ≡ n
+  GlobalsAreTyped n (c ∷ cs) = (g : Global) × (slice_get p.«module».globals n ≡ Some g)
+      × IsConstant p (take n p.«module».globals) g.content c × GlobalsAreTyped (suc n) cs
+
+  -- a constant for a table sees so many globals, and a default fits
+  abbrev pub IsFilling : ℕ → ValueType → Option Code → Type 0
+  IsFilling n t None = (v : Value) × (default_of t ≡ Some v) × Fits p v t
+  IsFilling n t (Some c) = IsConstant p (take n p.«module».globals) t c
+
+  abbrev pub TablesAreTyped : ℕ → ℕ → List Filling → Type 0
+  TablesAreTyped n x [] = length p.«module».tables ≡ x
+  TablesAreTyped n x (f ∷ fs) = (t : Table) × (slice_get p.«module».tables x ≡ Some t) × IsFilling n t.element f.constant
+      × TablesAreTyped n (suc x) fs
+
+  abbrev pub IsItem : ValueType → Item → Type 0
+  IsItem t (function_item x) = (f : Function) × (slice_get p.functions x ≡ Some f) × Fits p (ref_function (Some x) f.type) t
+  IsItem t (constant_item c) = IsConstant p p.«module».globals t c
+
+  -- elements are written to a table of their type, from an offset on that is an address of it
+  abbrev pub IsUse : ValueType → Use → Type 0
+  IsUse t kept = Unit {0}
+  IsUse t dropped = Unit {0}
+  IsUse t (written x c) = (q : Table) × (slice_get p.«module».tables x ≡ Some q) × Below t q.element
+      × IsConstant p p.«module».globals (address q.table64) c
+
+  abbrev pub SegmentsAreTyped : ℕ → List Segment → Type 0
+  SegmentsAreTyped e [] = length p.«module».elements ≡ e
+  SegmentsAreTyped e (x ∷ xs) = (t : ValueType) × (slice_get p.«module».elements e ≡ Some t) × Each (IsItem t) x.items
+      × IsUse t x.first_use × SegmentsAreTyped (suc e) xs
+
+  -- one for each global and each table that is not imported, and for each segment
+  pub record AreInitials (i : Initials) : Type 0 where
+    pub globals : GlobalsAreTyped i.imported_globals i.globals
+    pub tables : TablesAreTyped i.imported_globals i.imported_tables i.tables
+    pub segments : SegmentsAreTyped 0 i.segments
+
+-- ---- allocation
+
+-- so many addresses, from one on
+abbrev pub addresses_from : ℕ → ℕ → List ℕ
+addresses_from k zero = []
+addresses_from k (suc n) = k ∷ addresses_from (suc k) n
+
+abbrev pub empty_table : Table → TableInstance
+empty_table t = record { type = t; elements = [] }
+
+module _ (p : Program) (i : Initials) where
+  -- the program as the host sees it: with its imports alone
+  abbrev pub imports_of : Program
+  imports_of = record {
+    bits = p.bits;
+    «module» = record p.«module» {
+      globals = take i.imported_globals p.«module».globals;
+      tables = take i.imported_tables p.«module».tables;
+      tags = take i.imported_tags p.«module».tags;
+      elements = [];
+    };
+    functions = map without_body p.functions;
+  }
+
+  abbrev pub own_tables : List Table
+  own_tables = drop i.imported_tables p.«module».tables
+
+  abbrev pub own_tags : List TypeTree
+  own_tags = drop i.imported_tags p.«module».tags
+
+  -- The program's own tags and tables are made, at addresses at which there was none, and all its segments. So far tables and segments
+  -- are empty.
+  abbrev pub allocated : Store → Store
+  allocated s = record s {
+    tables = s.tables ++ map empty_table own_tables;
+    segments = map (λ t. []) p.«module».elements;
+    tags = s.tags ++ own_tags;
+    addresses = record s.addresses {
+      tables = s.addresses.tables ++ addresses_from (length s.tables) (length own_tables);
+      tags = s.addresses.tags ++ addresses_from (length s.tags) (length own_tags);
+    };
+  }
+
+-- another global, at a new address
+abbrev pub with_new_global : Store → GlobalInstance → Store
+with_new_global s g = record s {
+  globals = s.globals ++ g ∷ [];
+  addresses = record s.addresses { globals = s.addresses.globals ++ length s.globals ∷ [] };
+}
+
+-- the module sees the globals at these addresses
+abbrev pub seeing_globals : Store → List ℕ → Store
+seeing_globals s ks = record s { addresses = record s.addresses { globals = ks } }
 
 abbrev pub with_segment : Store → ℕ → List Value → Store
 with_segment s e vs = record s { segments = slice_set s.segments e vs }
 
 module _ (p : Program) where
-  abbrev pub all_globals : List Global
-  all_globals = p.«module».globals
+  -- with all its globals
+  abbrev pub all_seen : Program
+  all_seen = seen_with p p.«module».globals
 
   -- ---- globals, each of which sees those before it
+
   abbrev pub GlobalsBecome : ℕ → List Code → Store → Store → Type 0
   GlobalsBecome n [] s u = s ≡ u
   GlobalsBecome n (c ∷ cs) s u = (g : Global) × (v : Value) × (w : Store) × (slice_get p.«module».globals n ≡ Some g)
-      × IsConstant p (take n p.«module».globals) g.content c
       × Evaluates (seen_with p (take n p.«module».globals)) g.content c s v w
-      × GlobalsBecome (suc n) cs (with_globals w (w.globals ++ v ∷ [])) u
+      × GlobalsBecome (suc n) cs (with_new_global w (record { type = g; value = v })) u
 
   -- ---- tables, whose constants see so many globals
 
-  -- The constant runs over a store with those globals alone, and the others are there again afterwards.
+  -- The constant runs over a store in which the module sees those alone, and it sees all again afterwards.
   abbrev pub Fills : ℕ → ValueType → Option Code → Store → Value → Store → Type 0
   Fills n t None s v u = (default_of t ≡ Some v) × (s ≡ u)
-  Fills n t (Some c) s v u = (w : Store) × IsConstant p (take n p.«module».globals) t c
-      × Evaluates (seen_with p (take n p.«module».globals)) t c (with_globals s (take n s.globals)) v w
-      × (with_globals w s.globals ≡ u)
+  Fills n t (Some c) s v u = (w : Store)
+      × Evaluates (seen_with p (take n p.«module».globals)) t c (seeing_globals s (take n s.addresses.globals)) v w
+      × (seeing_globals w s.addresses.globals ≡ u)
 
   abbrev pub TablesBecome : ℕ → ℕ → List Filling → Store → Store → Type 0
   TablesBecome n x [] s u = s ≡ u
@@ -77,36 +192,47 @@ module _ (p : Program) where
 
   -- ---- element segments, whose constants see all globals
 
-  abbrev pub ElementsBecome : ValueType → List Code → Store → List Value → Store → Type 0
-  ElementsBecome t [] s vs u = (vs ≡ []) × (s ≡ u)
-  ElementsBecome t (c ∷ cs) s vs u = (v : Value) × (ws : List Value) × (w : Store)
-      × IsConstant p p.«module».globals t c × Evaluates (seen_with p p.«module».globals) t c s v w
-      × ElementsBecome t cs w ws u × (vs ≡ v ∷ ws)
+  abbrev pub ItemBecomes : ValueType → Item → Store → Value → Store → Type 0
+  ItemBecomes t (function_item x) s v u = (f : Function) × (slice_get p.functions x ≡ Some f)
+      × (v ≡ ref_function (Some x) f.type) × (s ≡ u)
+  ItemBecomes t (constant_item c) s v u = Evaluates all_seen t c s v u
 
-  abbrev pub SegmentsBecome : ℕ → List (List Code) → Store → Store → Type 0
+  abbrev pub ItemsBecome : ValueType → List Item → Store → List Value → Store → Type 0
+  ItemsBecome t [] s vs u = (vs ≡ []) × (s ≡ u)
+  ItemsBecome t (i ∷ is) s vs u = (v : Value) × (ws : List Value) × (w : Store) × ItemBecomes t i s v w
+      × ItemsBecome t is w ws u × (vs ≡ v ∷ ws)
+
+  abbrev pub SegmentsBecome : ℕ → List Segment → Store → Store → Type 0
   SegmentsBecome e [] s u = s ≡ u
-  SegmentsBecome e (cs ∷ css) s u = (t : ValueType) × (vs : List Value) × (w : Store)
-      × (slice_get p.«module».elements e ≡ Some t) × ElementsBecome t cs s vs w
-      × SegmentsBecome (suc e) css (with_segment w e vs) u
+  SegmentsBecome e (x ∷ xs) s u = (t : ValueType) × (vs : List Value) × (w : Store)
+      × (slice_get p.«module».elements e ≡ Some t) × ItemsBecome t x.items s vs w
+      × SegmentsBecome (suc e) xs (with_segment w e vs) u
 
-  -- ---- all of them
+  -- ---- active segments, one after the other; one that does not fit into its table traps, and then there is no first store
 
-  -- From what the host gives: a store with the imported globals and tables, in which the program's own tables and segments are empty.
+  abbrev pub IsUsed : ℕ → Use → Store → Store → Type 0
+  IsUsed e kept s u = s ≡ u
+  IsUsed e dropped s u = without_segment s e ≡ u
+  IsUsed e (written x c) s u = (t : Table) × (v : Value) × (w : Store) × (vs : List Value)
+      × (slice_get p.«module».tables x ≡ Some t) × Evaluates all_seen (address t.table64) c s v w
+      × (placed (table_in w x) (bits_of v) (segment_in w e) ≡ Some vs) × (without_segment (with_table w x vs) e ≡ u)
+
+  abbrev pub AreUsed : ℕ → List Segment → Store → Store → Type 0
+  AreUsed e [] s u = s ≡ u
+  AreUsed e (x ∷ xs) s u = (w : Store) × IsUsed e x.first_use s w × AreUsed (suc e) xs w u
+
+  -- ---- all of them, from what the host gives: a store in which the imports have addresses
+
   pub record IsFirstStore (i : Initials) (host u : Store) : Type 0 where
-    pub with_all_globals : Store
-    pub with_all_tables : Store
-    pub globals : GlobalsBecome i.imported_globals i.globals host with_all_globals
-    pub complete : take (i.imported_globals + length i.globals) p.«module».globals ≡ p.«module».globals
-    pub tables : TablesBecome i.imported_globals i.imported_tables i.tables with_all_globals with_all_tables
-    pub segments : SegmentsBecome 0 i.segments with_all_tables u
-
--- The default of a table fits in it.
-abbrev pub DefaultsFit : Program → Type 0
-DefaultsFit p = (x : ℕ) (t : Table) (v : Value) → slice_get p.«module».tables x ≡ Some t
-    → default_of t.element ≡ Some v → Fits p v t.element
+    pub with_globals : Store
+    pub with_tables : Store
+    pub with_segments : Store
+    pub globals : GlobalsBecome i.imported_globals i.globals (allocated p i host) with_globals
+    pub tables : TablesBecome i.imported_globals i.imported_tables i.tables with_globals with_tables
+    pub segments : SegmentsBecome 0 i.segments with_tables with_segments
+    pub used : AreUsed 0 i.segments with_segments u
 
 -- In the first store all fits, if it does in what the host gives.
 abbrev pub FirstStoresFit : Type 0
-FirstStoresFit = (p : Program) (i : Initials) (host u : Store) → IsValidProgram p → DefaultsFit p
-    → StoreFits (seen_with p (take i.imported_globals p.«module».globals)) host → IsFirstStore p i host u
-    → StoreFits p u
+FirstStoresFit = (p : Program) (i : Initials) (host u : Store) → IsValidProgram p → AreInitials p i
+    → StoreFits (imports_of p i) host → IsFirstStore p i host u → StoreFits p u

@@ -11,8 +11,8 @@ use Rattle.wasm_operator_validator_rules.specs.constants.Constants.{constant_con
 use Rattle.wasm_operator_validator_soundness.specs.runs.Values.{Program, Value}
 use Rattle.wasm_operator_validator_soundness.specs.runs.States.{State, Answer, next, returned}
 use Rattle.wasm_operator_validator_soundness.specs.runs.ValidStates.{IsValidState, IsValidOutcome}
-use Rattle.wasm_operator_validator_soundness.specs.runs.Soundness.{step, IsValidProgram, IsStarted, EndsWell, evaluated}
-use Rattle.wasm_operator_validator_store.specs.Stores.{ObjectInstance, Store, field_at}
+use Rattle.wasm_operator_validator_soundness.specs.runs.Soundness.{step, IsValidProgram, IsStarted, evaluated}
+use Rattle.wasm_operator_validator_store.specs.Stores.{ObjectInstance, Store, field_at, global_in}
 use Rattle.wasm_operator_validator_store.specs.ValidStores.{Knows, Has, HasState, HasOutcome, StoreFits, Evolves}
 use Rattle.wasm_operator_validator_store.specs.Giving.{GivesStep}
 
@@ -37,7 +37,7 @@ pub record StepIsSound (p : Program) (results : List ValueType) (x : State) (s :
   pub needs : (step p x a).needs
   pub outcome : IsValidOutcome p results (step p x a).outcome
   pub store : StoreFits p u
-  pub evolves : Evolves p s u
+  pub evolves : Evolves s u
   pub known : HasOutcome (Knows u) (step p x a).outcome
 
 -- ---- the theorem
@@ -46,12 +46,12 @@ abbrev pub StoreStepsAreSound : Type 0
 StoreStepsAreSound = (p : Program) (results : List ValueType) (x : State) (s : Store) (a : Answer) (u : Store)
     → IsValidProgram p → AreValid p results x s → GivesStep p x s a u → StepIsSound p results x s a u
 
--- A run that begins with what the store knows is a run of the machine without a store, is never stuck, and all fits on the way.
+-- A run that begins with what the store knows is a run of the machine without a store, is never stuck, and all fits on the way and
+-- after its last step.
 pub record StoreRunIsSound (p : Program) (results : List ValueType) (s u : Store) (y : State) : Type 0 where
   pub valid : AreValid p results y u
-  pub evolves : Evolves p s u
-  pub goes_on : (a : Answer) (w : Store) → GivesStep p y u a w → (step p y a).is_answer × (step p y a).needs
-      × EndsWell p results (step p y a).outcome
+  pub evolves : Evolves s u
+  pub goes_on : (a : Answer) (w : Store) → GivesStep p y u a w → StepIsSound p results y u a w
 
 -- whatever the store of each moment gives
 abbrev pub IsSoundOver : Program → List ValueType → Store → State → Type 0
@@ -78,15 +78,15 @@ pub record Evaluates (p : Program) (t : ValueType) (c : Code) (s : Store) (v : V
 abbrev pub StoreConstantsAreSound : Type 0
 StoreConstantsAreSound = (p : Program) (t : ValueType) (c : Code) (s : Store) (v : Value) (u : Store)
     → IsValidProgram p → IsBody (constant_context p.bits p.«module» t) 0 c → StoreFits p s → Evaluates p t c s v u
-    → Has p u t v × StoreFits p u × Evolves p s u
+    → Has p u t v × StoreFits p u × Evolves s u
 
 -- ---- what stays
 
 -- What does not change: an immutable global, and an immutable field or element, along a run.
 abbrev pub ImmutableIsKept : Type 0
-ImmutableIsKept = (p : Program) (s u : Store) → Evolves p s u
+ImmutableIsKept = (p : Program) (s u : Store) → StoreFits p s → Evolves s u
     → ((x : ℕ) (g : Global) → slice_get p.«module».globals x ≡ Some g → g.mutable ≡ false
-    → slice_get u.globals x ≡ slice_get s.globals x)
+    → global_in u x ≡ global_in s x)
     × ((k i : ℕ) (o : ObjectInstance) (f : FieldOf TypeTree) → slice_get s.objects k ≡ Some o
     → field_at (expanded o.type) i ≡ Some f → f.mutable ≡ false
     → (q : ObjectInstance) × (slice_get u.objects k ≡ Some q) × (slice_get q.fields i ≡ slice_get o.fields i))

@@ -1,9 +1,10 @@
 -- What a run keeps (WebAssembly 3.0, execution, runtime structure, store), for one instance: whatever can be read again, except what is in
 -- memories. Numbers in it have their bits, references their addresses.
-use Rattle.std.specs.Prelude.{ℕ, ℤ, pos, negsuc, zero, suc, ◌+◌, ◌-◌, ◌%◌, ◌^◌, Bool, true, false, not, ◌==◌, List, [], ◌∷◌, ◌++◌, map, get_or, slice_set, Option, Some, None, option_map, nat_lt, if◌then◌else◌}
+use Rattle.std.specs.Prelude.{ℕ, ℤ, pos, negsuc, zero, suc, ◌+◌, ◌-◌, ◌%◌, ◌^◌, Bool, true, false, not, ◌==◌, List, [], ◌∷◌, ◌++◌, map, get_or, length, slice_get, slice_set, Option, Some, None, option_map, nat_lt, if◌then◌else◌}
 use Rattle.wasm_types.specs.trees.Types.{none, i32, i64, StorageOf, FieldOf, InnerOf, array_of, struct_of}
 use Rattle.wasm_types.specs.trees.Trees.{TypeTree}
 use Rattle.wasm_operator_validator_rules.specs.Operands.{ValueType}
+use Rattle.wasm_operator_validator_rules.specs.Context.{Table, Global}
 use Rattle.wasm_operator_validator_soundness.specs.runs.Values.{Value, number_value, ref_null, ref_object, ref_i31, default_of}
 use Rattle.wasm_operator_validator_soundness.specs.runs.Machine.{operands_of, packed_in}
 
@@ -17,17 +18,32 @@ pub record ExceptionInstance : Type 0 where
   pub tag : ℕ
   pub values : List Value
 
--- Globals, tables and element segments, by the indices of the module; objects, exceptions, the types of tags, and what external
--- references were made of, by their addresses; and the address of each tag of the module.
+-- a global, and a table: the type that it was made with, and what it holds
+pub record GlobalInstance : Type 0 where
+  pub type : Global
+  pub value : Value
+
+pub record TableInstance : Type 0 where
+  pub type : Table
+  pub elements : List Value
+
+-- The addresses of the module's globals, tables and tags, by their indices. Two imports of one global have one address.
+pub record Addresses : Type 0 where
+  pub globals : List ℕ
+  pub tables : List ℕ
+  pub tags : List ℕ
+
+-- Globals, tables, objects, exceptions, the types of tags, and what external references were made of, by their addresses; the
+-- module's element segments, which no other module sees, by their indices; and its addresses.
 pub record Store : Type 0 where
-  pub globals : List Value
-  pub tables : List (List Value)
+  pub globals : List GlobalInstance
+  pub tables : List TableInstance
   pub segments : List (List Value)
   pub objects : List ObjectInstance
   pub exceptions : List ExceptionInstance
   pub tags : List TypeTree
   pub externs : List Value
-  pub tag_addresses : List ℕ
+  pub addresses : Addresses
 
 -- ---- lists
 
@@ -52,6 +68,12 @@ abbrev pub placed : {A : Type 0} → List A → ℕ → List A → Option (List 
 placed xs zero ys = over ys xs
 placed [] (suc i) ys = None
 placed (x ∷ xs) (suc i) ys = option_map (λ zs. x ∷ zs) (placed xs i ys)
+
+-- with the one at a place changed, if it is there
+abbrev pub changed : {A : Type 0} → (A → A) → List A → ℕ → List A
+changed f [] i = []
+changed f (x ∷ xs) zero = f x ∷ xs
+changed f (x ∷ xs) (suc i) = x ∷ changed f xs i
 
 -- ---- numbers
 
@@ -125,21 +147,42 @@ field_at _ i = None
 
 -- ---- what is there, and with something else in its place
 
+abbrev pub value_held : Option GlobalInstance → Value
+value_held None = nothing
+value_held (Some g) = g.value
+
+abbrev pub elements_held : Option TableInstance → List Value
+elements_held None = []
+elements_held (Some t) = t.elements
+
+abbrev pub with_value : Value → GlobalInstance → GlobalInstance
+with_value v g = record g { value = v }
+
+abbrev pub with_elements : List Value → TableInstance → TableInstance
+with_elements vs t = record t { elements = vs }
+
 module _ (s : Store) where
+  -- the address of a global and of a table of the module, or one at which there is none
+  abbrev pub global_address : ℕ → ℕ
+  global_address x = get_or s.addresses.globals x (length s.globals)
+
+  abbrev pub table_address : ℕ → ℕ
+  table_address x = get_or s.addresses.tables x (length s.tables)
+
   abbrev pub global_in : ℕ → Value
-  global_in x = get_or s.globals x nothing
+  global_in x = value_held (slice_get s.globals (global_address x))
 
   abbrev pub table_in : ℕ → List Value
-  table_in x = get_or s.tables x []
+  table_in x = elements_held (slice_get s.tables (table_address x))
 
   abbrev pub segment_in : ℕ → List Value
   segment_in e = get_or s.segments e []
 
   abbrev pub with_global : ℕ → Value → Store
-  with_global x v = record s { globals = slice_set s.globals x v }
+  with_global x v = record s { globals = changed (with_value v) s.globals (global_address x) }
 
   abbrev pub with_table : ℕ → List Value → Store
-  with_table x vs = record s { tables = slice_set s.tables x vs }
+  with_table x vs = record s { tables = changed (with_elements vs) s.tables (table_address x) }
 
   abbrev pub without_segment : ℕ → Store
   without_segment e = record s { segments = slice_set s.segments e [] }

@@ -1,15 +1,15 @@
 -- What fits in a store (WebAssembly 3.0, appendix, soundness, store validity), and what becomes of a store (store extension).
-use Rattle.std.specs.Prelude.{◌≡◌, ◌≤◌, ℕ, false, List, [], ◌∷◌, length, Option, Some, None, slice_get}
+use Rattle.std.specs.Prelude.{◌≡◌, ◌⊎◌, ◌≤◌, ℕ, false, IsTrue, List, [], ◌∷◌, length, Option, Some, None, slice_get}
 use Rattle.wasm_types.specs.trees.Types.{any, abstract, ref, FieldOf, InnerOf, array_of, struct_of}
 use Rattle.wasm_types.specs.trees.Trees.{TypeTree}
-use Rattle.wasm_types.specs.trees.Below.{expanded}
+use Rattle.wasm_types.specs.trees.Below.{Below, expanded}
 use Rattle.wasm_operator_validator_rules.specs.Operands.{ValueType, stack}
 use Rattle.wasm_operator_validator_rules.specs.Context.{Table, Global, Signature, IsFunctionType}
 use Rattle.wasm_operator_validator_soundness.specs.runs.Values.{Program, Value, ref_object, ref_exn, ref_extern, Fits, AllFit}
 use Rattle.wasm_operator_validator_soundness.specs.runs.States.{Exception, Label, Activation, State, Outcome, next, returned, trapped, thrown, stuck}
 use Rattle.wasm_operator_validator_soundness.specs.runs.ValidStates.{IsThrown}
 use Rattle.wasm_operator_validator_soundness.specs.runs.Machine.{operand_of}
-use Rattle.wasm_operator_validator_store.specs.Stores.{ObjectInstance, ExceptionInstance, Store, field_at, table_in}
+use Rattle.wasm_operator_validator_store.specs.Stores.{GlobalInstance, TableInstance, ObjectInstance, ExceptionInstance, Store, field_at}
 
 -- each of a list, and each with what stands in the same place of another list
 abbrev pub Each : {A : Type 0} → (A → Type 0) → List A → Type 0
@@ -61,6 +61,27 @@ module _ (K : Value → Type 0) where
   HasOutcome trapped = Unit {0}
   HasOutcome stuck = Unit {0}
 
+-- ---- what lies at the module's addresses (validation, matching, external types)
+
+-- A global is of the type by which the module knows it, and if it is immutable its own type may be below that. A table is of that type.
+abbrev pub GlobalMatches : Global → Global → Type 0
+GlobalMatches own g = (own.mutable ≡ g.mutable) × (own.shared ≡ g.shared) × Below own.content g.content
+    × (IsTrue g.mutable → Below g.content own.content)
+
+abbrev pub TableMatches : Table → Table → Type 0
+TableMatches own t = (own.table64 ≡ t.table64) × (own.shared ≡ t.shared) × Below own.element t.element
+    × Below t.element own.element
+
+module _ (s : Store) where
+  abbrev pub IsGlobalAt : Global → ℕ → Type 0
+  IsGlobalAt g k = (i : GlobalInstance) × (slice_get s.globals k ≡ Some i) × GlobalMatches i.type g
+
+  abbrev pub IsTableAt : Table → ℕ → Type 0
+  IsTableAt t k = (i : TableInstance) × (slice_get s.tables k ≡ Some i) × TableMatches i.type t
+
+  abbrev pub IsTagAt : TypeTree → ℕ → Type 0
+  IsTagAt t k = slice_get s.tags k ≡ Some t
+
 -- ---- what fits
 
 module _ (p : Program) (s : Store) where
@@ -84,15 +105,23 @@ module _ (p : Program) (s : Store) where
   ThrownFits x = (t : TypeTree) × (slice_get s.tags x.tag ≡ Some t)
       × ((b : Signature) → IsFunctionType t b → AllFit p x.values (stack b.params)) × Each (Knows s) x.values
 
+  abbrev pub GlobalFits : GlobalInstance → Type 0
+  GlobalFits g = Has g.type.content g.value
+
+  abbrev pub TableFits : TableInstance → Type 0
+  TableFits t = Each (Has t.type.element) t.elements
+
   pub record StoreFits : Type 0 where
-    pub globals : Pairs (λ (g : Global) v. Has g.content v) p.«module».globals s.globals
-    pub tables : Pairs (λ (t : Table) vs. Each (Has t.element) vs) p.«module».tables s.tables
+    pub globals : Each GlobalFits s.globals
+    pub tables : Each TableFits s.tables
     pub segments : Pairs (λ t vs. Each (Has t) vs) p.«module».elements s.segments
     pub objects : Each ObjectFits s.objects
     pub exceptions : Each ThrownFits s.exceptions
     pub tags : Each IsThrown s.tags
     pub externs : Each (Has (ref false (abstract false any))) s.externs
-    pub addresses : Pairs (λ t k. slice_get s.tags k ≡ Some t) p.«module».tags s.tag_addresses
+    pub global_addresses : Pairs (IsGlobalAt s) p.«module».globals s.addresses.globals
+    pub table_addresses : Pairs (IsTableAt s) p.«module».tables s.addresses.tables
+    pub tag_addresses : Pairs (IsTagAt s) p.«module».tags s.addresses.tags
 
 -- ---- what becomes of a store
 
@@ -103,15 +132,32 @@ pub record IsLater (o q : ObjectInstance) : Type 0 where
   pub kept : (i : ℕ) (f : FieldOf TypeTree) → field_at (expanded o.type) i ≡ Some f → f.mutable ≡ false
       → slice_get q.fields i ≡ slice_get o.fields i
 
--- Whatever is in a store stays in it. Objects are later ones, exceptions and the like do not change, and neither do immutable globals.
-pub record Evolves (p : Program) (s u : Store) : Type 0 where
-  pub globals : (x : ℕ) (g : Global) → slice_get p.«module».globals x ≡ Some g → g.mutable ≡ false
-      → slice_get u.globals x ≡ slice_get s.globals x
-  pub tables : (x : ℕ) → length (table_in s x) ≤ length (table_in u x)
+-- a global keeps its type, and its value if it is immutable; a table keeps its type, and does not shrink
+pub record GlobalIsLater (g k : GlobalInstance) : Type 0 where
+  pub type : k.type ≡ g.type
+  pub kept : g.type.mutable ≡ false → k.value ≡ g.value
+
+pub record TableIsLater (t u : TableInstance) : Type 0 where
+  pub type : u.type ≡ t.type
+  pub size : length t.elements ≤ length u.elements
+
+-- a segment is as it was, or is dropped
+abbrev pub SegmentIsLater : List Value → List Value → Type 0
+SegmentIsLater vs us = (us ≡ vs) ⊎ (us ≡ [])
+
+-- Whatever is in a store stays in it. Globals, tables, segments and objects are later ones; exceptions and the like do not change, nor
+-- do the module's addresses.
+pub record Evolves (s u : Store) : Type 0 where
+  pub globals : (k : ℕ) (g : GlobalInstance) → slice_get s.globals k ≡ Some g → (i : GlobalInstance)
+      × (slice_get u.globals k ≡ Some i) × GlobalIsLater g i
+  pub tables : (k : ℕ) (t : TableInstance) → slice_get s.tables k ≡ Some t → (i : TableInstance)
+      × (slice_get u.tables k ≡ Some i) × TableIsLater t i
+  pub segments : (e : ℕ) (vs : List Value) → slice_get s.segments e ≡ Some vs → (us : List Value)
+      × (slice_get u.segments e ≡ Some us) × SegmentIsLater vs us
   pub objects : (k : ℕ) (o : ObjectInstance) → slice_get s.objects k ≡ Some o → (q : ObjectInstance)
       × (slice_get u.objects k ≡ Some q) × IsLater o q
   pub exceptions : (k : ℕ) (x : ExceptionInstance) → slice_get s.exceptions k ≡ Some x
       → slice_get u.exceptions k ≡ Some x
   pub tags : (k : ℕ) (t : TypeTree) → slice_get s.tags k ≡ Some t → slice_get u.tags k ≡ Some t
   pub externs : (k : ℕ) (v : Value) → slice_get s.externs k ≡ Some v → slice_get u.externs k ≡ Some v
-  pub addresses : u.tag_addresses ≡ s.tag_addresses
+  pub addresses : u.addresses ≡ s.addresses

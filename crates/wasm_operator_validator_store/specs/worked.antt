@@ -1,3 +1,4 @@
 pub mod Program
 pub mod Rows
 pub mod Arms
+pub mod Linked

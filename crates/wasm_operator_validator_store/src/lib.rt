@@ -4,9 +4,11 @@
 //! `Lib.antt`: the store, which clause catches, what fits in a store, what a store gives to each operator, and the laws.
 #![tactic(auto)]
 
+ghost use Rattle.std.specs.Prelude.{ℤ};
 ghost use Rattle.wasm_operator_validator_store.specs.Instantiation.{FirstStoresFit};
 ghost use Rattle.wasm_operator_validator_store.specs.Soundness.{ImmutableIsKept, StoreConstantsAreSound, StoreRunsAreSound, StoreStepsAreSound};
 ghost use Rattle.wasm_operator_validator_store.specs.worked.Arms.{ArmsWorked};
+ghost use Rattle.wasm_operator_validator_store.specs.worked.Linked.{LinkedStoreWorked};
 ghost use Rattle.wasm_operator_validator_store.specs.worked.Rows.{RowsWorked};
 
 /// What a store gives at a step is an answer of the machine that has no store. The step has what it needs, and all fits again.
@@ -14,7 +16,7 @@ pub fn store_steps_are_sound()
     ensures { StoreStepsAreSound }
 {}
 
-/// A run over a store is a run of the machine that has none, is never stuck, and all fits on the way.
+/// A run over a store is a run of the machine that has none, is never stuck, and all fits on the way and after its last step.
 pub fn store_runs_are_sound()
     ensures { StoreRunsAreSound }
 {}
@@ -24,7 +26,7 @@ pub fn store_constants_are_sound()
     ensures { StoreConstantsAreSound }
 {}
 
-/// In the first store of a program all fits: what the host gives, and what constants come to.
+/// In the first store of a program all fits, if it does in what the host gives: constants and active segments are put in their places.
 pub fn first_stores_fit()
     ensures { FirstStoresFit }
 {}
@@ -42,4 +44,10 @@ pub fn rows_are_worked()
 /// Steps over a store: each way in which an operator goes on.
 pub fn arms_are_worked()
     ensures { ArmsWorked }
+{}
+
+/// A store that the host gives to a program which imports one global and one table twice: it fits, the program's first store fits, and
+/// runs over that store read by one index what was written by the other.
+pub fn linked_store_is_worked()
+    ensures { (x : ℤ) → LinkedStoreWorked x }
 {}

@@ -14,8 +14,10 @@ use Rattle.wasm_operator_validator_soundness.specs.runs.Soundness.{IsStarted, Is
 use Rattle.wasm_operator_validator_store.specs.Stores.{Store}
 use Rattle.wasm_operator_validator_store.specs.ValidStores.{Knows, HasState, StoreFits}
 use Rattle.wasm_operator_validator_store.specs.Soundness.{IsSoundOver}
+use Rattle.wasm_operator_validator_store.specs.Instantiation.{imports_of, IsFirstStore}
 use Rattle.wasm_module_validator.specs.soundness.Modules.{program_of, AreHosts}
 use Rattle.wasm_module_validator.specs.soundness.Constants.{EachConstantFits}
+use Rattle.wasm_module_validator.specs.soundness.FirstStores.{initials_of}
 
 -- a function that takes and gives nothing, by its own type
 abbrev pub MayStart : Program → ℕ → Type 0
@@ -25,7 +27,7 @@ MayStart p x = (f : Function) × (slice_get p.functions x ≡ Some f)
 -- Whatever function of the module is started, with arguments that fit its parameters, and whatever is answered, it is never stuck; what
 -- it returns or throws fits, and at each place on the way each value fits what the rules know of it there. Over any store in which all
 -- fits, what is read is what was written last, and all fits again on the way. The function that starts the module takes and gives nothing.
--- Each constant gives what fits its place.
+-- Each constant gives what fits its place. Whatever the host gives for imports, if all fits in it, all fits in the first store.
 pub record RunsFrom (z : Settings) (m : ModuleTree) (hosts : List TypeTree) : Type 0 where
   pub functions : (s : State) (results : List ValueType) → IsStarted (program_of z m hosts) s results
       → IsNeverStuck (program_of z m hosts) results s
@@ -35,6 +37,8 @@ pub record RunsFrom (z : Settings) (m : ModuleTree) (hosts : List TypeTree) : Ty
       → StoreFits (program_of z m hosts) u → HasState (Knows u) s → IsSoundOver (program_of z m hosts) results u s
   pub start : IfThere (MayStart (program_of z m hosts)) m.start
   pub constants : EachConstantFits z m hosts
+  pub first_stores : (host u : Store) → StoreFits (imports_of (program_of z m hosts) (initials_of m)) host
+      → IsFirstStore (program_of z m hosts) (initials_of m) host u → StoreFits (program_of z m hosts) u
 
 -- so it is whatever the host gives for the functions that are imported
 abbrev pub ModuleRunsSoundly : Settings → ModuleTree → Type 0

@@ -15,12 +15,13 @@ use Rattle.wasm_operators_enums.specs.Op as op
 use Rattle.wasm_operators_enums.specs.Op.{Op}
 use Rattle.wasm_operators_encoding.specs.expressions.Code.{Code, plain}
 use Rattle.wasm_operator_validator_rules.specs.Operands.{ValueType}
+use Rattle.wasm_operator_validator_rules.specs.Context.{Table, Global}
 use Rattle.wasm_operator_validator_soundness.specs.runs.Values.{Function, Program, Value, number_value, ref_null, ref_function, ref_object, ref_i31}
 use Rattle.wasm_operator_validator_soundness.specs.runs.States.{Activation, State, Answer, Outcome, returned}
 use Rattle.wasm_operator_validator_soundness.specs.runs.Machine.{begun_with}
 use Rattle.wasm_operator_validator_soundness.specs.runs.Soundness.{step}
 use Rattle.wasm_operator_validator_soundness.specs.runs.worked.Runs.{small, standing, silent, end, gives_i32, takes_i32, pair, cells, octets}
-use Rattle.wasm_operator_validator_store.specs.Stores.{ObjectInstance, Store, nothing}
+use Rattle.wasm_operator_validator_store.specs.Stores.{GlobalInstance, ObjectInstance, Store, nothing}
 use Rattle.wasm_operator_validator_store.specs.Giving.{GivesStep}
 use Rattle.wasm_operator_validator_store.specs.Soundness.{StoreRuns}
 
@@ -56,16 +57,29 @@ objects = object pair (num 7 ∷ []) ∷ object pair (num 8 ∷ []) ∷ object c
 abbrev pub own : Value
 own = ref_function (Some 0) gives_i32
 
+-- a global that may be written, one that may not, and a table of functions
+abbrev pub counter : Global
+counter = record { content = number i32; mutable = true; shared = false }
+
+abbrev pub constant : Global
+constant = record { content = number i32; mutable = false; shared = false }
+
+abbrev pub callees : Table
+callees = record { element = ref true (abstract false func); table64 = false; shared = false }
+
+abbrev pub holds : Global → Value → GlobalInstance
+holds g v = record { type = g; value = v }
+
 abbrev pub store : Store
 store = record {
-  globals = num 1 ∷ num 2 ∷ [];
-  tables = (ref_null false func ∷ ref_null false func ∷ []) ∷ [];
+  globals = holds counter (num 1) ∷ holds constant (num 2) ∷ [];
+  tables = record { type = callees; elements = ref_null false func ∷ ref_null false func ∷ [] } ∷ [];
   segments = (own ∷ own ∷ []) ∷ (first_pair ∷ scalar ∷ []) ∷ [];
   objects = objects;
   exceptions = record { tag = 1; values = num 6 ∷ [] } ∷ [];
   tags = takes_i32 ∷ takes_i32 ∷ [];
   externs = [];
-  tag_addresses = 1 ∷ 0 ∷ [];
+  addresses = record { globals = 0 ∷ 1 ∷ []; tables = 0 ∷ []; tags = 1 ∷ 0 ∷ [] };
 }
 
 -- ---- answers
@@ -109,11 +123,10 @@ abbrev pub program : Program
 program = record (small (pos 5)) {
   «module» = record (small (pos 5)).«module» {
     functions = (small (pos 5)).«module».functions ++ gives_i32 ∷ [];
-    tables = record { element = ref true (abstract false func); table64 = false; shared = false } ∷ [];
+    tables = callees ∷ [];
     memories = one_page ∷ [];
     elements = ref true (abstract false func) ∷ ref true (abstract false any) ∷ [];
-    globals = record { content = number i32; mutable = true; shared = false }
-        ∷ record { content = number i32; mutable = false; shared = false } ∷ [];
+    globals = counter ∷ constant ∷ [];
     tags = takes_i32 ∷ takes_i32 ∷ [];
   };
   functions = (small (pos 5)).functions ++ of_host ∷ [];

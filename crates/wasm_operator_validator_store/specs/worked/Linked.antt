@@ -1,0 +1,138 @@
+-- A worked program that imports one global and one table twice, and the store that the host gives it. What the premises of the laws ask
+-- holds of both, so the laws are not about nothing. What is written by one index is read by the other, a function of the host is called
+-- through a table and returns or traps, and the program's own global, table, tag and segment are at new addresses.
+use Rattle.std.specs.Prelude.{◌≡◌, ◌+◌, ◌^◌, ℕ, ℤ, pos, true, false, List, [], ◌∷◌, Some, None}
+use Rattle.wasm_types.specs.trees.Types.{func, ref, abstract}
+use Rattle.wasm_operators_enums.specs.declared.constant.ConstOperator.TheVariants as const
+use Rattle.wasm_operators_enums.specs.declared.control.ControlOperator.TheVariants as control
+use Rattle.wasm_operators_enums.specs.declared.memory.MemoryOperator.TheVariants as memory
+use Rattle.wasm_operators_enums.specs.Op as op
+use Rattle.wasm_operators_enums.specs.Op.{Op}
+use Rattle.wasm_operators_encoding.specs.expressions.Code.{plain}
+use Rattle.wasm_operator_validator_soundness.specs.runs.Values.{Body, Program, Value, ref_null, ref_function}
+use Rattle.wasm_operator_validator_soundness.specs.runs.States.{State, Answer, Outcome, trapped}
+use Rattle.wasm_operator_validator_soundness.specs.runs.Machine.{begun}
+use Rattle.wasm_operator_validator_soundness.specs.runs.Soundness.{step, IsValidProgram, IsStarted}
+use Rattle.wasm_operator_validator_soundness.specs.runs.worked.Caught.{gives_number, own, end}
+use Rattle.wasm_operator_validator_soundness.specs.runs.worked.Older.{gives_type, tag_type}
+use Rattle.wasm_operator_validator_soundness.specs.runs.worked.Runs.{silent}
+use Rattle.wasm_operator_validator_store.specs.Stores.{TableInstance, Store, integer_bits}
+use Rattle.wasm_operator_validator_store.specs.ValidStores.{Knows, HasState, StoreFits}
+use Rattle.wasm_operator_validator_store.specs.Giving.{GivesStep}
+use Rattle.wasm_operator_validator_store.specs.Soundness.{StoreRuns, IsSoundOver}
+use Rattle.wasm_operator_validator_store.specs.Instantiation.{function_item, written, Initials, AreInitials, imports_of, IsFirstStore}
+use Rattle.wasm_operator_validator_store.specs.worked.Program.{num, numbers, counter, callees, holds, giving, returns}
+
+-- ---- what the host gives: a number, and a table of a function of its own and a null
+
+abbrev pub of_host : Value
+of_host = ref_function None gives_type
+
+abbrev pub callable : TableInstance
+callable = record { type = callees; elements = of_host ∷ ref_null false func ∷ [] }
+
+abbrev pub given : Store
+given = record {
+  globals = holds counter (num 0) ∷ [];
+  tables = callable ∷ [];
+  segments = [];
+  objects = [];
+  exceptions = [];
+  tags = tag_type ∷ [];
+  externs = [];
+  addresses = record { globals = 0 ∷ 0 ∷ []; tables = 0 ∷ 0 ∷ []; tags = 0 ∷ [] };
+}
+
+-- exceptions, references and garbage collection
+abbrev pub bits : ℕ
+bits = 2 ^ 3 + 2 ^ 13 + 2 ^ 17 + 2 ^ 19 + 2 ^ 22 + 2 ^ 25
+
+abbrev pub one : Op
+one = op.Const (const.I32Const (pos 1))
+
+-- with a constant of this number
+module _ (x : ℤ) where
+  abbrev pub five : Op
+  five = op.Const (const.I32Const x)
+
+  abbrev pub five_bits : Value
+  five_bits = num (integer_bits 32 x)
+
+  -- the global is written by its first index and read by its second; the table's first function is called by its second index
+  abbrev pub writing : Body
+  writing = own (plain five (plain (op.Memory (memory.GlobalSet 0)) (plain (op.Memory (memory.GlobalGet 1)) end)))
+
+  abbrev pub calling : Body
+  calling = own (plain (op.Const (const.I32Const (pos 0))) (plain (op.Control (control.CallIndirect 0 1)) end))
+
+  abbrev pub linked : Program
+  linked = record {
+    bits = bits;
+    «module» = record {
+      types = gives_type ∷ tag_type ∷ [];
+      functions = gives_type ∷ gives_type ∷ gives_type ∷ [];
+      tables = callees ∷ callees ∷ callees ∷ [];
+      memories = [];
+      globals = counter ∷ counter ∷ counter ∷ [];
+      tags = tag_type ∷ tag_type ∷ [];
+      elements = ref true (abstract false func) ∷ [];
+      data_count = None;
+      referenced = [];
+      exact_functions = [];
+    };
+    functions = record { type = gives_type; body = None } ∷ record { type = gives_type; body = Some writing }
+        ∷ record { type = gives_type; body = Some calling } ∷ [];
+  }
+
+  -- its own global is that number; its own table has two nulls, over the second of which the segment writes a function
+  abbrev pub initials : Initials
+  initials = record {
+    imported_globals = 2;
+    imported_tables = 2;
+    imported_tags = 1;
+    globals = plain five end ∷ [];
+    tables = record { size = 2; constant = None } ∷ [];
+    segments = record { items = function_item 1 ∷ []; first_use = written 2 (plain one end) } ∷ [];
+  }
+
+  abbrev pub first : Store
+  first = record {
+    globals = holds counter (num 0) ∷ holds counter five_bits ∷ [];
+    tables = callable ∷ record { type = callees; elements = ref_null false func ∷ ref_function (Some 1) gives_type ∷ [] } ∷ [];
+    segments = [] ∷ [];
+    objects = [];
+    exceptions = [];
+    tags = tag_type ∷ tag_type ∷ [];
+    externs = [];
+    addresses = record { globals = 0 ∷ 0 ∷ 1 ∷ []; tables = 0 ∷ 0 ∷ 1 ∷ []; tags = 0 ∷ 1 ∷ [] };
+  }
+
+  abbrev pub started : Body → State
+  started f = begun gives_type gives_number f [] numbers ∷ []
+
+  -- the call finds the function of the host, which returns this number, or traps
+  abbrev pub host_returns : ℕ → Answer
+  host_returns b = record silent { held = of_host; condition = true; values = num b ∷ [] }
+
+  abbrev pub host_traps : Answer
+  host_traps = record silent { held = of_host; condition = true; traps = true }
+
+  -- These answers, which the store of each moment gives, and a last one come to this.
+  abbrev pub Ends : Body → List Answer → Answer → Outcome → Type 0
+  Ends f answers a o = (w : Store) × (y : State) × (u : Store) × StoreRuns linked first (started f) answers w y
+      × GivesStep linked y w a u × ((step linked y a).outcome ≡ o)
+
+  pub record LinkedStoreWorked : Type 0 where
+    pub valid : IsValidProgram linked
+    pub typed : AreInitials linked initials
+    pub given_fits : StoreFits (imports_of linked initials) given
+    pub first_store : IsFirstStore linked initials given first
+    pub fits : StoreFits linked first
+    pub writing_from : IsStarted linked (started writing) numbers
+    pub calling_from : IsStarted linked (started calling) numbers
+    pub known : HasState (Knows first) (started writing)
+    pub sound : IsSoundOver linked numbers first (started writing)
+    pub read : Ends writing (giving (five_bits ∷ []) ∷ silent ∷ giving (five_bits ∷ []) ∷ []) silent
+        (returns (integer_bits 32 x))
+    pub called : Ends calling (giving (num 0 ∷ []) ∷ host_returns 7 ∷ []) silent (returns 7)
+    pub call_traps : Ends calling (giving (num 0 ∷ []) ∷ []) host_traps trapped
