@@ -133,6 +133,8 @@ fn nothing_known(alloc: Global) -> Known {
         referenced: Vec::new(alloc),
         globals: Vec::new(alloc),
         tags: Vec::new(alloc),
+        tables: Vec::new(alloc),
+        elements: Vec::new(alloc),
         data: 0,
         memory: false,
         table: false,

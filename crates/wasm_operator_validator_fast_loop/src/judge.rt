@@ -28,6 +28,9 @@ use wasm_operator_validator_fast_objects::references::{
 use wasm_operator_validator_fast_objects::structs::{
     struct_get, struct_get_s, struct_get_u, struct_new, struct_new_default, struct_set,
 };
+use wasm_operator_validator_fast_objects::tables::{
+    elem_drop, table_copy, table_fill, table_get, table_grow, table_init, table_set, table_size,
+};
 use wasm_operator_validator_fast_steps::blocks::{begin_if, begin_loop, block, end, finish, turn};
 use wasm_operator_validator_fast_steps::branches::{br, br_if, br_table, return_all};
 use wasm_operator_validator_fast_steps::calls::{
@@ -35,7 +38,7 @@ use wasm_operator_validator_fast_steps::calls::{
 };
 use wasm_operator_validator_fast_steps::constants::{f32_const, f64_const, i32_const, i64_const};
 use wasm_operator_validator_fast_steps::memory::{
-    load, memory_copy, memory_fill, memory_grow, memory_size, store,
+    data_drop, load, memory_copy, memory_fill, memory_grow, memory_init, memory_size, store,
 };
 use wasm_operator_validator_fast_steps::numbers::{change, change_prefixed, combine};
 use wasm_operator_validator_fast_steps::parametric::{drop_top, nop, select, unreachable};
@@ -125,7 +128,7 @@ fn away(
     end
 }
 
-/// Takes an operator on references, objects or exceptions.
+/// Takes an operator on references, objects, exceptions, tables or segments.
 #[inline(never)]
 fn referring(
     tables: &Tables,
@@ -148,6 +151,8 @@ fn referring(
         0x15 => return_call_ref(tables, bytes, at, stack, opens),
         0x1c => select_typed(tables, bytes, at, stack, opens),
         0x1f => try_table(tables, bytes, at, stack, opens),
+        0x25 => table_get(tables, bytes, at, stack, opens),
+        0x26 => table_set(tables, bytes, at, stack, opens),
         0xd0 => ref_null(tables, bytes, at, stack, opens),
         0xd1 => ref_is_null(tables, bytes, at, stack, opens),
         0xd2 => ref_func(tables, bytes, at, stack, opens),
@@ -156,6 +161,7 @@ fn referring(
         0xd5 => br_on_null(tables, bytes, at, stack, opens),
         0xd6 => br_on_non_null(tables, bytes, at, stack, opens),
         0xfb => object(tables, bytes, at, stack, opens),
+        0xfc => bulk(tables, bytes, at, stack, opens),
         _ => None,
     }
 }
@@ -210,15 +216,8 @@ fn object(
     }
 }
 
-/// Takes an operator behind the prefix `fc`.
-#[inline(always)]
-fn prefixed(
-    tables: &Tables,
-    bytes: &[u8],
-    at: usize,
-    stack: &mut Stack,
-    opens: &Opens,
-) -> Option<usize>
+/// Takes an operator behind the prefix `fc` on tables or segments.
+fn bulk(tables: &Tables, bytes: &[u8], at: usize, stack: &mut Stack, opens: &Opens) -> Option<usize>
     requires { Begins bytes.now at 0xfc }
     ensures leads { IfSome result (λ end. Leads bytes.now tables.now at (all opens.now) stack.old
         end (all opens.now) stack.new) }
@@ -229,10 +228,41 @@ fn prefixed(
         return None;
     };
     match code {
+        0x08 => memory_init(middle, tables, bytes, at, stack, opens),
+        0x09 => data_drop(middle, tables, bytes, at, stack, opens),
+        0x0c => table_init(middle, tables, bytes, at, stack, opens),
+        0x0d => elem_drop(middle, tables, bytes, at, stack, opens),
+        0x0e => table_copy(middle, tables, bytes, at, stack, opens),
+        0x0f => table_grow(middle, tables, bytes, at, stack, opens),
+        0x10 => table_size(middle, tables, bytes, at, stack, opens),
+        0x11 => table_fill(middle, tables, bytes, at, stack, opens),
+        _ => None,
+    }
+}
+
+/// Takes an operator behind the prefix `fc`: copies and fills of memory, and conversions, which are frequent, in the loop.
+#[inline(always)]
+fn prefixed(
+    tables: &Tables,
+    bytes: &[u8],
+    at: usize,
+    stack: &mut Stack,
+    opens: &mut Opens,
+) -> Option<usize>
+    requires { Begins bytes.now at 0xfc }
+    ensures leads { IfSome result (λ end. Leads bytes.now tables.now at (all opens.old) stack.old
+        end (all opens.new) stack.new) }
+    ensures forward { IfSome result (λ end. at < end) }
+    ensures inside { IfSome result (λ end. end ≤ length bytes.now) }
+{
+    let Some((code, middle)) = short_u32_at(bytes, at + 1) else {
+        return None;
+    };
+    match code {
         0x0a => memory_copy(middle, tables, bytes, at, stack, opens),
         0x0b => memory_fill(middle, tables, bytes, at, stack, opens),
         _ => match saturating_of(code) {
-            None => None,
+            None => away(tables, bytes, at, stack, opens),
             Some((takes, gives)) => {
                 change_prefixed(code, middle, takes, gives, tables, bytes, at, stack, opens)
             }

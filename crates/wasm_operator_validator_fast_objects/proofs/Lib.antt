@@ -7,4 +7,5 @@ mod Objects
 mod Referring
 mod Selecting
 mod StructRows
+mod TableRows
 mod Throwing

@@ -1,5 +1,5 @@
 -- Indices, arguments of accesses and constants, at an offset in the bytes.
-use Rattle.std.proofs.Common.{◌≡◌, ◌∙◌, ℕ, ℤ, suc, pos, ◌+◌, ◌-◌, ◌*◌, ◌/◌, ◌%◌, ◌+ℤ◌, ◌-ℤ◌, ◌*ℤ◌, ◌<◌, ◌≤◌, List, Bool, true, false, length, drop, get_or, refl, sym, subst, arith}
+use Rattle.std.proofs.Common.{◌≡◌, ◌∙◌, ℕ, ℤ, suc, pos, ◌+◌, ◌-◌, ◌*◌, ◌/◌, ◌%◌, ◌+ℤ◌, ◌-ℤ◌, ◌*ℤ◌, ◌<◌, ◌≤◌, List, Bool, true, false, length, drop, get_or, refl, sym, arith}
 use Rattle.std.proofs.lemmas.Bool.{lt-ltb, le-ltb}
 use Rattle.std.proofs.lemmas.List.{get_or-drop, length-drop}
 use Rattle.wasm_types.specs.decoding.Decoder.{State, Done, byte}
@@ -20,15 +20,10 @@ unfolding index_or_zero
 allowed_index true text i n e is g = g
 allowed_index false text i n e is g = absurd cc
 
--- an index that is 0 is read where indices may be
-pub long_first : (allowed asked : Bool) (text : List ℕ) (i n e : ℕ) → asked ≡ allowed → asked ≡ true → GivesAt u32 text i n e → n ≡ 0
-    → GivesAt (index_or_zero allowed) text i 0 e
-long_first allowed asked text i n e same is g none =
-    subst (λ (k : ℕ). GivesAt (index_or_zero allowed) text i k e) none (allowed_index allowed text i n e (sym same ∙ is) g)
-
--- one that is read wherever an index or a zero is
-pub short_first : (allowed : Bool) (text : List ℕ) (i n e : ℕ) → n ≡ 0 → ((b : Bool) → GivesAt (index_or_zero b) text i n e) → GivesAt (index_or_zero allowed) text i 0 e
-short_first allowed text i n e none g = subst (λ (k : ℕ). GivesAt (index_or_zero allowed) text i k e) none (g allowed)
+-- an index is read if indices may be
+pub long_index : (allowed asked : Bool) (text : List ℕ) (i n e : ℕ) → asked ≡ allowed → asked ≡ true → GivesAt u32 text i n e
+    → GivesAt (index_or_zero allowed) text i n e
+long_index allowed asked text i n e same is g = allowed_index allowed text i n e (sym same ∙ is) g
 
 -- ---- five bytes
 

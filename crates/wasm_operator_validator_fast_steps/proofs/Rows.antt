@@ -8,9 +8,10 @@ use Rattle.wasm_types.specs.decoding.Text.{word}
 use Rattle.wasm_types.specs.reader.declared.words.Ieee32.{Ieee32}
 use Rattle.wasm_types.specs.reader.declared.words.Ieee64.{Ieee64}
 use Rattle.wasm_types.specs.settings.Settings.{Settings}
-use Rattle.wasm_types.specs.settings.Features.{BulkMemoryOpt, TailCall}
+use Rattle.wasm_types.specs.settings.Features.{BulkMemory, BulkMemoryOpt, TailCall}
 use Rattle.wasm_types.specs.externs.declared.memory.MemoryType.{MemoryType}
 use Rattle.wasm_types.specs.trees.Gates.{Has}
+use Rattle.wasm_types.specs.trees.Below.{Below}
 use Rattle.wasm_types.specs.trees.Trees.{TypeTree}
 use Rattle.wasm_types.specs.decoding.Numbers.{GivesAt}
 use Rattle.wasm_operators_immediates.specs.Kinds as kind
@@ -38,7 +39,7 @@ use Rattle.wasm_types.specs.trees.Types.{number, i32}
 use Rattle.wasm_operator_validator_rules.specs.Operands.{ValueType, Operand, known, all_known, stack, AllBelow}
 use Rattle.wasm_operator_validator_rules.specs.Context.{Context, Global, Initialised, Signature, IsFunctionType, MayUse, may_use, address_type, label_of as label_types}
 use Rattle.wasm_operator_validator_rules.specs.Accesses.{load, store, may_access}
-use Rattle.wasm_operator_validator_rules.specs.InstructionTypes.{◌⟶◌, accesses, memory_at, global_at, provided, shorter}
+use Rattle.wasm_operator_validator_rules.specs.InstructionTypes.{◌⟶◌, accesses, memory_at, global_at, names_data, provided, shorter}
 use Rattle.wasm_operator_validator_rules.specs.Row.{Row, FitEach, IsLabel, IsNumber, after}
 use Rattle.wasm_operator_validator_rules.specs.Typed.{Steps}
 use Rattle.wasm_operator_validator_state.specs.laws.Operands.{all_below_refl}
@@ -47,8 +48,8 @@ use Rattle.wasm_operator_validator_fast_tables.specs.declared.tables.Sig.{Sig}
 use Rattle.wasm_operator_validator_fast_tables.specs.declared.tables.Held.{Held}
 use Rattle.wasm_operator_validator_fast_tables.specs.declared.tables.Tables.{Tables}
 use Rattle.wasm_operator_validator_fast_tables.specs.Stacks.{Values, with_all}
-use Rattle.wasm_operator_validator_fast_tables.specs.Values.{number_of, type_of, types, operands}
-use Rattle.wasm_operator_validator_fast_tables.specs.Tables.{no_code, params_in, results_in, signature_in, label_in, Fits, ReturnsBy}
+use Rattle.wasm_operator_validator_fast_tables.specs.Values.{number_of, type_of, types, operands, AreBelow}
+use Rattle.wasm_operator_validator_fast_tables.specs.Tables.{no_code, params_in, results_in, signature_in, label_in, Fits, CallsThrough, ReturnsBy}
 use Rattle.wasm_operator_validator_fast_tables.specs.Loop.{label, Full, inside_all, Leads}
 use Rattle.wasm_operator_validator_fast_steps.specs.Shapes.{IsNumberAt, IsAccessAt}
 use Rattle.wasm_operator_validator_fast_steps.specs.Labels.{Takes, AreLabels}
@@ -122,6 +123,11 @@ filled : (c : Context) (m : MemoryType) → slice_get c.«module».memories 0 �
     → memory_at c 0 (λ k. Some (address_type k.memory64 ∷ number i32 ∷ address_type k.memory64 ∷ [] ⟶ [])) ≡ Some (number i32 ∷ number i32 ∷ number i32 ∷ [] ⟶ [])
 filled c m there narrow = rw (there, narrow) refl
 
+inited : (c : Context) (m : MemoryType) (d : ℕ) → slice_get c.«module».memories 0 ≡ Some m → m.memory64 ≡ false → names_data c.«module».data_count d ≡ true
+    → memory_at c 0 (λ k. provided (names_data c.«module».data_count d) (address_type k.memory64 ∷ number i32 ∷ number i32 ∷ [] ⟶ []))
+    ≡ Some (number i32 ∷ number i32 ∷ number i32 ∷ [] ⟶ [])
+inited c m d there narrow names = rw (there, narrow, names) refl
+
 global_read : (c : Context) (x : ℕ) (v : Global) (t : ValueType) → slice_get c.«module».globals x ≡ Some v → may_use c v.shared ≡ true → v.content ≡ t
     → global_at c x (λ w. Some ([] ⟶ w.content ∷ [])) ≡ Some ([] ⟶ t ∷ [])
 global_read c x v t there may is = rw (there, may, is) refl
@@ -138,6 +144,12 @@ not_not false e = cc
 set_or : (b y : Bool) → y ≡ true → (if b then true else y) ≡ true
 set_or true y e = refl
 set_or false y e = e
+
+-- a table whose references may be taken for references to functions
+pub goes_through : (t : Tables) (x code : ℕ) → slice_get t.known.tables.items x ≡ Some code → code < no_code → AreBelow t.known.order (code ∷ []) (8 ∷ []) → CallsThrough t x
+goes_through t x code at coded below ids m knows =
+    let (tab, there, narrow, is) = knows.tables x code at coded in
+    (tab, there, narrow, (false, subst (λ (y : ValueType). Below y (type_of ids 8)) (sym is) (below ids knows.steps).0))
 
 -- ---- one that exchanges operands
 
@@ -342,6 +354,32 @@ module _ (t : Tables) (text : List ℕ) (i e : ℕ) (o : Open) (outer : List Ope
       let (m, there, narrow) = fits.knows.memory has in
       (of_feature c.bits p proposals.BulkMemoryOpt BulkMemoryOpt fits.allows refl fits.allows.bulk refl, (_, filled (Here ids c) m there narrow, (refl, refl))))
 
+  pub took_init : (n k : ℕ) → BeginsPrefixed text i 0xfc 8 n → t.known.memory ≡ true → Has t.features.0 BulkMemory → (d : ℕ) → GivesAt u32 text n d k → GivesAt u32 text k 0 e
+      → d < t.known.«data» → (r u : List ℕ) → v ≡ (0 ∷ 0 ∷ 0 ∷ r, u) → w ≡ (r, u) → Leads text t i (o ∷ outer) v e (o ∷ outer) w
+  took_init n k begins has allowed d g h lt r u taken put =
+      let p = op.Bulk (bulk.MemoryInit d 0) in
+      let at = prefixed_of text i 0xfc 8 8 n begins refl refl p refl in
+      took p (0 ∷ 0 ∷ 0 ∷ []) [] r u
+      (stands p (is_told_with_two t.features.0 text i n p at _ refl refl refl (Index kind.DataSegments d) (Index kind.Memories 0) k e refl
+      (λ limits. index_of _ _ _ _ kind.DataSegments d g) (λ limits. index_of _ _ _ _ kind.Memories 0 h)))
+      refl (λ set full. full) taken put
+      (λ ids z c fits set full.
+      let (m, there, narrow) = fits.knows.memory has in
+      (of_feature c.bits p proposals.BulkMemory BulkMemory fits.allows refl (rw fits.bits allowed) refl, (_, inited (Here ids c) m d there narrow (fits.knows.«data» d lt), (refl, refl))))
+
+  pub took_data_drop : (n : ℕ) → BeginsPrefixed text i 0xfc 9 n → Has t.features.0 BulkMemory → (d : ℕ) → GivesAt u32 text n d e → d < t.known.«data» → w ≡ v
+      → Leads text t i (o ∷ outer) v e (o ∷ outer) w
+  took_data_drop n begins allowed d g lt stays =
+      let p = op.Bulk (bulk.DataDrop d) in
+      let at = prefixed_of text i 0xfc 9 9 n begins refl refl p refl in
+      took p [] [] v.0 v.1
+      (stands p (is_told_with t.features.0 text i n p at _ refl refl refl (Index kind.DataSegments d) e refl (λ limits. index_of _ _ _ _ kind.DataSegments d g)))
+      refl (λ set full. full) refl stays
+      (λ ids z c fits set full. (
+        of_feature c.bits p proposals.BulkMemory BulkMemory fits.allows refl (rw fits.bits allowed) refl,
+        (_, ap (λ (b : Bool). provided b ([] ⟶ [])) (fits.knows.«data» d lt), (refl, refl)),
+      ))
+
   -- ---- operands of any type
 
   pub took_nop : Begins text i 0x01 → i + 1 ≡ e → w ≡ v → Leads text t i (o ∷ outer) v e (o ∷ outer) w
@@ -386,19 +424,20 @@ module _ (t : Tables) (text : List ℕ) (i e : ℕ) (o : Open) (outer : List Ope
         ),
       ))
 
-  pub took_indirect : Begins text i 0x11 → t.known.table ≡ true → (y n : ℕ) → GivesAt u32 text (i + 1) y n → GivesAt (index_or_zero (may_index t.features.0 kind.Tables)) text n 0 e
+  pub took_indirect : Begins text i 0x11 → (x : ℕ) → CallsThrough t x → (y n : ℕ) → GivesAt u32 text (i + 1) y n
+      → GivesAt (index_or_zero (may_index t.features.0 kind.Tables)) text n x e
       → (s : Sig) → slice_get t.known.types.items y ≡ Some s → s.param_count ≤ length t.known.flat.items
       → (ps rs : List ℕ) → ps ≡ params_in t.known.flat.items s → rs ≡ results_in t.known.flat.items s
       → (m k : Values) → v ≡ (0 ∷ m.0, m.1) → m ≡ with_all ps k → w ≡ with_all rs k → Leads text t i (o ∷ outer) v e (o ∷ outer) w
-  took_indirect begins has y n g h s type usable ps rs same_ps same_rs m k index taken put =
-      let p = op.Control (control.CallIndirect y 0) in
+  took_indirect begins x through y n g h s type usable ps rs same_ps same_rs m k index taken put =
+      let p = op.Control (control.CallIndirect y x) in
       let all : reverse (ps ++ 0 ∷ []) ++ k.0 ≡ 0 ∷ (reverse ps ++ k.0) = grind (arith, common_steps) in
       took p (ps ++ 0 ∷ []) rs k.0 k.1
-      (stands p (told_with_two t.features.0 text i 17 17 begins refl p refl refl _ refl refl refl (Index kind.Types y) (IndexOrZero kind.Tables 0) n e refl
-      (λ limits. index_of _ _ _ _ kind.Types y g) (λ limits. zero_of _ _ _ _ kind.Tables 0 h)))
+      (stands p (told_with_two t.features.0 text i 17 17 begins refl p refl refl _ refl refl refl (Index kind.Types y) (IndexOrZero kind.Tables x) n e refl
+      (λ limits. index_of _ _ _ _ kind.Types y g) (λ limits. zero_of _ _ _ _ kind.Tables x h)))
       refl (λ set full. full) (index ∙ ap (λ (x : Values). (0 ∷ x.0, x.1)) taken ∙ ap (λ xs. (xs, k.1)) (sym all)) put
       (λ ids z c fits set full.
-      let (tab, there, narrow, functions) = fits.knows.table has in
+      let (tab, there, narrow, functions) = through ids c.«module» fits.knows in
       let (f, at, is) = fits.knows.types y s type usable in
       let b = signature_in ids t.known.flat.items s in
       let address : number i32 ≡ address_type tab.table64 = rw narrow refl in (
@@ -532,18 +571,19 @@ module _ (t : Tables) (text : List ℕ) (i e : ℕ) (o : Open) (outer : List Ope
         ),
       ))
 
-  pub took_return_indirect : Begins text i 0x13 → Has t.features.0 TailCall → t.known.table ≡ true → (y n : ℕ) → GivesAt u32 text (i + 1) y n → GivesAt u32 text n 0 e
+  pub took_return_indirect : Begins text i 0x13 → Has t.features.0 TailCall → (x : ℕ) → CallsThrough t x → (y n : ℕ) → GivesAt u32 text (i + 1) y n
+      → GivesAt u32 text n x e
       → (ps : List ℕ) → ReturnsBy t y ps → (m k : Values) (rs : List ℕ) → v ≡ (0 ∷ m.0, m.1) → m ≡ with_all ps k → w ≡ with_all rs ([], k.1)
       → Leads text t i (o ∷ outer) v e (o ∷ outer) w
-  took_return_indirect begins has known_table y n g there_is ps h m k rs index taken put =
-      let p = op.Control (control.ReturnCallIndirect y 0) in
+  took_return_indirect begins has x through y n g there_is ps h m k rs index taken put =
+      let p = op.Control (control.ReturnCallIndirect y x) in
       took_away p (0 ∷ (reverse ps ++ k.0)) rs k.1
-      (stands p (told_with_two t.features.0 text i 19 19 begins refl p refl refl _ refl refl refl (Index kind.Types y) (Index kind.Tables 0) n e refl
-      (λ limits. index_of _ _ _ _ kind.Types y g) (λ limits. index_of _ _ _ _ kind.Tables 0 there_is)))
+      (stands p (told_with_two t.features.0 text i 19 19 begins refl p refl refl _ refl refl refl (Index kind.Types y) (Index kind.Tables x) n e refl
+      (λ limits. index_of _ _ _ _ kind.Types y g) (λ limits. index_of _ _ _ _ kind.Tables x there_is)))
       refl (λ set full. full) (index ∙ ap (λ (x : Values). (0 ∷ x.0, x.1)) taken) put
       (λ ids. reverse (operands ids k.0) ++ (all_known (types ids ps) ++ known (number i32) ∷ [])) (popped_index ps k.0)
       (λ ids z c fits set full.
-      let (tab, there, narrow, functions) = fits.knows.table known_table in
+      let (tab, there, narrow, functions) = through ids c.«module» fits.knows in
       let (f, at, is) = fits.knows.types y h.sig h.at h.usable in
       let b = signature_in ids t.known.flat.items h.sig in
       let address : number i32 ≡ address_type tab.table64 = rw narrow refl in (

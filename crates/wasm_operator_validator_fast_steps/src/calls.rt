@@ -1,18 +1,18 @@
 //! Calls, also through tables and references, and in the place of a return.
 
-ghost use Rattle.std.specs.Prelude.{◌≡◌, ◌<◌, ◌≤◌, length, IfSome};
+ghost use Rattle.std.specs.Prelude.{◌≡◌, ◌<◌, ◌≤◌, true, length, IfSome};
 ghost use Rattle.wasm_types.specs.decoding.Numbers.{GivesAt};
 ghost use Rattle.wasm_operators_immediates.specs.Kinds.{Tables as TableSpace};
 ghost use Rattle.wasm_operators_encoding.specs.immediates.Bytes.{index_or_zero};
 ghost use Rattle.wasm_operators_encoding.specs.immediates.Immediates.{may_index};
 ghost use Rattle.wasm_operators_frequent.specs.Short.{Begins};
-ghost use Rattle.wasm_operator_validator_fast_tables.specs.Tables.{ReturnsBy};
+ghost use Rattle.wasm_operator_validator_fast_tables.specs.Tables.{CallsThrough, ReturnsBy};
 ghost use Rattle.wasm_operator_validator_fast_tables.specs.Loop.{Leads, all};
 
 use crate::indices::index_at;
 use crate::labels::same;
 use wasm_operator_validator_fast_tables::{
-    NO_CODE, Opens, Stack, Tables, given, inner_results, part,
+    FUNC, NO_CODE, Opens, Stack, Tables, given, inner_results, part,
 };
 use wasm_operators_frequent::zero_at;
 use wasm_types::WasmFeatures;
@@ -59,14 +59,14 @@ pub fn call(
     Some(end)
 }
 
-// The offset behind the index 0 of a table. Linkers write it in five bytes, which the features may allow.
+// The index of a table, and the offset behind it. Linkers write 0 in five bytes, which the features may allow, and other indices.
 #[inline(always)]
-fn first_table_at(bytes: &[u8], at: usize, features: WasmFeatures) -> Option<usize>
+fn table_index_at(bytes: &[u8], at: usize, features: WasmFeatures) -> Option<(u32, usize)>
     requires { at ≤ length bytes.now }
-    ensures { IfSome result (λ end. GivesAt (index_or_zero (may_index features.0 TableSpace)) bytes.now at 0 end) }
+    ensures { IfSome result (λ r. GivesAt (index_or_zero (may_index features.0 TableSpace)) bytes.now at r.0 r.1) }
 {
-    if let Some((_table, end)) = zero_at(bytes, at) {
-        return Some(end);
+    if let Some((table, end)) = zero_at(bytes, at) {
+        return Some((table, end));
     }
     if !features.call_indirect_overlong() {
         return None;
@@ -74,13 +74,38 @@ fn first_table_at(bytes: &[u8], at: usize, features: WasmFeatures) -> Option<usi
     let Some((table, end)) = index_at(bytes, at) else {
         return None;
     };
-    if table != 0 {
-        return None;
-    }
-    Some(end)
+    Some((table, end))
 }
 
-/// A call through table 0.
+// Whether functions may be called through the table at an index, which is one of 32 bits then. Out of line, since code mostly calls through table 0.
+#[inline(never)]
+fn calls_through_another(tables: &Tables, table: u32) -> bool
+    ensures { result ≡ true → CallsThrough tables.now table }
+{
+    let index = table as usize;
+    let codes = tables.known.tables.as_slice();
+    if index >= codes.len() {
+        return false;
+    }
+    let code = codes[index];
+    if code >= NO_CODE || !tables.known.order.may_be_taken(code, FUNC) {
+        return false;
+    }
+    true
+}
+
+// The same of any table.
+#[inline(always)]
+fn calls_through(tables: &Tables, table: u32) -> bool
+    ensures { result ≡ true → CallsThrough tables.now table }
+{
+    if table == 0 {
+        return tables.known.table;
+    }
+    calls_through_another(tables, table)
+}
+
+/// A call through a table.
 #[inline(always)]
 pub fn call_indirect(
     tables: &Tables,
@@ -98,12 +123,12 @@ pub fn call_indirect(
     let Some((index, middle)) = index_at(bytes, at + 1) else {
         return None;
     };
-    let Some(end) = first_table_at(bytes, middle, tables.features) else {
+    let Some((table, end)) = table_index_at(bytes, middle, tables.features) else {
         return None;
     };
     let index = index as usize;
     let types = tables.known.types.as_slice();
-    if !tables.known.table || index >= types.len() {
+    if !calls_through(tables, table) || index >= types.len() {
         return None;
     }
     let sig = types[index];
@@ -190,7 +215,7 @@ pub fn return_call(
     Some(end)
 }
 
-/// A call through table 0, in the place of a return.
+/// A call through a table, in the place of a return.
 #[inline(always)]
 pub fn return_call_indirect(
     tables: &Tables,
@@ -205,7 +230,7 @@ pub fn return_call_indirect(
     ensures forward { IfSome result (λ end. at < end) }
     ensures inside { IfSome result (λ end. end ≤ length bytes.now) }
 {
-    if !tables.features.tail_call() || !tables.known.table {
+    if !tables.features.tail_call() {
         return None;
     }
     let Some((ty, middle)) = index_at(bytes, at + 1) else {
@@ -214,7 +239,7 @@ pub fn return_call_indirect(
     let Some((table, end)) = index_at(bytes, middle) else {
         return None;
     };
-    if table != 0 {
+    if !calls_through(tables, table) {
         return None;
     }
     let Some(params) = returned(tables, ty) else {

@@ -1,4 +1,4 @@
-//! Memory 0.
+//! Memory 0, and data segments.
 
 ghost use Rattle.std.specs.Prelude.{◌≡◌, ◌<◌, ◌≤◌, ◌∷◌, ℕ, List, length, [], IfSome};
 ghost use Rattle.wasm_operators_frequent.specs.Short.{Begins, BeginsPrefixed};
@@ -182,6 +182,68 @@ pub fn memory_fill(
         return None;
     }
     if !stack.take(0) || !stack.take(0) || !stack.take(0) {
+        return None;
+    }
+    Some(end)
+}
+
+/// A part of it is written from a data segment.
+#[inline(always)]
+pub fn memory_init(
+    middle: usize,
+    tables: &Tables,
+    bytes: &[u8],
+    at: usize,
+    stack: &mut Stack,
+    opens: &Opens,
+) -> Option<usize>
+    requires { BeginsPrefixed bytes.now at 0xfc 0x08 middle }
+    ensures leads { IfSome result (λ end. Leads bytes.now tables.now at (all opens.now) stack.old
+        end (all opens.now) stack.new) }
+    ensures forward { IfSome result (λ end. at < end) }
+    ensures inside { IfSome result (λ end. end ≤ length bytes.now) }
+{
+    if !tables.known.memory || !tables.features.bulk_memory() {
+        return None;
+    }
+    let Some((segment, next)) = short_u32_at(bytes, middle) else {
+        return None;
+    };
+    let Some((memory, end)) = short_u32_at(bytes, next) else {
+        return None;
+    };
+    if memory != 0 || segment >= tables.known.data {
+        return None;
+    }
+    if !stack.take(0) || !stack.take(0) || !stack.take(0) {
+        return None;
+    }
+    Some(end)
+}
+
+/// A data segment is dropped.
+#[inline(always)]
+pub fn data_drop(
+    middle: usize,
+    tables: &Tables,
+    bytes: &[u8],
+    at: usize,
+    stack: &mut Stack,
+    opens: &Opens,
+) -> Option<usize>
+    requires { BeginsPrefixed bytes.now at 0xfc 0x09 middle }
+    ensures leads { IfSome result (λ end. Leads bytes.now tables.now at (all opens.now) stack.old
+        end (all opens.now) stack.new) }
+    ensures forward { IfSome result (λ end. at < end) }
+    ensures inside { IfSome result (λ end. end ≤ length bytes.now) }
+{
+    if !tables.features.bulk_memory() {
+        return None;
+    }
+    let Some((segment, end)) = short_u32_at(bytes, middle) else {
+        return None;
+    };
+    if segment >= tables.known.data {
         return None;
     }
     Some(end)

@@ -18,12 +18,11 @@ use Rattle.wasm_operator_validator_rules.specs.Row.{IsOneOf}
 use Rattle.wasm_operator_validator_rules.specs.Context.{Module, Table, Signature}
 use Rattle.wasm_operator_validator_state.specs.blocks.Signatures.{IsFunctionAt}
 use Rattle.wasm_operator_validator_fast_tables.specs.declared.tables.Sig.{Sig}
-use Rattle.wasm_operator_validator_fast_tables.specs.declared.tables.Held.{Held}
 use Rattle.wasm_operator_validator_fast_tables.specs.Stacks.{part}
 use Rattle.wasm_operator_validator_fast_tables.specs.declared.tables.Named.{Named}
 use Rattle.wasm_operator_validator_fast_tables.specs.Values.{type_of, types}
-use Rattle.wasm_operator_validator_fast_tables.specs.Tables.{params_in, results_in, signature_in, IsTypeIn, IsGlobalIn, HasTable}
-use Rattle.wasm_operator_validator_fast_tables.specs.Known.{IsMore, StandAlone, ArePlacedIn, IsUsableIn, IsSigIn, AreSigsIn, AreReferencedIn, AreGlobalsIn}
+use Rattle.wasm_operator_validator_fast_tables.specs.Tables.{params_in, results_in, signature_in, IsTypeIn, HasTable}
+use Rattle.wasm_operator_validator_fast_tables.specs.Known.{IsMore, StandAlone, ArePlacedIn, IsUsableIn, IsSigIn, AreSigsIn, AreReferencedIn}
 use Rattle.wasm_operator_validator_fast_tables.proofs.Standing.{reference_is}
 
 -- ---- types
@@ -67,6 +66,16 @@ of_pushed P (a ∷ xs) x h p (suc k) y e = of_pushed (λ n z. P (suc n) z) xs x 
 
 pub of_none : {A : Type 0} (P : ℕ → A → Type 0) (k : ℕ) (y : A) → slice_get [] k ≡ Some y → P k y
 of_none P k y e = cc
+
+-- the same of one more than so many
+pub each_more : {A : Type 0} (P : ℕ → A → Type 0) (xs ys : List A) (x : A) (n : ℕ) → ys ≡ xs ++ x ∷ [] → ((k : ℕ) (y : A) → slice_get xs k ≡ Some y → P k y) × (length xs ≡ n) → P n x
+    → ((k : ℕ) (y : A) → slice_get ys k ≡ Some y → P k y) × (length ys ≡ n + 1)
+each_more {A} P xs ys x n e (all, long) one =
+    let k = ap (λ (l : List A). length l) e in
+    let j = length_push xs x in (
+      subst (λ (l : List A). (i : ℕ) (y : A) → slice_get l i ≡ Some y → P i y) (sym e) (of_pushed P xs x all (subst (λ (i : ℕ). P i x) (sym long) one)),
+      omega (arith, k, j, long),
+    )
 
 -- ---- codes
 
@@ -209,15 +218,6 @@ type_known ids m flat y s few (inr u) le = (u.type, u.at, u.function)
 pub table_known : (m : Meaning) (t : Table) (b : Bool) → Some t ≡ slice_get m.«module».tables 0 → t.table64 ≡ false → IsTrue b ↔ Below t.element (ref true (abstract false func)) → b ≡ true
     → HasTable m.«module»
 table_known m t b at narrow i holds = (t, sym at, narrow, (false, i.0 holds))
-
-pub globals_more : (ids : List TypeTree) (m : Module) (hs ks : List Held) (h : Held) (n : ℕ) → ks ≡ hs ++ h ∷ [] → AreGlobalsIn ids m hs × (length hs ≡ n) → IsGlobalIn ids m n h
-    → AreGlobalsIn ids m ks × (length ks ≡ n + 1)
-globals_more ids m hs ks h n e (all, long) one =
-    let k = ap (λ (l : List Held). length l) e in
-    let j = length_push hs h in (
-      subst (λ (l : List Held). AreGlobalsIn ids m l) (sym e) (of_pushed (IsGlobalIn ids m) hs h all (subst (λ (i : ℕ). IsGlobalIn ids m i h) (sym long) one)),
-      omega (arith, k, j, long),
-    )
 
 -- ---- functions that code may refer to
 

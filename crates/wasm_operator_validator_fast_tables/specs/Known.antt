@@ -17,7 +17,7 @@ use Rattle.wasm_operator_validator_fast_tables.specs.declared.tables.Field.{Fiel
 use Rattle.wasm_operator_validator_fast_tables.specs.declared.tables.Named.{Named}
 use Rattle.wasm_operator_validator_fast_tables.specs.Stacks.{part}
 use Rattle.wasm_operator_validator_fast_tables.specs.Values.{abstract_of, type_of, types}
-use Rattle.wasm_operator_validator_fast_tables.specs.Tables.{no_code, params_in, signature_in, HasTypeIn, IsGlobalIn, IsNamedIn, ArePlaced}
+use Rattle.wasm_operator_validator_fast_tables.specs.Tables.{no_code, params_in, signature_in, HasTypeIn, IsGlobalIn, IsTableIn, IsElementIn, IsNamedIn, ArePlaced}
 
 -- at most so many were put behind the others
 abbrev pub IsMore : List ℕ → List ℕ → ℕ → Type 0
@@ -47,6 +47,12 @@ AreReferencedIn m bs = (x : ℕ) → slice_get bs x ≡ Some true → IsOneOf x 
 
 abbrev pub AreGlobalsIn : List TypeTree → Module → List Held → Type 0
 AreGlobalsIn ids m hs = (x : ℕ) (h : Held) → slice_get hs x ≡ Some h → IsGlobalIn ids m x h
+
+abbrev pub AreTablesIn : List TypeTree → Module → List ℕ → Type 0
+AreTablesIn ids m cs = (x code : ℕ) → slice_get cs x ≡ Some code → IsTableIn ids m x code
+
+abbrev pub AreElementsIn : List TypeTree → Module → List ℕ → Type 0
+AreElementsIn ids m cs = (x code : ℕ) → slice_get cs x ≡ Some code → IsElementIn ids m x code
 
 -- the same of tags
 pub record IsUsableTagIn (ids : List TypeTree) (m : Module) (flat : List ℕ) (x : ℕ) (s : Sig) : Type 0 where

@@ -64,10 +64,21 @@ IsGlobalIn ids m x h = h.ty < no_code → (v : Global) × (slice_get m.globals x
 abbrev pub HasMemory : Module → Type 0
 HasMemory m = (t : MemoryType) × (slice_get m.memories 0 ≡ Some t) × (t.memory64 ≡ false)
 
--- table 0 is one of functions, and of 32 bits
-abbrev pub HasTable : Module → Type 0
-HasTable m = (t : Table) × (slice_get m.tables 0 ≡ Some t) × (t.table64 ≡ false)
+-- the table at an index is one of functions, and of 32 bits
+abbrev pub HasTableAt : Module → ℕ → Type 0
+HasTableAt m x = (t : Table) × (slice_get m.tables x ≡ Some t) × (t.table64 ≡ false)
     × ((s : Bool) × Below t.element (ref true (abstract s func)))
+
+abbrev pub HasTable : Module → Type 0
+HasTable m = HasTableAt m 0
+
+-- the table at an index is one of 32 bits, and of references of this code, if that is one
+abbrev pub IsTableIn : List TypeTree → Module → ℕ → ℕ → Type 0
+IsTableIn ids m x code = code < no_code → (t : Table) × (slice_get m.tables x ≡ Some t) × (t.table64 ≡ false) × (t.element ≡ type_of ids code)
+
+-- so are the references of the element segment at an index
+abbrev pub IsElementIn : List TypeTree → Module → ℕ → ℕ → Type 0
+IsElementIn ids m x code = code < no_code → slice_get m.elements x ≡ Some (type_of ids code)
 
 -- ---- types that a module defines
 
@@ -126,6 +137,8 @@ pub record Knows (ids : List TypeTree) (m : Module) (k : Known) : Type 0 where
   pub places : (y : ℕ) (n : Named) → slice_get k.named.items y ≡ Some n → n.code < no_code → ArePlaced k.flat.items y n
   pub steps : AreSteps ids k.order
   pub tags : (x : ℕ) (s : Sig) → slice_get k.tags.items x ≡ Some s → IsTagIn ids m k.flat.items x s
+  pub tables : (x code : ℕ) → slice_get k.tables.items x ≡ Some code → IsTableIn ids m x code
+  pub elements : (x code : ℕ) → slice_get k.elements.items x ≡ Some code → IsElementIn ids m x code
   pub «data» : (d : ℕ) → d < k.«data» → names_data m.data_count d ≡ true
   pub memory : k.memory ≡ true → HasMemory m
   pub table : k.table ≡ true → HasTable m
@@ -174,6 +187,12 @@ HasDefault code = (ids : List TypeTree) → defaultable (type_of ids code) ≡ t
 -- so do the locals, except the first so many, which the caller gives
 abbrev pub BeginSet : Tables → ℕ → Type 0
 BeginSet t params = (x : ℕ) → x < length t.locals.items → (x < params) ⊎ HasDefault (get_or t.locals.items x 0)
+
+-- ---- calls through tables
+
+-- functions may be called through the table at an index, in any module that the tables stand for
+abbrev pub CallsThrough : Tables → ℕ → Type 0
+CallsThrough t x = (ids : List TypeTree) (m : Module) → Knows ids m t.known → HasTableAt m x
 
 -- ---- calls in the place of a return
 

@@ -10,6 +10,7 @@ ghost use Rattle.wasm_operator_validator_fast_tables.specs.Tables.{Knows, HasMem
 ghost use Rattle.wasm_operator_validator_fast_tables.specs.Known.{IsMore, StandAlone, IsSigIn, AreSigsIn, AreFunctionsIn, AreReferencedIn, AreGlobalsIn};
 
 use crate::codes::{DEFINED, code_of};
+use crate::elements::{elements_of, tables_of};
 use crate::naming::name_all;
 use crate::order::Order;
 use crate::tables::{Defined, Held, Known, NO_CODE, Named, Sig};
@@ -46,7 +47,9 @@ pub fn known_of<R: WasmModuleResources>(alloc: Global, resources: &R, most: u32)
     let mut tags = Vec::new(alloc);
     sign_tags(resources, &mut flat, &mut tags, most);
     let functions = functions_of(alloc, resources, most);
-    let wanted = defines_objects(named.as_slice());
+    let tables = tables_of(alloc, resources, most);
+    let elements = elements_of(alloc, resources, most);
+    let wanted = may_refer(named.as_slice(), tables.as_slice(), elements.as_slice());
     Some(Known {
         flat,
         types,
@@ -57,6 +60,8 @@ pub fn known_of<R: WasmModuleResources>(alloc: Global, resources: &R, most: u32)
         functions,
         globals: globals_of(alloc, resources, most),
         tags,
+        tables,
+        elements,
         data: data_of(resources),
         memory: has_memory(resources),
         table: has_table(resources),
@@ -179,8 +184,12 @@ fn functions_of<R: WasmModuleResources>(alloc: Global, resources: &R, most: u32)
     functions
 }
 
-// Whether a structure or an array is among these types.
-fn defines_objects(named: &[Named]) -> bool {
+// Whether code of a module with these types, tables and element segments may well refer to functions. Compilers of languages without references
+// write one table and one segment.
+fn may_refer(named: &[Named], tables: &[u32], elements: &[u32]) -> bool {
+    if tables.len() > 1 || elements.len() > 1 {
+        return true;
+    }
     for it in named {
         match it.defined {
             Defined::Struct(_, _) | Defined::Array(_) => return true,

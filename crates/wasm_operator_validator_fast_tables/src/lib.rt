@@ -9,6 +9,7 @@
 #![tactic(auto)]
 
 mod codes;
+mod elements;
 mod known;
 mod lookups;
 mod naming;

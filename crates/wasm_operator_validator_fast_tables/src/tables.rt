@@ -53,8 +53,9 @@ pub struct Named {
 
 /// What bodies ask of a module: codes, one after the other, first 40 that stand for themselves, then two for each type of the module, then the
 /// types of signatures; where those of each function type lie there; what each type is, and the fields of structures; what is below what;
-/// functions by the indices of their types, and whether code may refer to them; globals; tags, by where their parameters lie; how many data
-/// segments there are; whether memory 0 is one of 32 bits, and table 0 one of functions and of 32 bits.
+/// functions by the indices of their types, and whether code may refer to them; globals; tags, by where their parameters lie; tables and element
+/// segments, by the codes of their references, except that a table of 64 bits has no code; how many data segments there are; whether memory 0 is
+/// one of 32 bits, and table 0 one of functions and of 32 bits.
 #[derive(Drop)]
 pub struct Known {
     pub flat: Vec<u32>,
@@ -66,6 +67,8 @@ pub struct Known {
     pub referenced: Vec<bool>,
     pub globals: Vec<Held>,
     pub tags: Vec<Sig>,
+    pub tables: Vec<u32>,
+    pub elements: Vec<u32>,
     pub data: u32,
     pub memory: bool,
     pub table: bool,

@@ -1,0 +1,4 @@
+use Rattle.wasm_operator_validator_fast_objects.proofs.tables.table_named.Goals as goal
+
+pub returns : goal.returns
+returns c = record { index = c.in-Some.index; read = c.in-Some.ensures; is = c.in-Some-table_at.ensures }

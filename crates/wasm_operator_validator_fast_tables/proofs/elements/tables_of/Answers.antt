@@ -1,0 +1,12 @@
+use Rattle.std.proofs.Common.{sym}
+use Rattle.wasm_operator_validator_state.specs.resources.Meaning.{table_in}
+use Rattle.wasm_operator_validator_fast_tables.specs.Tables.{IsTableIn}
+use Rattle.wasm_operator_validator_fast_tables.proofs.Knowing.{each_more}
+use Rattle.wasm_operator_validator_fast_tables.proofs.elements.tables_of.Goals as goal
+
+pub loop-at-preserved : goal.loop-at-preserved
+loop-at-preserved g c =
+    let m = g.R.WasmModuleResources.meaning c.args.resources.now in
+    each_more (IsTableIn m.ids m.«module») c.loop-at.tables.items c.push.new.self.items c.code_of_table.result c.loop-at.at c.in-Ok.ensures.items
+    c.loop-at.invariant
+    (λ lt. (table_in m c.in-Some.table, sym c.in-Some.ensures, c.code_of_table.ensures.narrow lt, c.code_of_table.ensures.code lt m))
