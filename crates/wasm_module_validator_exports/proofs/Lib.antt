@@ -1,4 +1,5 @@
 mod Growing
+mod Kept
 mod Keeping
 mod Taking
 mod Naming
