@@ -119,7 +119,7 @@ pub record IsValidGlobalType (z : Settings) (g : Module) (t : GlobalType) : Type
   pub content : IsValidValueType z g t.content_type
   pub shared : IsTrue t.shared → Has z.features SharedEverythingThreads × IsTrue (value_is_shared (value_in g.types t.content_type))
 
--- standard: valid-tagtype: tagtype (differs: exceptions are a feature; no results, except with stack switching)
+-- standard: valid-tagtype: tagtype (differs: exceptions are a feature; results are allowed with stack switching)
 -- standard: valid-tag: tag
 -- a tag type: of a function, with results by the proposal on stack switching alone
 pub record IsValidTagType (z : Settings) (g : Module) (t : TagType) : Type 0 where

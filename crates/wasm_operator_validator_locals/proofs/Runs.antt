@@ -20,6 +20,7 @@ use Rattle.std.proofs.Common.{
   leb,
   length,
   take,
+  drop,
   get_or,
   replicate,
   refl,
@@ -32,7 +33,7 @@ use Rattle.std.proofs.Common.{
   slice_get,
   option_map,
 }
-use Rattle.std.proofs.lemmas.List.{append-nil, length-append, length-replicate, take_all}
+use Rattle.std.proofs.lemmas.List.{append-nil, length-append, length-replicate, length-take, take_all, take-append-drop}
 use Rattle.std.proofs.Math.Seq.{take-append_seam}
 use Rattle.std.proofs.lemmas.Bool.{leb-true, leb-false, le-leb}
 use Rattle.std.proofs.lemmas.Option.{slice_get_past, slice_get_read}
@@ -123,48 +124,68 @@ ends_rise start (r ∷ rs) a (suc i) (suc j) d le h = ends_rise r.end rs a.1 i j
 pub ends_partitioned : (start : ℕ) (rs : List Run) (index : ℕ) → AreRunsFrom start rs → IsPartitionedBy (λ (r : Run). leb r.end index) rs
 ends_partitioned start rs index a i j d le h up = le-leb _ _ (let e = ends_rise start rs a i j d le h in let f = leb-true _ _ up in omega arith)
 
-pub local_at : (rs : List Run) (index i : ℕ) → AreRunsFrom 0 rs → i ≤ length rs → Ends index rs i → slice_get (locals_from 0 rs) index ≡ option_map (λ (r : Run). r.ty) (slice_get rs i)
-local_at rs index i a bound p =
-    let e : index - 0 ≡ index = omega arith in
-    subst (λ (k : ℕ). slice_get (locals_from 0 rs) k ≡ option_map (λ (r : Run). r.ty) (slice_get rs i)) e (local_found 0 rs index i a (omega arith) bound p)
+-- what comes after others is found by its place among all
+get_after : (ps ts : List ValType) (k : ℕ) → length ps ≤ k → slice_get (ps ++ ts) k ≡ slice_get ts (k - length ps)
+get_after [] ts k h = let e : k - 0 ≡ k = omega arith in rw e refl
+get_after (p ∷ ps) ts zero h = absurd (omega arith)
+get_after (p ∷ ps) ts (suc k) h = let e : suc k - suc (length ps) ≡ k - length ps = omega arith in rw e (get_after ps ts k (omega arith))
+
+-- the same of a local that comes after parameters
+pub local_at : (ps : List ValType) (rs : List Run) (index i : ℕ) → AreRunsFrom (length ps) rs → length ps ≤ index → i ≤ length rs → Ends index rs i
+    → slice_get (ps ++ locals_from (length ps) rs) index ≡ option_map (λ (r : Run). r.ty) (slice_get rs i)
+local_at ps rs index i a after bound p = get_after ps (locals_from (length ps) rs) index after ∙ local_found (length ps) rs index i a after bound p
 
 -- ---- what the code knows
 
-pub last_end : (rs items : List Run) (r : Run) (ts : List ValType) → rs ≡ items → Some r ≡ slice_get rs (length rs - 1)
-    → AreRunsFrom 0 items → locals_from 0 items ≡ ts → r.end ≡ length ts
-last_end rs items r ts same e a is =
+-- parameters, and the locals after them
+abbrev pub locals_of : List ValType → List Run → List ValType
+locals_of ps rs = ps ++ locals_from (length ps) rs
+
+length-locals_of : (ps : List ValType) (rs : List Run) → AreRunsFrom (length ps) rs → length (locals_of ps rs) ≡ end_from (length ps) rs
+length-locals_of ps rs a = omega (arith, length-append ps (locals_from (length ps) rs), length-locals_from (length ps) rs a)
+
+pub last_end : (ps : List ValType) (rs items : List Run) (r : Run) (ts : List ValType) → rs ≡ items → Some r ≡ slice_get rs (length rs - 1)
+    → AreRunsFrom (length ps) items → locals_of ps items ≡ ts → r.end ≡ length ts
+last_end ps rs items r ts same e a is =
     let last : slice_get items (length items - 1) ≡ Some r = rw same at (sym e) in
-    let end = end_from-last 0 items r last in
-    let count = length-locals_from 0 items a in
-    omega (arith, ap (λ (x : List ValType). length x) is)
+    let end = end_from-last (length ps) items r last in
+    omega (arith, end, length-locals_of ps items a, ap (λ (x : List ValType). length x) is)
 
 -- one more run at the end of all
-pub run_fits : (items : List Run) (ts : List ValType) (n count : ℕ) (t : ValType) → AreRunsFrom 0 items → locals_from 0 items ≡ ts
-    → n ≡ length ts → n + count < 2 ^ 32
-    → AreRunsFrom 0 (items ++ record { end = n + count; ty = t } ∷ []) × (locals_from 0 (items ++ record { end = n + count; ty = t } ∷ []) ≡ ts ++ replicate count t)
-run_fits items ts n count t a is e fits =
-    let k : end_from 0 items ≡ n = omega (arith, length-locals_from 0 items a, ap (λ (x : List ValType). length x) is) in
-    let more : (n + count) - end_from 0 items ≡ count = omega arith in
-    (runs_more 0 items (record { end = n + count; ty = t }) a (omega arith) (omega arith), locals_more 0 items (record { end = n + count; ty = t }) ∙ rw (more, is) refl)
+pub run_fits : (ps : List ValType) (items : List Run) (ts : List ValType) (n count : ℕ) (t : ValType) → AreRunsFrom (length ps) items
+    → locals_of ps items ≡ ts → n ≡ length ts → n + count < 2 ^ 32
+    → AreRunsFrom (length ps) (items ++ record { end = n + count; ty = t } ∷ [])
+    × (locals_of ps (items ++ record { end = n + count; ty = t } ∷ []) ≡ ts ++ replicate count t)
+run_fits ps items ts n count t a is e fits =
+    let k : end_from (length ps) items ≡ n = omega (arith, e, length-locals_of ps items a, ap (λ (x : List ValType). length x) is) in
+    let more : (n + count) - end_from (length ps) items ≡ count = omega (arith, k) in
+    let r : Run = record { end = n + count; ty = t } in
+    let split = sym (append_assoc ps (locals_from (length ps) items) (replicate ((n + count) - end_from (length ps) items) t)) in (
+      runs_more (length ps) items r a (omega (arith, k)) (omega (arith, fits)),
+      ap (λ (xs : List ValType). ps ++ xs) (locals_more (length ps) items r) ∙ split ∙ rw (more, is) refl,
+    )
 
 -- a run that was put at the end is taken off again
 pub taken_back : (rs held more back : List Run) (r : Run) → held ≡ rs → more ≡ rs ++ r ∷ [] → back ≡ take (length held) more → back ≡ rs
 taken_back rs held more back r e f g = (rw (f, e) at g) ∙ take-append_seam rs (r ∷ [])
 
-pub local_past : (rs items : List Run) (ts : List ValType) (index i : ℕ) → rs ≡ items → AreRunsFrom 0 items → locals_from 0 items ≡ ts
-    → i ≡ length rs → Ends index rs i → None ≡ slice_get ts index
-local_past rs items ts index i same a is past p =
+pub local_past : (ps : List ValType) (rs items : List Run) (ts : List ValType) (index i : ℕ) → rs ≡ items → AreRunsFrom (length ps) items
+    → locals_of ps items ≡ ts → length ps ≤ index → i ≡ length rs → Ends index rs i → None ≡ slice_get ts index
+local_past ps rs items ts index i same a is after past p =
     let p' : Ends index items i = subst (λ (x : List Run). Ends index x i) same p in
-    let k : length items ≤ i = omega (arith, ap (λ (x : List Run). length x) same) in
-    let e = local_at items index i a (omega (arith, ap (λ (x : List Run). length x) same)) p' in
-    sym (subst (λ (x : List ValType). slice_get x index ≡ None) is (e ∙ ap (option_map (λ (r : Run). r.ty)) (slice_get_past items i k)))
+    let k : i ≡ length items = past ∙ ap (λ (x : List Run). length x) same in
+    let e = local_at ps items index i a after (omega (arith, k)) p' in
+    let none = slice_get_past items i (omega (arith, k)) in
+    sym (subst (λ (x : List ValType). slice_get x index ≡ None) is (e ∙ ap (option_map (λ (r : Run). r.ty)) none))
 
-pub local_here : (rs items : List Run) (ts : List ValType) (index i : ℕ) (r : Run) → rs ≡ items → AreRunsFrom 0 items
-    → locals_from 0 items ≡ ts → i < length items → r ≡ get_or items i r → Ends index rs i → Some r.ty ≡ slice_get ts index
-local_here rs items ts index i r same a is h at p =
+pub local_here : (ps : List ValType) (rs items : List Run) (ts : List ValType) (index i : ℕ) (r : Run) → rs ≡ items
+    → AreRunsFrom (length ps) items → locals_of ps items ≡ ts → length ps ≤ index → i < length items → r ≡ get_or items i r
+    → Ends index rs i → Some r.ty ≡ slice_get ts index
+local_here ps rs items ts index i r same a is after h at p =
     let p' : Ends index items i = subst (λ (x : List Run). Ends index x i) same p in
-    let e = local_at items index i a (omega arith) p' in
-    sym (subst (λ (x : List ValType). slice_get x index ≡ Some r.ty) is (e ∙ ap (option_map (λ (q : Run). q.ty)) (slice_get_read items (length items) i r refl h at)))
+    let e = local_at ps items index i a after (omega (arith, h)) p' in
+    let some = slice_get_read items (length items) i r refl h at in
+    sym (subst (λ (x : List ValType). slice_get x index ≡ Some r.ty) is (e ∙ ap (option_map (λ (q : Run). q.ty)) some))
 
 -- ---- the first locals
 
@@ -210,3 +231,11 @@ front_resized front us all t len v more count f whole held is le e =
     let size : len + more - v ≡ more = omega (arith, is) in
     let new : us ≡ front ++ replicate more t = rw size at (rw whole_front at e) in
     rw new (front_grown front all t more count f (omega (arith, whole, held)) le)
+
+-- ---- parameters alone
+
+pub params_fit : (ps kept few : List ValType) (runs : List Run) (n : ℕ) → runs ≡ [] → kept ≡ ps → few ≡ take n ps → n ≤ 64 → length ps < 2 ^ 32
+    → AreRunsFrom (length kept) runs × IsFront few (locals_of kept runs) × (length few ≤ 64)
+params_fit ps kept few runs n none all first within short =
+    let size : length (take n ps) ≤ 64 = omega (arith, length-take n ps, within) in
+    rw (none, all, first) (short, (drop n ps, append-nil ps ∙ sym (take-append-drop n ps)), size)

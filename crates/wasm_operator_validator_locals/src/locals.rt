@@ -20,24 +20,27 @@ pub struct Run {
     pub ty: ValType,
 }
 
-/// The locals of a function: the first one by one, and all of them as runs of one type, so that they take no more room
-/// than the bytes that declare them.
+/// The locals of a function. The parameters are kept one by one, since a function type has them so, and many bodies may begin with them.
+/// The locals after them are runs of one type, so that they take no more room than the bytes that declare them. The first of all are
+/// kept once more, one by one.
 #[derive(Drop)]
 pub struct Locals {
     first: Vec<ValType>,
+    params: Vec<ValType>,
     runs: Vec<Run>,
 }
 
 impl Model for Locals {
-    ghost use Rattle.std.specs.Prelude.{List, ◌≤◌, length};
+    ghost use Rattle.std.specs.Prelude.{List, ◌≤◌, ◌++◌, length};
     ghost use Rattle.wasm_types.specs.values.declared.value.ValType.{ValType as TheValType};
     ghost use Rattle.wasm_operator_validator_locals.specs.Locals.{locals_from, AreRunsFrom, IsFront};
 
     ghost Value = { List TheValType };
 
-    ghost view = { λ l. locals_from 0 l.runs.items };
+    ghost view = { λ l. l.params.items ++ locals_from (length l.params.items) l.runs.items };
 
-    ghost invariant = { λ l. AreRunsFrom 0 l.runs.items × IsFront l.first.items (locals_from 0 l.runs.items)
+    ghost invariant = { λ l. AreRunsFrom (length l.params.items) l.runs.items
+        × IsFront l.first.items (l.params.items ++ locals_from (length l.params.items) l.runs.items)
         × (length l.first.items ≤ 64) };
 }
 
@@ -50,6 +53,7 @@ impl Locals {
     {
         Locals {
             first: Vec::new(alloc),
+            params: Vec::new(alloc),
             runs: Vec::new(alloc),
         }
     }
@@ -59,7 +63,32 @@ impl Locals {
         ensures { self.new ≡ [] }
     {
         self.first.clear();
+        self.params.clear();
         self.runs.clear();
+    }
+
+    /// These parameters, in the order of their indices, are all locals from now on, where a function has at most `most`. It says whether it
+    /// was done. Else there are no locals: there would be too many, or there is no memory for one parameter or more.
+    pub fn put_params(&mut self, most: u32, params: &[ValType]) -> bool
+        ensures put { result ≡ true → (self.new ≡ params.now) × (length params.now ≤ most) }
+        ensures none { result ≡ false → self.new ≡ [] }
+        ensures some { result ≡ false → length params.now ≤ most → 0 < length params.now }
+    {
+        self.first.clear();
+        self.params.clear();
+        self.runs.clear();
+        if params.len() > most as usize {
+            return false;
+        }
+        let Ok(()) = self.params.extend_from_slice(params) else {
+            return false;
+        };
+        let few = min(params.len(), FIRST);
+        let Ok(()) = self.first.extend_from_slice(&params[..few]) else {
+            self.params.clear();
+            return false;
+        };
+        true
     }
 
     /// How many there are.
@@ -67,7 +96,7 @@ impl Locals {
         ensures { result ≡ length self.now }
     {
         match self.runs.last() {
-            None => 0,
+            None => self.params.as_slice().len() as u32,
             Some(run) => run.end,
         }
     }
@@ -145,6 +174,10 @@ impl Locals {
     pub fn get(&self, index: u32) -> Option<ValType>
         ensures { result ≡ slice_get self.now index }
     {
+        let params = self.params.as_slice();
+        if (index as usize) < params.len() {
+            return Some(params[index as usize]);
+        }
         let at = self.runs.partition_point(|run| run.end <= index);
         if at == self.runs.len() {
             return None;

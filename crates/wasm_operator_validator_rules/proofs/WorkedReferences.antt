@@ -67,11 +67,11 @@ calls_worked = record {
 }
 
 -- what is called, and through which table
-called : Signature
+abbrev called : Signature
 called = record { params = number i32 ∷ []; results = number i64 ∷ [] }
 
-through : (wide : Bool) → (x : ℕ) → slice_get some_module.tables x ≡ Some (table_of any_function wide) → IsIndirect giving_i64 x 0 (table_of any_function wide) called
-unfolding called
+through : (wide : Bool) → (x : ℕ) → slice_get some_module.tables x ≡ Some (table_of any_function wide) → IsIndirect giving_i64 0 x (table_of any_function wide) called
+unfolding opened
 through wide x found = record {
   table = found;
   table_used = λ s. absurd cc;
@@ -96,7 +96,7 @@ not_i32 b any (t, found, used, f) p =
     cc
 
 pub tail_calls_worked : TailCallsWorked
-unfolding has opened called
+unfolding has opened
 tail_calls_worked = record {
   call = (called, some_reference ∷ [], (widening, refl, (λ s. absurd cc), refl), (refl, tt), refl);
   call_other = search rules;

@@ -66,7 +66,7 @@ accesses g is_atomic None = None
 accesses g is_atomic (Some a) =
     memory_at g a.argument.memory (λ m. provided (may_access is_atomic m a.argument) ((address_type m.memory64 ∷ numbers (operands_of a.access)) ⟶ numbers (results_of a.access)))
 
--- standard: valid-context: C.datas[x] (differs: by the data count alone)
+-- standard: valid-context: C.datas[x] (differs: by the data count section, without which no code names data)
 -- the data count section, where it stands, names the data segment
 abbrev pub names_data : Option ℕ → ℕ → Bool
 names_data None x = false
@@ -174,7 +174,7 @@ atomic_type_of g o = accesses g true (atomic_access_of o)
 -- standard: valid-instr-aggr: struct.new, struct.new_default, struct.get, struct.get_s, struct.get_u, struct.set
 -- standard: valid-instr-aggr: array.new, array.new_default, array.new_fixed, array.new_data, array.fill, array.init_data
 -- standard: valid-instr-aggr: array.get, array.get_s, array.get_u, array.set
--- standard: valid-instr-ref: ref.test, ref.cast (differs: an exact type too; any type that the module has, whatever the features are)
+-- standard: valid-instr-ref: ref.test, ref.cast (differs: exact and shared types too, whatever the features are)
 -- standard: valid-instr-aggr: ref.i31
 abbrev pub gc_type_of : Context → GcOperator → Option InstructionType
 gc_type_of g (gc.StructNew x) = struct_at g x (λ s. provided (not (is_described s)) (operands_for s.fields ⟶ allocated g s.type ∷ []))

@@ -125,8 +125,7 @@ fn put_params(locals: &mut Locals, inits: &mut LocalInits, most: u32, params: &[
     ensures first { inits.new ≡ record { first = replicate (length locals.new) true; set = []; saved = None } }
 {
     inits.clear();
-    if !put_each(locals, most, params) {
-        locals.clear();
+    if !locals.put_params(most, params) {
         return false;
     }
     let count = locals.len_locals();
@@ -134,18 +133,5 @@ fn put_params(locals: &mut Locals, inits: &mut LocalInits, most: u32, params: &[
         locals.clear();
         return false;
     };
-    true
-}
-
-// The same of the locals alone; else there are some of them.
-fn put_each(locals: &mut Locals, most: u32, params: &[ValType]) -> bool
-    ensures { result ≡ true → locals.new ≡ params.now }
-{
-    locals.clear();
-    for one in params {
-        if !locals.put(most, 1, one) {
-            return false;
-        }
-    }
     true
 }

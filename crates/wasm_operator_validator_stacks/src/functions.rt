@@ -11,6 +11,7 @@ use crate::{
     BlockType, FrameKind, LocalInits, Locals, OperatorValidator, OperatorValidatorAllocations,
     Refusal, Space, WasmModuleResources,
 };
+use wasm_operator_validator_locals::too_many_locals;
 use wasm_operator_validator_state::blocks::function_of;
 use wasm_types::{Error, Limits, Result, ValType, WasmFeatures};
 
@@ -109,12 +110,11 @@ fn params_as_locals(locals: Locals, most: u32, offset: u64, params: &[ValType]) 
     ensures at { RefusedAt offset result }
 {
     let mut locals = locals;
-    locals.clear();
-    for one in params {
-        match locals.define(most, offset, 1, one) {
-            Ok(()) => (),
-            Err(error) => return Err(error),
-        }
+    if params.len() > most as usize {
+        return Err(too_many_locals(offset));
+    }
+    if !locals.put_params(most, params) {
+        return Err(Error::out_of_memory(offset));
     }
     Ok(locals)
 }

@@ -2,8 +2,7 @@
 --
 -- An operator that modifies has the same row at a place of a number as one that exchanges. So each has a row there, and none at a place
 -- of a reference, at which the others have one.
-use Rattle.std.specs.Prelude.{false, true, List, [], ◌∷◌, ◌++◌}
-use Rattle.wasm_types.specs.trees.Types.{any, eq}
+use Rattle.std.specs.Prelude.{List, [], ◌∷◌, ◌++◌}
 use Rattle.wasm_operators_immediates.specs.declared.memory.Ordering.TheVariants as ordering
 use Rattle.wasm_operators_enums.specs.declared.atomic.SharedOperator.{SharedOperator}
 use Rattle.wasm_operators_enums.specs.declared.atomic.SharedOperator.TheVariants as shared
@@ -12,7 +11,6 @@ use Rattle.wasm_operator_validator_rules.specs.SharedAccesses.{SharedRow}
 use Rattle.wasm_operator_validator_rules.specs.worked.Operators.{i32_known, i64_known}
 use Rattle.wasm_operator_validator_rules.specs.worked.References.{null_to, to, cell, HasNo}
 use Rattle.wasm_operator_validator_rules.specs.worked.Objects.{node, numbers, bytes, cells}
-use Rattle.wasm_operator_validator_rules.specs.worked.ObjectRows.{to_abstract}
 use Rattle.wasm_operator_validator_rules.specs.worked.SharedAccesses.{there, to_any}
 
 -- the operands by which a field of `node` is reached, and an element of an array of numbers and of one of references
