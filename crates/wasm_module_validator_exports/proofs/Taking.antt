@@ -20,8 +20,8 @@ use Rattle.wasm_module_validator_exports.specs.declared.names.slots.Met.{Met}
 use Rattle.wasm_module_validator_exports.specs.declared.names.slots.Met.TheVariants as met
 use Rattle.wasm_module_validator_exports.specs.declared.names.slots.Tried.{Tried}
 use Rattle.wasm_module_validator_exports.specs.declared.names.slots.Tried.TheVariants as tried
-use Rattle.wasm_module_validator_exports.specs.names.Exports.{IsNew, IsSlotOf, Finds, HasFree, HasMet, HasMetAt, HasNoted, HasSettled, Holds, IsBehind, IsFree, IsPut, beside, exports_of, first_slot, is_name, kept_of, names_of, number_of, slot_of, stands, stands_at, stands_in}
-use Rattle.wasm_module_validator_exports.specs.names.Kept.{name_at}
+use Rattle.wasm_module_validator_exports.specs.names.Exports.{AreNamed, IsNew, IsSlotOf, Finds, HasFree, HasMet, HasMetAt, HasNoted, HasSettled, Holds, IsBehind, IsFree, IsPut, beside, exports_of, first_slot, is_name, kept_of, names_of, number_of, slot_of, stands, stands_at, stands_in}
+use Rattle.wasm_module_validator_exports.specs.names.Kept.{IsNamed, name_at}
 
 neither : (a b : Bool) → (a || b) ≡ false → (a ≡ false) × (b ≡ false)
 neither false false e = (refl, refl)
@@ -152,6 +152,17 @@ module _ (slots t : List ℕ) (xs : List KeptExport) (n : List ℕ) (p x : ℕ) 
 -- nor is one that is not there
 pub no_slot : (slots : List ℕ) (names : List (List ℕ)) (p : ℕ) → length slots ≤ p → IsFree slots names p → ⊥
 no_slot slots names p beyond (y, is, free) = let l = within slots p y is in omega (arith, l, beyond)
+
+-- the name of each is kept
+pub named_there : (t : List ℕ) (xs : List KeptExport) (i : ℕ) (e : KeptExport) → AreNamed t xs → i < length xs → e ≡ get_or xs i e → IsNamed t e.name
+named_there t [] i e h l r = absurd (omega (arith, l))
+named_there t (x ∷ xs) zero e h l r = subst (λ (f : KeptExport). IsNamed t f.name) (sym r) h.0
+named_there t (x ∷ xs) (suc i) e h l r = named_there t xs i e h.1 (omega (arith, l)) r
+
+pub named_first : (t : List ℕ) (xs : List KeptExport) (i : ℕ) → AreNamed t xs → AreNamed t (take i xs)
+named_first t xs zero h = tt
+named_first t [] (suc i) h = tt
+named_first t (x ∷ xs) (suc i) h = (h.0, named_first t xs i h.1)
 
 -- no export, no name
 pub leads_nowhere : (t : List ℕ) (xs : List KeptExport) (x : ℕ) → slice_get xs x ≡ None → slice_get (names_of (exports_of t xs)) x ≡ None

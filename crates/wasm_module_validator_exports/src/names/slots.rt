@@ -5,8 +5,8 @@
 //! set, which finds it by its order: so names whose numbers meet are found no slower than by their order, whoever chooses them. Of each
 //! name in the set neither slot is free.
 
-ghost use Rattle.std.specs.Prelude.{◌≡◌, ◌<◌, length, IfSome};
-ghost use Rattle.wasm_module_validator_exports.specs.names.Exports.{AreNamed, HasMet, HasMetAt, HasNoted, HasSettled, Holds, IsPut, exports_of, names_of, number_of, slot_of};
+ghost use Rattle.std.specs.Prelude.{◌≡◌, ◌<◌, ℕ, List, length, IfSome};
+ghost use Rattle.wasm_module_validator_exports.specs.names.Exports.{AreNamed, HasMet, HasMetAt, HasNoted, HasSettled, Holds, IsPut, beside, exports_of, first_slot, names_of, number_of, slot_of};
 
 use crate::names::exports::KeptExport;
 use crate::names::kept::{bytes_of, name_of};
@@ -68,22 +68,32 @@ fn meet_at(slots: &[u32], names: &[u8], exports: &[KeptExport], name: &str, at: 
     Met::Other
 }
 
+// What is in both slots of a name.
+fn both(first: Met, second: Met) -> Met
+    ensures { (slots : List ℕ) (names : List (List ℕ)) (n : List ℕ)
+        → HasMetAt slots names n (first_slot slots n) first
+        → HasMetAt slots names n (beside (first_slot slots n)) second → HasMet slots names n result }
+{
+    match first {
+        Met::Free(at, index) => match second {
+            Met::Free(_, _) => Met::Free(at, index),
+            Met::Same => Met::Same,
+            Met::Other => Met::Free(at, index),
+        },
+        Met::Same => Met::Same,
+        Met::Other => second,
+    }
+}
+
 // What is in a name's slots.
 fn meet(slots: &[u32], names: &[u8], exports: &[KeptExport], name: &str) -> Met
     requires { AreNamed names.now exports.now }
     ensures { HasMet slots.now (names_of (exports_of names.now exports.now)) name.now result }
 {
     let at = slot(number(name), slots.len());
-    let beside = at ^ 1;
-    match meet_at(slots, names, exports, name, at) {
-        Met::Free(free, index) => match meet_at(slots, names, exports, name, beside) {
-            Met::Same => Met::Same,
-            Met::Free(_, _) => Met::Free(free, index),
-            Met::Other => Met::Free(free, index),
-        },
-        Met::Same => Met::Same,
-        Met::Other => meet_at(slots, names, exports, name, beside),
-    }
+    let first = meet_at(slots, names, exports, name, at);
+    let second = meet_at(slots, names, exports, name, at ^ 1);
+    both(first, second)
 }
 
 // An index in a slot.
