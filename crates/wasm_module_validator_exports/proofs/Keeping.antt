@@ -4,20 +4,18 @@ use Rattle.std.proofs.Common.{◌≡◌, ◌∙◌, ◌<◌, ◌-◌, take, drop
 use Rattle.std.specs.declared.alloc.Global.{Global}
 use Rattle.std.specs.Str.{bytes_eq}
 use Rattle.std.specs.Cmp.Lexicographic.{bytes_decides}
-use Rattle.std.proofs.lemmas.List.{length_push}
+use Rattle.std.proofs.lemmas.List.{length_push, length-append, length-drop, drop-append-le, take-append-le, take_all}
 use Rattle.wasm_module_validator_exports.specs.declared.names.imports.KeptImport.{KeptImport}
-use Rattle.wasm_module_validator_exports.specs.names.Imports.{AreKept, HasKept, ImportedName, grouped, grouped_behind, module_at, module_name_of, with_import}
-use Rattle.wasm_module_validator_exports.specs.names.Kept.{IsNamed, name_at}
-use Rattle.wasm_module_validator_exports.proofs.Kept.{last_name, last_named, name_still, named_still}
+use Rattle.wasm_module_validator_exports.specs.names.Imports.{AreKept, HasKept, ImportedName, IsNamed, name_at, grouped, grouped_behind, module_at, module_name_of, with_import}
 use Rattle.wasm_module_validator_exports.proofs.Taking.{read}
 
 -- an import behind the others is an import more
 pub one_more_import : (ms : List (String Global)) (t : List ℕ) (ns : List ImportedName) (is : List KeptImport) (i : KeptImport)
-    → grouped_behind ms t ns (is ++ i ∷ []) ≡ with_import (module_at ms i.«module») (name_at t i.name) i.place (grouped_behind ms t ns is)
+    → grouped_behind ms t ns (is ++ i ∷ []) ≡ with_import (module_at ms i.«module») (name_at t i) i.place (grouped_behind ms t ns is)
 one_more_import ms t ns [] i = refl
-one_more_import ms t ns (j ∷ js) i = one_more_import ms t (with_import (module_at ms j.«module») (name_at t j.name) j.place ns) js i
+one_more_import ms t ns (j ∷ js) i = one_more_import ms t (with_import (module_at ms j.«module») (name_at t j) j.place ns) js i
 
-pub one_more_kept : (ms : List (String Global)) (t : List ℕ) (is : List KeptImport) (i : KeptImport) → i.«module» < length ms → IsNamed t i.name → AreKept ms t is
+pub one_more_kept : (ms : List (String Global)) (t : List ℕ) (is : List KeptImport) (i : KeptImport) → i.«module» < length ms → IsNamed t i → AreKept ms t is
     → AreKept ms t (is ++ i ∷ [])
 one_more_kept ms t [] i l n h = (l, n, tt)
 one_more_kept ms t (j ∷ js) i l n h = (h.0, h.1, one_more_kept ms t js i l n h.2)
@@ -33,8 +31,8 @@ grouped_still : (ms : List (String Global)) (t : String Global) (names : List �
     → grouped_behind (ms ++ t ∷ []) names ns is ≡ grouped_behind ms names ns is
 grouped_still ms t names ns [] h = refl
 grouped_still ms t names ns (i ∷ is) h =
-    ap (λ (m : List ℕ). grouped_behind (ms ++ t ∷ []) names (with_import m (name_at names i.name) i.place ns) is) (module_still ms t i.«module» h.0)
-    ∙ grouped_still ms t names (with_import (module_at ms i.«module») (name_at names i.name) i.place ns) is h.2
+    ap (λ (m : List ℕ). grouped_behind (ms ++ t ∷ []) names (with_import m (name_at names i) i.place ns) is) (module_still ms t i.«module» h.0)
+    ∙ grouped_still ms t names (with_import (module_at ms i.«module») (name_at names i) i.place ns) is h.2
 
 kept_still : (ms : List (String Global)) (t : String Global) (names : List ℕ) (is : List KeptImport) → AreKept ms names is → AreKept (ms ++ t ∷ []) names is
 kept_still ms t names [] h = tt
@@ -54,16 +52,46 @@ module _ (m : List ℕ) (old new : List (String Global)) (t : List ℕ) (is : Li
 
 -- ---- bytes of names more
 
+name_still : (t more : List ℕ) (i : KeptImport) → IsNamed t i → name_at (t ++ more) i ≡ name_at t i
+name_still t more i n =
+    let forward = n.forward in
+    let inside = n.inside in
+    let rest = length-drop i.start t in
+    ap (take (i.end - i.start)) (drop-append-le i.start t more (omega (arith, forward, inside)))
+    ∙ take-append-le (i.end - i.start) (drop i.start t) more (omega (arith, forward, inside, rest))
+
+named_still : (t more : List ℕ) (i : KeptImport) → IsNamed t i → IsNamed (t ++ more) i
+named_still t more i n =
+    let inside = n.inside in
+    let long = length-append t more in
+    record { forward = n.forward; inside = omega (arith, inside, long); utf8 = subst IsUtf8 (sym (name_still t more i n)) n.utf8 }
+
 module _ (ms : List (String Global)) (t more : List ℕ) where
   grouped_longer : (ns : List ImportedName) (is : List KeptImport) → AreKept ms t is → grouped_behind ms (t ++ more) ns is ≡ grouped_behind ms t ns is
   grouped_longer ns [] h = refl
   grouped_longer ns (i ∷ is) h =
-      ap (λ (n : List ℕ). grouped_behind ms (t ++ more) (with_import (module_at ms i.«module») n i.place ns) is) (name_still t more i.name h.1)
-      ∙ grouped_longer (with_import (module_at ms i.«module») (name_at t i.name) i.place ns) is h.2
+      ap (λ (n : List ℕ). grouped_behind ms (t ++ more) (with_import (module_at ms i.«module») n i.place ns) is) (name_still t more i h.1)
+      ∙ grouped_longer (with_import (module_at ms i.«module») (name_at t i) i.place ns) is h.2
 
   kept_longer : (is : List KeptImport) → AreKept ms t is → AreKept ms (t ++ more) is
   kept_longer [] h = tt
-  kept_longer (i ∷ is) h = (h.0, named_still t more i.name h.1, kept_longer is h.2)
+  kept_longer (i ∷ is) h = (h.0, named_still t more i h.1, kept_longer is h.2)
+
+behind_all : (t f : List ℕ) → drop (length t) (t ++ f) ≡ f
+behind_all [] f = refl
+behind_all (x ∷ t) f = behind_all t f
+
+-- what was put behind the others is the name
+last_name : (t f : List ℕ) (i : KeptImport) → i.start ≡ length t → i.end ≡ length (t ++ f) → name_at (t ++ f) i ≡ f
+last_name t f i s e =
+    let long = length-append t f in
+    ap (take (i.end - i.start)) (ap (λ (k : ℕ). drop k (t ++ f)) s ∙ behind_all t f)
+    ∙ take_all (i.end - i.start) f (omega (arith, s, e, long))
+
+last_named : (t f : List ℕ) (i : KeptImport) → i.start ≡ length t → i.end ≡ length (t ++ f) → IsUtf8 f → IsNamed (t ++ f) i
+last_named t f i s e u =
+    let long = length-append t f in
+    record { forward = omega (arith, s, e, long); inside = omega (arith, e); utf8 = subst IsUtf8 (sym (last_name t f i s e)) u }
 
 -- a name of a module that was met
 pub met_at : (ms : List (String Global)) (x : ℕ) (t : String Global) (m : List ℕ) → x < length ms → t ≡ get_or ms x t → bytes_eq m (string_bytes t) ≡ true → module_at ms x ≡ m
@@ -76,16 +104,16 @@ last_module (m ∷ ms) t = last_module ms t
 
 module _ (m f : List ℕ) (old new : List (String Global)) (t u : List ℕ) (is more : List KeptImport) (i : KeptImport) (all : List ImportedName) where
   -- an import behind the others, with the name of its module kept, and its own behind the others
-  pub one_more : HasKept m old new (Some i.«module») → u ≡ t ++ f → IsUtf8 f → i.name.start ≡ length t → i.name.end ≡ length u → more ≡ is ++ i ∷ [] → grouped old t is ≡ all → AreKept old t is
+  pub one_more : HasKept m old new (Some i.«module») → u ≡ t ++ f → IsUtf8 f → i.start ≡ length t → i.end ≡ length u → more ≡ is ++ i ∷ [] → grouped old t is ≡ all → AreKept old t is
       → (grouped new u more ≡ with_import m f i.place all) × AreKept new u more
   one_more s long utf8 start end put told h =
       let kept : AreKept new t is = kept_further m old new t is (Some i.«module») s h in
       let last = end ∙ ap length long in
       let behind : (grouped new (t ++ f) (is ++ i ∷ []) ≡ with_import m f i.place all) × AreKept new (t ++ f) (is ++ i ∷ []) = (
-        one_more_import new (t ++ f) [] is i ∙ ap (λ (n : List ℕ). with_import n (name_at (t ++ f) i.name) i.place (grouped new (t ++ f) is)) s.1
-            ∙ ap (λ (n : List ℕ). with_import m n i.place (grouped new (t ++ f) is)) (last_name t f i.name start last)
+        one_more_import new (t ++ f) [] is i ∙ ap (λ (n : List ℕ). with_import n (name_at (t ++ f) i) i.place (grouped new (t ++ f) is)) s.1
+            ∙ ap (λ (n : List ℕ). with_import m n i.place (grouped new (t ++ f) is)) (last_name t f i start last)
             ∙ ap (with_import m f i.place) (grouped_longer new t f [] is kept ∙ same_imports m old new t is (Some i.«module») s h ∙ told),
-        one_more_kept new (t ++ f) is i s.0 (last_named t f i.name start last utf8) (kept_longer new t f is kept),
+        one_more_kept new (t ++ f) is i s.0 (last_named t f i start last utf8) (kept_longer new t f is kept),
       ) in
       subst (λ (js : List KeptImport). (grouped new u js ≡ with_import m f i.place all) × AreKept new u js) (sym put)
       (subst (λ (v : List ℕ). (grouped new v (is ++ i ∷ []) ≡ with_import m f i.place all) × AreKept new v (is ++ i ∷ [])) (sym long) behind)

@@ -1,6 +1,6 @@
 -- What is kept of a module's imports, by their names (WebAssembly 3.0, structure, modules, imports). Each pair of names stands once, where
 -- it came first; what is imported by it stands there in the order of the imports.
-use Rattle.std.specs.Prelude.{◌≡◌, ◌<◌, ◌⊎◌, ℕ, suc, Bool, true, false, ◌&&◌, List, [], ◌∷◌, ◌++◌, length, slice_get, Option, Some, None, option_map, String, string_bytes, if◌then◌else◌}
+use Rattle.std.specs.Prelude.{◌≡◌, ◌<◌, ◌≤◌, ◌-◌, ◌⊎◌, take, drop, IsUtf8, ℕ, suc, Bool, true, false, ◌&&◌, List, [], ◌∷◌, ◌++◌, length, slice_get, Option, Some, None, option_map, String, string_bytes, if◌then◌else◌}
 use Rattle.std.specs.Borrow.{Bor}
 use Rattle.std.specs.Str.{bytes_eq}
 use Rattle.std.specs.BTreeMap.{BTreeMap, get_by}
@@ -11,7 +11,6 @@ use Rattle.std.specs.declared.cmp.Ordering.{Ordering}
 use Rattle.wasm_module_validator_exports.specs.declared.names.imports.Place.{Place}
 use Rattle.wasm_module_validator_exports.specs.declared.names.imports.KeptImport.{KeptImport}
 use Rattle.wasm_module_validator_exports.specs.declared.names.groups.NamedImports.{NamedImports}
-use Rattle.wasm_module_validator_exports.specs.names.Kept.{IsNamed, name_at}
 
 -- the bytes of the name of a module and of the name of what is imported from it, and what is imported by these names
 pub record ImportedName : Type 0 where
@@ -39,18 +38,28 @@ module_name_of (Some t) = string_bytes t
 abbrev pub module_at : List (String Global) → ℕ → List ℕ
 module_at ms x = module_name_of (slice_get ms x)
 
+-- the name of an import, among the bytes of all names
+abbrev pub name_at : List ℕ → KeptImport → List ℕ
+name_at names i = take (i.end - i.start) (drop i.start names)
+
 -- these imports, one after the other
 abbrev pub grouped_behind : List (String Global) → List ℕ → List ImportedName → List KeptImport → List ImportedName
 grouped_behind ms names ns [] = ns
-grouped_behind ms names ns (i ∷ is) = grouped_behind ms names (with_import (module_at ms i.«module») (name_at names i.name) i.place ns) is
+grouped_behind ms names ns (i ∷ is) = grouped_behind ms names (with_import (module_at ms i.«module») (name_at names i) i.place ns) is
 
 abbrev pub grouped : List (String Global) → List ℕ → List KeptImport → List ImportedName
 grouped ms names is = grouped_behind ms names [] is
 
+-- the name of an import is kept
+pub record IsNamed (names : List ℕ) (i : KeptImport) : Type 0 where
+  pub forward : i.start ≤ i.end
+  pub inside : i.end ≤ length names
+  pub utf8 : IsUtf8 (name_at names i)
+
 -- the name of each import is kept, and that of its module
 abbrev pub AreKept : List (String Global) → List ℕ → List KeptImport → Type 0
 AreKept ms names [] = Unit {0}
-AreKept ms names (i ∷ is) = (i.«module» < length ms) × IsNamed names i.name × AreKept ms names is
+AreKept ms names (i ∷ is) = (i.«module» < length ms) × IsNamed names i × AreKept ms names is
 
 -- the name of a module stands at the index that is told, and behind those before it where it is kept anew
 abbrev pub HasKept : List ℕ → List (String Global) → List (String Global) → Option ℕ → Type 0

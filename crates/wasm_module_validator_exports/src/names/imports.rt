@@ -2,12 +2,12 @@
 
 ghost use Rattle.std.specs.Prelude.{◌≡◌, ◌<◌, [], map, length, IfErr, IfOk, IfSome, OnOk, OnErr};
 ghost use Rattle.wasm_types.specs.decoding.declared.error.ErrorKind.TheVariants.{OutOfMemory};
-ghost use Rattle.wasm_module_validator_exports.specs.names.Imports.{AreKept, HasAdded, HasKept, grouped, module_at, named_of, with_import};
+ghost use Rattle.wasm_module_validator_exports.specs.names.Imports.{AreKept, HasAdded, HasKept, IsNamed, grouped, module_at, name_at, named_of, with_import};
 
 use crate::names::groups::{Groups, NamedImports};
-use crate::names::kept::{KeptName, name_of};
 use std::alloc::Global;
 use std::marker::Model;
+use std::str;
 use wasm_sections_items::imports::ExternalKind;
 use wasm_types::{Error, Result};
 
@@ -25,8 +25,9 @@ pub struct Place {
 pub(crate) struct KeptImport {
     // Where the name of its module stands, among those that are kept.
     pub(crate) module: usize,
-    // Its own name.
-    pub(crate) name: KeptName,
+    // Where its own name begins and ends, among the bytes of all names.
+    pub(crate) start: usize,
+    pub(crate) end: usize,
     pub(crate) place: Place,
 }
 
@@ -64,6 +65,17 @@ fn module_of<'a>(modules: &'a [String], import: &KeptImport) -> &'a str
     }
 }
 
+// The name of an import.
+fn name_of<'a>(names: &'a [u8], import: &KeptImport) -> &'a str
+    requires { IsNamed names.now import.now }
+    ensures { result.now ≡ name_at names.now import.now }
+{
+    match str::from_utf8(&names[import.start..import.end]) {
+        Ok(name) => name,
+        Err(_error) => unreachable!(),
+    }
+}
+
 // These imports by their names.
 fn group<'a>(
     alloc: Global,
@@ -80,7 +92,7 @@ fn group<'a>(
     while let Some((import, rest)) = left.split_first() {
         groups.insert(
             module_of(modules, import),
-            name_of(names, import.name),
+            name_of(names, import),
             import.place,
         )?;
         left = rest;
@@ -163,7 +175,8 @@ impl Imports {
         let end = self.names.as_slice().len();
         let import = KeptImport {
             module,
-            name: KeptName { start, end },
+            start,
+            end,
             place,
         };
         let Ok(()) = self.imports.push(import) else {

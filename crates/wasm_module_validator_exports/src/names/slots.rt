@@ -25,6 +25,7 @@ pub enum Tried {
 }
 
 // What is in a name's slots: in one nothing, so an index may go there; in one the name itself; or others in both.
+#[derive(Clone, Copy)]
 pub(crate) enum Met {
     Free(usize, u32),
     Same,

@@ -17,7 +17,7 @@ returns-in_default-extend_from_slice c =
 pub invariant_of-self-in_default-push : goal.invariant_of-self-in_default-push
 invariant_of-self-in_default-push c =
     let t = c.self.inside.names.items in
-    let kept : KeptImport = record { «module» = c.in-Some.module; name = record { start = length c.as_slice-start.result.now; end = length c.as_slice-end.result.now }; place = c.args.place } in
+    let kept : KeptImport = record { «module» = c.in-Some.module; start = length c.as_slice-start.result.now; end = length c.as_slice-end.result.now; place = c.args.place } in
     (none_more c.args.module.now c.args.name.now c.self.inside.modules.items c.keep_module.new.modules.items t c.extend_from_slice.new.self.items c.self.inside.imports.items
     c.push.new.self.items kept c.args.self.now c.in-Some.ensures (c.in-Ok.ensures.items ∙ ap (λ (f : List ℕ). t ++ f) c.as_bytes.ensures.value) c.in_default-push.ensures.items c.self.view_is
     c.self.invariant).1
@@ -25,7 +25,7 @@ invariant_of-self-in_default-push c =
 pub returns-in_default-push : goal.returns-in_default-push
 returns-in_default-push c =
     let t = c.self.inside.names.items in
-    let kept : KeptImport = record { «module» = c.in-Some.module; name = record { start = length c.as_slice-start.result.now; end = length c.as_slice-end.result.now }; place = c.args.place } in
+    let kept : KeptImport = record { «module» = c.in-Some.module; start = length c.as_slice-start.result.now; end = length c.as_slice-end.result.now; place = c.args.place } in
     (none_more c.args.module.now c.args.name.now c.self.inside.modules.items c.keep_module.new.modules.items t c.extend_from_slice.new.self.items c.self.inside.imports.items
     c.push.new.self.items kept c.args.self.now c.in-Some.ensures (c.in-Ok.ensures.items ∙ ap (λ (f : List ℕ). t ++ f) c.as_bytes.ensures.value) c.in_default-push.ensures.items c.self.view_is
     c.self.invariant).0
@@ -33,7 +33,7 @@ returns-in_default-push c =
 pub invariant_of-self-2 : goal.invariant_of-self-2
 invariant_of-self-2 c =
     let t = c.self.inside.names.items in
-    let kept : KeptImport = record { «module» = c.in-Some.module; name = record { start = length c.as_slice-start.result.now; end = length c.as_slice-end.result.now }; place = c.args.place } in
+    let kept : KeptImport = record { «module» = c.in-Some.module; start = length c.as_slice-start.result.now; end = length c.as_slice-end.result.now; place = c.args.place } in
     (one_more c.args.module.now c.args.name.now c.self.inside.modules.items c.keep_module.new.modules.items t c.extend_from_slice.new.self.items c.self.inside.imports.items c.push.new.self.items
     kept c.args.self.now c.in-Some.ensures (c.in-Ok.ensures.items ∙ ap (λ (f : List ℕ). t ++ f) c.as_bytes.ensures.value) (subst IsUtf8 c.as_bytes.ensures.value c.as_bytes.ensures.utf8)
     (ap length c.as_slice-start.ensures.value) (ap length c.as_slice-end.ensures.value) c.in-Ok-push.ensures.items c.self.view_is c.self.invariant).1
@@ -41,7 +41,7 @@ invariant_of-self-2 c =
 pub returns : goal.returns
 returns c =
     let t = c.self.inside.names.items in
-    let kept : KeptImport = record { «module» = c.in-Some.module; name = record { start = length c.as_slice-start.result.now; end = length c.as_slice-end.result.now }; place = c.args.place } in
+    let kept : KeptImport = record { «module» = c.in-Some.module; start = length c.as_slice-start.result.now; end = length c.as_slice-end.result.now; place = c.args.place } in
     (one_more c.args.module.now c.args.name.now c.self.inside.modules.items c.keep_module.new.modules.items t c.extend_from_slice.new.self.items c.self.inside.imports.items c.push.new.self.items
     kept c.args.self.now c.in-Some.ensures (c.in-Ok.ensures.items ∙ ap (λ (f : List ℕ). t ++ f) c.as_bytes.ensures.value) (subst IsUtf8 c.as_bytes.ensures.value c.as_bytes.ensures.utf8)
     (ap length c.as_slice-start.ensures.value) (ap length c.as_slice-end.ensures.value) c.in-Ok-push.ensures.items c.self.view_is c.self.invariant).0
