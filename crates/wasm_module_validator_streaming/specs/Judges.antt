@@ -18,4 +18,4 @@ IsJudgeFor v judge = IsJudgeKept (context_of v.reached.progress.kept.groups v.re
 
 -- that is so of what judges a module
 abbrev pub HasItsJudge : Judging → Type 0
-HasItsJudge j = IsJudgeFor j.validator j.plain
+HasItsJudge j = IsJudgeFor j.validator j.in_loop

@@ -7,11 +7,11 @@ ghost use Rattle.wasm_module_validator_streaming.specs.laws.Running.{begins};
 ghost use Rattle.wasm_module_validator_streaming.specs.Judges.{HasItsJudge};
 ghost use Rattle.wasm_module_validator_streaming.specs.Payloads.{StepsPayload};
 
-use crate::functions::judge_function;
+use crate::functions::judge_next;
 use crate::taking::Taken;
 use std::alloc::Global;
 use wasm_module_validator::{Types, ValidPayload, Validator};
-use wasm_module_validator_function_bodies::{BodyJudge, PlainJudge};
+use wasm_module_validator_function_bodies::{BodyJudge, PlainJudge, entries_for};
 use wasm_module_validator_index_spaces::view::ValidatorId;
 use wasm_sections::{Parser, Payload};
 use wasm_types::{Limits, WasmFeatures};
@@ -21,11 +21,11 @@ use wasm_types::{Limits, WasmFeatures};
 pub(crate) struct Judging {
     pub(crate) validator: Validator,
     pub(crate) parser: Parser,
-    pub(crate) judge: BodyJudge,
+    pub(crate) complete: BodyJudge,
     /// The judge that asks tables of the module, from its first body to its last.
-    pub(crate) plain: Option<PlainJudge>,
-    /// How many bodies the module has, as it says itself.
-    pub(crate) bodies: u32,
+    pub(crate) in_loop: Option<PlainJudge>,
+    /// How many entries these tables may have, by the bodies and bytes of the code section, as the module says itself.
+    pub(crate) entries: u32,
     pub(crate) alloc: Global,
 }
 
@@ -51,9 +51,9 @@ impl Judging {
         Judging {
             validator: Validator::new_with_limits(alloc, id, features, limits),
             parser,
-            judge: BodyJudge::new(alloc, features),
-            plain: None,
-            bodies: 0,
+            complete: BodyJudge::new(alloc, features),
+            in_loop: None,
+            entries: 0,
             alloc,
         }
     }
@@ -65,18 +65,18 @@ impl Judging {
         ensures judge { HasItsJudge self.new }
         ensures parser { self.new.parser ≡ self.old.parser }
     {
-        self.bodies = bodies_of(&payload, self.bodies);
+        self.entries = entries_behind(&payload, self.entries);
         match self.validator.payload(payload) {
             Ok(ValidPayload::Ok) => {
-                self.plain = None;
+                self.in_loop = None;
                 Taken::Item(consumed)
             }
             Ok(ValidPayload::Func(function, body)) => {
-                match judge_function(
+                match judge_next(
                     self.alloc,
-                    &mut self.plain,
-                    self.bodies,
-                    &mut self.judge,
+                    &mut self.in_loop,
+                    self.entries,
+                    &mut self.complete,
                     function,
                     &body,
                 ) {
@@ -85,25 +85,25 @@ impl Judging {
                 }
             }
             Ok(ValidPayload::End(types)) => {
-                self.plain = None;
+                self.in_loop = None;
                 Taken::Ended(types)
             }
             Err(error) => {
-                self.plain = None;
+                self.in_loop = None;
                 Taken::Refused(error)
             }
         }
     }
 }
 
-/// How many bodies the module says that it has, behind a payload, where before it it said so many.
-fn bodies_of(payload: &Payload<'_>, before: u32) -> u32 {
+/// How many entries the loop's tables may have after a payload, if it was so many before it.
+fn entries_behind(payload: &Payload<'_>, before: u32) -> u32 {
     match payload {
         Payload::CodeSectionStart {
             count,
             unchecked_range: _,
-            size: _,
-        } => *count,
+            size,
+        } => entries_for(*count as u64, *size as u64),
         _ => before,
     }
 }

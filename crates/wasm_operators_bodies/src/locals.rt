@@ -126,7 +126,7 @@ impl<'a> LocalsReader<'a> {
 }
 
 /// A group of at most so many locals. Where it is refused the reader may have gone on.
-#[tactic(auto, using(wasm_types::specs::Laws::reaches_self, wasm_types::specs::Laws::reaches_then), unfolding(crate::specs::Locals::group_within, crate::specs::Locals::group))]
+#[tactic(auto, using(wasm_types::specs::Laws::reaches_self, wasm_types::specs::Laws::reaches_then), unfolding(wasm_operators_encoding::specs::Locals::group_within, wasm_operators_encoding::specs::Locals::group))]
 fn group_ahead(alloc: Global, room: u32, reader: &mut BinaryReader<'_>) -> Result<(u32, ValType)>
     ensures answer { Gives (λ g. group_of g.0 g.1) result reader.new (group_within room reader.old) }
     ensures no_memory { NeedsNoMemory result }

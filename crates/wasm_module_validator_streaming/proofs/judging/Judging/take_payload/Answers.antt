@@ -4,11 +4,11 @@ use Rattle.wasm_module_validator_streaming.proofs.KeptJudge.{judge_of_handed, ju
 use Rattle.wasm_module_validator_streaming.proofs.Stepping.{handed_within}
 use Rattle.wasm_module_validator_streaming.proofs.judging.Judging.take_payload.Goals as goal
 
-pub judge_function-requires : goal.judge_function-requires
-judge_function-requires c = record {
+pub judge_next-requires : goal.judge_next-requires
+judge_next-requires c = record {
   within = handed_within c.args.payload c.args.self.now.validator c.payload.new.self c.in-Ok-Func.function c.in-Ok-Func.body (rw c.in-Ok-Func.field-0-is at c.in-Ok-Func.ensures);
-  plain = judge_of_handed c.args.payload c.args.self.now.validator c.payload.new.self c.in-Ok-Func.function c.in-Ok-Func.body (rw c.in-Ok-Func.field-0-is at c.in-Ok-Func.ensures)
-      c.args.self.now.plain c.requires;
+  tables = judge_of_handed c.args.payload c.args.self.now.validator c.payload.new.self c.in-Ok-Func.function c.in-Ok-Func.body (rw c.in-Ok-Func.field-0-is at c.in-Ok-Func.ensures)
+      c.args.self.now.in_loop c.requires;
 }
 
 pub returns-in-Ok-Ok-clause-steps : goal.returns-in-Ok-Ok-clause-steps
@@ -28,19 +28,19 @@ returns-in-Ok-clause-steps c = (
 pub returns-in-Ok-clause-judge : goal.returns-in-Ok-clause-judge
 returns-in-Ok-clause-judge c =
     judge_behind c.args.payload c.args.self.now.validator c.payload.new.self c.in-Ok-Func.function c.in-Ok-Func.body (rw c.in-Ok-Func.field-0-is at c.in-Ok-Func.ensures)
-    c.judge_function.new.plain c.in-Ok.ensures.stays
+    c.judge_next.new.in_loop c.in-Ok.ensures.stays
 
-pub returns-in-Err-judge_function-clause-judge : goal.returns-in-Err-judge_function-clause-judge
-returns-in-Err-judge_function-clause-judge c =
+pub returns-in-Err-judge_next-clause-judge : goal.returns-in-Err-judge_next-clause-judge
+returns-in-Err-judge_next-clause-judge c =
     judge_behind c.args.payload c.args.self.now.validator c.payload.new.self c.in-Ok-Func.function c.in-Ok-Func.body (rw c.in-Ok-Func.field-0-is at c.in-Ok-Func.ensures)
-    c.judge_function.new.plain c.in-Err-judge_function.ensures.stays
+    c.judge_next.new.in_loop c.in-Err-judge_next.ensures.stays
 
-pub returns-in-Err-judge_function-clause-steps : goal.returns-in-Err-judge_function-clause-steps
-returns-in-Err-judge_function-clause-steps c = inr (record {
+pub returns-in-Err-judge_next-clause-steps : goal.returns-in-Err-judge_next-clause-steps
+returns-in-Err-judge_next-clause-steps c = inr (record {
   handed = c.in-Ok-Func.function;
   body = c.in-Ok-Func.body;
   takes = rw c.in-Ok-Func.field-0-is at c.in-Ok-Func.ensures;
-  told = c.in-Err-judge_function.ensures.told;
+  told = c.in-Err-judge_next.ensures.told;
 })
 
 pub returns-in-Err-clause-steps : goal.returns-in-Err-clause-steps
