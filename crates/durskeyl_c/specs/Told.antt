@@ -3,7 +3,7 @@ use Rattle.std.specs.Prelude.{◌≡◌, ◌<◌, ◌≤◌, ◌+◌, ℕ, List,
 use Rattle.wasm_types.specs.decoding.declared.error.ErrorKind.{ErrorKind}
 use Rattle.wasm_types.specs.decoding.declared.error.ErrorKind.TheVariants.{EndOfData, MissingFeature, OutOfMemory, Failed, Other}
 use Rattle.wasm_refusal_causes.specs.declared.causes.Cause.{Cause}
-use Rattle.wasm_refusal_causes.specs.declared.causes.Cause.TheVariants.{Vectors, Limit, Feature, Types, Another}
+use Rattle.wasm_refusal_causes.specs.declared.causes.Cause.TheVariants.{Vectors, Limit, Feature, FixedLimit, Types, Another}
 use Rattle.wasm_refusal_causes.specs.Limits.{place_of}
 use Rattle.wasm_module_validator_import_export_places.specs.rules.Accepts.{AcceptsUnder}
 use Rattle.wasm_module_validator.specs.Parts.{AcceptsPart}
@@ -54,6 +54,7 @@ abbrev pub limit_of : Cause → ℕ
 limit_of (Limit limit) = place_of limit + 1
 limit_of Vectors = 0
 limit_of (Feature features) = 0
+limit_of FixedLimit = 0
 limit_of Types = 0
 limit_of Another = 0
 

@@ -52,6 +52,7 @@ fn limit_number(cause: Cause) -> u32
         Cause::Limit(limit) => limit.place() + 1,
         Cause::Vectors => 0,
         Cause::Feature(_) => 0,
+        Cause::FixedLimit => 0,
         Cause::Types => 0,
         Cause::Another => 0,
     }

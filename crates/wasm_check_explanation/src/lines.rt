@@ -126,18 +126,23 @@ fn frame_line(alloc: Global, frame: &OpenFrame) -> Result<String, AllocError> {
     )
 }
 
+/// Adds a line.
+fn add(line: String, lines: &mut Vec<String>) -> Result<(), AllocError> {
+    lines.push(line)?;
+    Ok(())
+}
+
 /// Adds where the fault is.
 fn add_where(alloc: Global, place: &Place, lines: &mut Vec<String>) -> Result<(), AllocError> {
     if let Some(function) = &place.function {
-        let line = function_line(alloc, function)?;
-        lines.push(line)?;
+        add(function_line(alloc, function)?, lines)?;
         return match &function.signature {
-            Some(signature) => lines.push(signature_line(alloc, signature)?),
+            Some(signature) => add(signature_line(alloc, signature)?, lines),
             None => Ok(()),
         };
     }
     match place.part {
-        Some(part) => lines.push(part_line(alloc, place, part)?),
+        Some(part) => add(part_line(alloc, place, part)?, lines),
         None => Ok(()),
     }
 }
@@ -148,15 +153,14 @@ fn add_operator(
     operator: &OperatorAt,
     lines: &mut Vec<String>,
 ) -> Result<(), AllocError> {
-    let line = operator_line(alloc, operator)?;
-    lines.push(line)?;
+    add(operator_line(alloc, operator)?, lines)?;
     let Some(takes) = &operator.takes else {
         return Ok(());
     };
     let Some(gives) = &operator.gives else {
         return Ok(());
     };
-    lines.push(operands_line(alloc, takes, gives)?)
+    add(operands_line(alloc, takes, gives)?, lines)
 }
 
 /// The lines of a place, except for the last, which has the chapter.
@@ -164,13 +168,13 @@ pub(crate) fn lines_of(alloc: Global, place: &Place) -> Result<Vec<String>, Allo
     let mut lines = Vec::new(alloc);
     add_where(alloc, place, &mut lines)?;
     if let Some(note) = place.note {
-        lines.push(note_line(alloc, note)?)?;
+        add(note_line(alloc, note)?, &mut lines)?;
     }
     if let Some(operator) = &place.operator {
         add_operator(alloc, operator, &mut lines)?;
     }
     if let Some(frame) = &place.frame {
-        lines.push(frame_line(alloc, frame)?)?;
+        add(frame_line(alloc, frame)?, &mut lines)?;
     }
     Ok(lines)
 }

@@ -6,7 +6,8 @@ use wasm_check_lines::{Member, Value};
 
 /// Adds a member.
 fn add(name: &'static str, value: Value, members: &mut Vec<Member>) -> Result<(), AllocError> {
-    members.push(Member { name, value })
+    members.push(Member { name, value })?;
+    Ok(())
 }
 
 /// Adds a number.

@@ -203,8 +203,10 @@ pub fn explain(
         bytes,
     };
     let mut place = place_at(judged, error.offset())?;
-    if let Cause::Limit(_) = cause_of(&limits, error) {
-        place.chapter = LIMITS;
+    match cause_of(&limits, error) {
+        Cause::Limit(_) => place.chapter = LIMITS,
+        Cause::FixedLimit => place.chapter = LIMITS,
+        _ => (),
     }
     Ok(place)
 }

@@ -18,10 +18,10 @@ use wasm_types::ValType;
 
 /// Adds a type, if it is known.
 pub(crate) fn add(known: Option<ValType>, types: &mut Vec<ValType>) -> Result<(), AllocError> {
-    match known {
-        Some(ty) => types.push(ty),
-        None => Ok(()),
+    if let Some(ty) = known {
+        types.push(ty)?;
     }
+    Ok(())
 }
 
 /// Adds types, if they are known.
@@ -261,7 +261,7 @@ fn add_by_struct(
 /// Adds a reference to the array type at an index, and an index into the array.
 fn add_element(type_index: u32, types: &mut Vec<ValType>) -> Result<(), AllocError> {
     add(reference_to(type_index), types)?;
-    types.push(ValType::I32)
+    add(Some(ValType::I32), types)
 }
 
 /// Adds what an operator on arrays takes.
@@ -273,9 +273,9 @@ fn add_by_array(
     match op {
         GcOperator::ArrayNew { array_type_index } => {
             add(item_of(validator, *array_type_index), types)?;
-            types.push(ValType::I32)
+            add(Some(ValType::I32), types)
         }
-        GcOperator::ArrayNewDefault { .. } => types.push(ValType::I32),
+        GcOperator::ArrayNewDefault { .. } => add(Some(ValType::I32), types),
         GcOperator::ArrayGet { array_type_index } => add_element(*array_type_index, types),
         GcOperator::ArrayGetS { array_type_index } => add_element(*array_type_index, types),
         GcOperator::ArrayGetU { array_type_index } => add_element(*array_type_index, types),

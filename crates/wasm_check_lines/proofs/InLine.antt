@@ -21,7 +21,7 @@ use Rattle.wasm_types.specs.settings.declared.WasmFeatures.{WasmFeatures}
 use Rattle.wasm_refusal_causes.specs.declared.limit.Limit.{Limit as Chosen}
 use Rattle.wasm_refusal_causes.specs.declared.limit.Limit.TheVariants as limits
 use Rattle.wasm_refusal_causes.specs.declared.causes.Cause.{Cause}
-use Rattle.wasm_refusal_causes.specs.declared.causes.Cause.TheVariants.{Vectors, Limit, Feature, Types, Another}
+use Rattle.wasm_refusal_causes.specs.declared.causes.Cause.TheVariants.{Vectors, Limit, Feature, FixedLimit, Types, Another}
 use Rattle.wasm_refusal_causes.specs.Causes.{cause_of}
 use Rattle.wasm_refusal_causes.specs.Limits.{word_of}
 use Rattle.wasm_check_lines.specs.Hints.{feature_hint, features_hint, framed, is_text, limit_hint, text_hint, hint_for, hint_of}
@@ -209,6 +209,7 @@ hint_for_stays : (c : Cause) (front : List ℕ) → stays_if (hint_for c front)
 hint_for_stays Vectors front = literal (codes "--vectors judges operators on vectors") refl
 hint_for_stays (Limit limit) front = limit_hint_stays (word_of limit) (limit_word_stays limit)
 hint_for_stays (Feature features) front = features_hint_stays features
+hint_for_stays FixedLimit front = tt
 hint_for_stays Types front = tt
 hint_for_stays Another front = text_hint_stays front
 
@@ -266,6 +267,7 @@ kind_stays : (c : Cause) (k : ErrorKind) → StaysInLine (kind_word c k)
 kind_stays Vectors k = literal (codes "vectors") refl
 kind_stays (Limit limit) k = literal (codes "limit") refl
 kind_stays (Feature features) k = literal (codes "missing-feature") refl
+kind_stays FixedLimit k = error_stays k
 kind_stays Types k = literal (codes "types") refl
 kind_stays Another k = error_stays k
 
@@ -278,6 +280,7 @@ member_stays : (c : Cause) → StaysInLine (cause_member c)
 member_stays Vectors = nothing
 member_stays (Limit limit) = between (codes ",\"limit\":\"") (word_of limit) (codes "\"") refl (limit_word_stays limit) refl
 member_stays (Feature features) = framed_stays (codes ",\"feature\":\"") (word_for features.0) (codes "\"") refl (word_stays features.0) refl
+member_stays FixedLimit = nothing
 member_stays Types = nothing
 member_stays Another = nothing
 

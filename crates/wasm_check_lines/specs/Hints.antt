@@ -4,7 +4,7 @@ use Rattle.wasm_types.specs.decoding.ErrorValue.{ErrorValue}
 use Rattle.wasm_types.specs.settings.declared.Limits.{Limits}
 use Rattle.wasm_types.specs.settings.declared.WasmFeatures.{WasmFeatures}
 use Rattle.wasm_refusal_causes.specs.declared.causes.Cause.{Cause}
-use Rattle.wasm_refusal_causes.specs.declared.causes.Cause.TheVariants.{Vectors, Limit, Feature, Types, Another}
+use Rattle.wasm_refusal_causes.specs.declared.causes.Cause.TheVariants.{Vectors, Limit, Feature, FixedLimit, Types, Another}
 use Rattle.wasm_refusal_causes.specs.Causes.{cause_of}
 use Rattle.wasm_refusal_causes.specs.Limits.{word_of}
 use Rattle.wasm_check_lines.specs.FeatureWords.{word_for}
@@ -38,6 +38,7 @@ abbrev pub hint_for : Cause → List ℕ → Option (List ℕ)
 hint_for Vectors front = Some (codes "--vectors judges operators on vectors")
 hint_for (Limit limit) front = Some (limit_hint (word_of limit))
 hint_for (Feature features) front = features_hint features
+hint_for FixedLimit front = None
 hint_for Types front = None
 hint_for Another front = text_hint front
 

@@ -116,6 +116,7 @@ impl fmt::Display for KindWord {
             Cause::Vectors => f.write_str("vectors"),
             Cause::Limit(_) => f.write_str("limit"),
             Cause::Feature(_) => f.write_str("missing-feature"),
+            Cause::FixedLimit => f.write_str(error_word(self.kind)),
             Cause::Types => f.write_str("types"),
             Cause::Another => f.write_str(error_word(self.kind)),
         }
@@ -164,6 +165,7 @@ fn write_cause_member<W: fmt::Write>(f: &mut fmt::Formatter<W>, cause: Cause) ->
         Cause::Vectors => Ok(()),
         Cause::Limit(limit) => write!(f, ",\"limit\":\"{}\"", limit.word()),
         Cause::Feature(features) => write_framed(f, ",\"feature\":\"", word_for(features), "\""),
+        Cause::FixedLimit => Ok(()),
         Cause::Types => Ok(()),
         Cause::Another => Ok(()),
     }

@@ -126,6 +126,7 @@ pub(crate) fn write_hint<W: fmt::Write>(
         }
         Cause::Limit(limit) => write_limit_hint(f, before, limit, after),
         Cause::Feature(features) => write_feature_hint(f, before, features, after),
+        Cause::FixedLimit => Ok(()),
         Cause::Types => Ok(()),
         Cause::Another => write_framed(f, before, text_hint(front), after),
     }

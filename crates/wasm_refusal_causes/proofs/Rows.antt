@@ -9,6 +9,8 @@ unfolding cause_of limit_meant feature_lacking default_limits
 cause_rows = record {
   vectors = refl;
   types = refl;
+  fixed = refl;
+  index = refl;
   other = refl;
   named_alike = refl;
   tables = refl;

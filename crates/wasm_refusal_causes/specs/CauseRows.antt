@@ -25,6 +25,8 @@ features bits = record { 0 = bits }
 pub record CauseRows : Type 0 where
   pub vectors : cause_by (codes "unexpected SIMD opcode: 0xfd") ≡ causes.Vectors
   pub types : cause_by (codes "type mismatch: expected i32 but nothing on stack") ≡ causes.Types
+  pub fixed : cause_by (codes "implementation limit: too many core types") ≡ causes.FixedLimit
+  pub index : cause_by (codes "type index greater than implementation limits") ≡ causes.FixedLimit
   pub other : cause_by (codes "unknown local 5: local index out of bounds") ≡ causes.Another
   pub named_alike : cause_by (codes "duplicate export name `too many locals: ` already defined") ≡ causes.Another
   -- several tables or memories lack a feature, except if the limit allows but one

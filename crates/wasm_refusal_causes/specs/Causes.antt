@@ -125,12 +125,14 @@ abbrev pub vectors_message : List ℕ
 vectors_message = codes "unexpected SIMD opcode: 0xfd"
 
 -- the cause by the message alone
-abbrev pub types_cause : List ℕ → Cause
-types_cause message = if begins (codes "type mismatch") message then causes.Types else causes.Another
+abbrev pub message_cause : List ℕ → Cause
+message_cause message = if begins (codes "type mismatch") message then causes.Types
+    else (if begins (codes "implementation limit: ") message then causes.FixedLimit
+    else (if begins (codes "type index greater than implementation limits") message then causes.FixedLimit else causes.Another))
 
 abbrev pub feature_cause : Option WasmFeatures → List ℕ → Cause
 feature_cause (Some features) message = causes.Feature features
-feature_cause None message = types_cause message
+feature_cause None message = message_cause message
 
 abbrev pub limit_cause : Option Limit → Option WasmFeatures → List ℕ → Cause
 limit_cause (Some limit) features message = causes.Limit limit

@@ -3,7 +3,7 @@
 //! Most limits are told by the message alone. No message begins with a text that a module chose, so how it begins tells which limit it is.
 ghost use Rattle.std.specs.Prelude.{◌≡◌};
 ghost use Rattle.wasm_refusal_causes.specs.Causes.{begins, type_fronts, entity_fronts, segment_fronts, content_fronts, meant_by, single_limit, limit_meant};
-ghost use Rattle.wasm_refusal_causes.specs.Causes.{allowing, kind_feature, message_feature, feature_lacking, types_cause, limit_cause, cause_of};
+ghost use Rattle.wasm_refusal_causes.specs.Causes.{allowing, kind_feature, message_feature, feature_lacking, message_cause, limit_cause, cause_of};
 ghost use Rattle.wasm_refusal_causes.specs.CauseRows.{CauseRows};
 
 use crate::limit::Limit;
@@ -19,6 +19,8 @@ pub enum Cause {
     Limit(Limit),
     /// These features, or one of them, are off.
     Feature(WasmFeatures),
+    /// A limit that nobody chooses: on the types of a validator, or on the index of a type.
+    FixedLimit,
     /// A type is not the one that is wanted.
     Types,
     /// Another reason.
@@ -252,11 +254,17 @@ fn feature_lacking(error: &Error) -> Option<WasmFeatures>
 }
 
 // The cause by a message that tells neither a limit nor a feature.
-fn types_cause(message: &str) -> Cause
-    ensures { result ≡ types_cause message.now }
+fn message_cause(message: &str) -> Cause
+    ensures { result ≡ message_cause message.now }
 {
     if begins(message, "type mismatch") {
         return Cause::Types;
+    }
+    if begins(message, "implementation limit: ") {
+        return Cause::FixedLimit;
+    }
+    if begins(message, "type index greater than implementation limits") {
+        return Cause::FixedLimit;
     }
     Cause::Another
 }
@@ -270,7 +278,7 @@ fn limit_cause(limit: Option<Limit>, features: Option<WasmFeatures>, message: &s
     }
     match features {
         Some(features) => Cause::Feature(features),
-        None => types_cause(message),
+        None => message_cause(message),
     }
 }
 
