@@ -10,8 +10,8 @@ use crate::stack::{innermost_name, open_frame};
 use crate::types::signature_of;
 use std::alloc::{AllocError, Global};
 use wasm_module_validator::{
-    FuncToValidate, FuncValidator, FuncValidatorAllocations, TypesRef, Validator, ValidatorId,
-    ValidatorResources,
+    FuncToValidate, FuncValidator, FuncValidatorAllocations, TypesRef, ValidPayload, Validator,
+    ValidatorId, ValidatorResources,
 };
 use wasm_operator_validator_state::blocks::function_at;
 use wasm_operators_reader::{Operator, OperatorsReader};
@@ -275,6 +275,16 @@ fn take_body(
     Ok(Some(known))
 }
 
+/// Tells the validator of a payload that is no body. If it refuses one, it refuses all that follow.
+fn pass(validator: &mut Validator, payload: Payload<'_>) {
+    match validator.payload(payload) {
+        Ok(ValidPayload::Ok) => (),
+        Ok(ValidPayload::Func(_, _)) => (),
+        Ok(ValidPayload::End(_)) => (),
+        Err(_) => (),
+    }
+}
+
 /// Tells the validator of a payload. What is known of its function if it is a body with this offset.
 fn take_payload(
     judged: Judged<'_>,
@@ -288,8 +298,7 @@ fn take_payload(
     match payload {
         Payload::CodeSectionEntry(body) => take_body(judged, validator, &body, offset),
         other => {
-            // one that was refused refuses all that follows
-            let _answer = validator.payload(other);
+            pass(validator, other);
             Ok(None)
         }
     }
