@@ -9,6 +9,7 @@
 #![tactic(auto)]
 
 mod bodies;
+mod explanation;
 mod given;
 mod items;
 mod judged;
@@ -24,10 +25,9 @@ mod place;
 mod sections;
 mod stack;
 mod taken;
-mod told;
 mod types;
 
+pub use explanation::told;
 pub use modules::explain;
 pub use place::{Function, Item, Note, Offsets, OpenFrame, Operands, OperatorAt, Place, Signature};
 pub use sections::Part;
-pub use told::told;
