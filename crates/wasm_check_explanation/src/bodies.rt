@@ -304,8 +304,8 @@ fn take_payload(
     }
 }
 
-/// What a validator knows of the function in whose body this offset is, as far as the operator there; nothing if it refuses what comes before
-/// the body.
+/// What a validator knows of the function in whose body this offset is, as far as the operator there; nothing if it refuses what comes
+/// before the body.
 pub(crate) fn find_in_body(judged: Judged<'_>, offset: u64) -> Result<Option<KnownBody>, AllocError>
     requires within { IsWithinCeilings judged.limits }
     ensures { IfOk result (λ r. IfSome r (λ k. BeginsBy offset k.inside.operator)) }

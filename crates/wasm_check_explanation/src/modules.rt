@@ -71,8 +71,8 @@ fn place_within(function: Function, inside: Inside) -> Place
     }
 }
 
-/// The place of a fault in the body of the function of this index among all of the module; none if the fault is at the body's end, and no fault
-/// is found in the body.
+/// The place of a fault in the body of the function of this index among all of the module; none if the fault is at the body's end, and no
+/// fault is found in the body.
 fn body_place(
     judged: Judged<'_>,
     index: u32,

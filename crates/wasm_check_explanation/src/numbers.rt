@@ -36,7 +36,8 @@ pub(crate) fn taken_by(name: &str) -> Option<ValType> {
     named_first(name)
 }
 
-/// Whether an operator on numbers compares: after the type and a point its name begins with one of `eq`, `lt`, `gt`, `le` and `ge`, or it is `ne`.
+/// Whether an operator on numbers compares: after the type and a point its name begins with one of `eq`, `lt`, `gt`, `le` and `ge`, or it
+/// is `ne`.
 fn compares(name: &str) -> bool {
     if name.find(".eq").is_some() || name.find(".lt").is_some() || name.find(".gt").is_some() {
         return true;

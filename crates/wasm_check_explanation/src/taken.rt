@@ -1,7 +1,7 @@
 //! The types of what an operator takes, if its names tell them: of the module, of an open frame, or its own.
 //!
-//! Each function adds the types to a list whose last is the topmost. It adds nothing for a type that it does not know, so that the list is then
-//! shorter than the operator's arity says.
+//! Each function adds the types to a list whose last is the topmost. It adds nothing for a type that it does not know, so that the list
+//! is then shorter than the operator's arity says.
 
 use crate::known::{
     address_in, carried_by, element_of, field_at, fields_at, global_at, item_of, label_at,
