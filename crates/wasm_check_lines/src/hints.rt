@@ -52,7 +52,8 @@ pub fn write_framed<W: fmt::Write>(
     text: Option<&str>,
     after: &str,
 ) -> fmt::Result
-    ensures { WritesOnOk W.write_str_gives f.old result (framed before.now (option_map (λ t. t.now) text.entry) after.now) f.new }
+    ensures { WritesOnOk W.write_str_gives f.old result
+        (framed before.now (option_map (λ t. t.now) text.entry) after.now) f.new }
 {
     let Some(text) = text else {
         return Ok(());
@@ -85,7 +86,8 @@ fn write_limit_hint<W: fmt::Write>(
     limit: Limit,
     after: &str,
 ) -> fmt::Result
-    ensures { WritesOnOk W.write_str_gives f.old result (framed before.now (Some (limit_hint (word_of limit))) after.now) f.new }
+    ensures { WritesOnOk W.write_str_gives f.old result
+        (framed before.now (Some (limit_hint (word_of limit))) after.now) f.new }
 {
     f.write_str(before)?;
     write_limit(f, limit.word())?;

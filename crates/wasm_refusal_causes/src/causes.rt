@@ -2,8 +2,9 @@
 //!
 //! Most limits are told by the message alone. No message begins with a text that a module chose, so how it begins tells which limit it is.
 ghost use Rattle.std.specs.Prelude.{◌≡◌};
-ghost use Rattle.wasm_refusal_causes.specs.Causes.{begins, type_fronts, entity_fronts, segment_fronts, content_fronts, meant_by, single_limit, limit_meant};
-ghost use Rattle.wasm_refusal_causes.specs.Causes.{allowing, kind_feature, message_feature, feature_lacking, message_cause, limit_cause, cause_of};
+ghost use Rattle.wasm_refusal_causes.specs.Causes.{begins, type_fronts, entity_fronts, segment_fronts, content_fronts, meant_by};
+ghost use Rattle.wasm_refusal_causes.specs.Causes.{single_limit, limit_meant, allowing, kind_feature, message_feature, feature_lacking};
+ghost use Rattle.wasm_refusal_causes.specs.Causes.{message_cause, limit_cause, cause_of};
 ghost use Rattle.wasm_refusal_causes.specs.CauseRows.{CauseRows};
 
 use crate::limit::Limit;
