@@ -1,5 +1,4 @@
 //! Which item of a section has an offset.
-ghost use Rattle.std.specs.Prelude.{◌≤◌};
 ghost use Rattle.wasm_types.specs.settings.Limits.{IsWithinCeilings};
 ghost use Rattle.wasm_check_explanation.specs.Places.{IsAnItem};
 

@@ -3,7 +3,6 @@
 //! Types are written as the text format writes them, a type of the module by its index: `(ref null 3)`. A list of types that was cut ends
 //! with `..`.
 ghost use Rattle.wasm_check_explanation.specs.Places.{IsEmpty};
-ghost use Rattle.std.specs.Prelude.{◌≡◌, Some};
 
 use crate::sections::Part;
 

@@ -1,6 +1,6 @@
 //! What a person can do about a refusal.
 ghost use Rattle.std.specs.Fmt.{WritesOnOk};
-ghost use Rattle.std.specs.Prelude.{◌≡◌, None, Some, bytes_eq, take, codes, option_map};
+ghost use Rattle.std.specs.Prelude.{◌≡◌, Some, bytes_eq, take, codes, option_map};
 ghost use Rattle.wasm_refusal_causes.specs.Limits.{word_of};
 ghost use Rattle.wasm_check_lines.specs.Hints.{feature_hint, features_hint, framed, hint_for, is_space, is_text, limit_hint, text_hint};
 

@@ -3,7 +3,6 @@ use Rattle.std.specs.Prelude.{◌≡◌, ℕ, List, codes, Some, None}
 use Rattle.wasm_types.specs.decoding.ErrorValue.{ErrorValue}
 use Rattle.wasm_types.specs.decoding.declared.error.ErrorKind.TheVariants.{Other, MissingFeature}
 use Rattle.wasm_types.specs.settings.Limits.{default_limits}
-use Rattle.wasm_types.specs.settings.declared.Limits.{Limits}
 use Rattle.wasm_types.specs.settings.declared.WasmFeatures.{WasmFeatures}
 use Rattle.wasm_refusal_causes.specs.declared.limit.Limit.TheVariants as limits
 use Rattle.wasm_refusal_causes.specs.declared.causes.Cause.{Cause}
