@@ -26,6 +26,7 @@ mod validator;
 
 pub use laws::{
     ids_stay, lists_are_worked, states_are_worked, validators_begin, vectors_are_asked_for,
+    verdicts_are_isolated,
 };
 pub use lists::Verdict;
 pub use parts::{parts_are_whole, validate_part};
