@@ -184,9 +184,9 @@ module _ (z : Settings) (id : ValidatorId) where
       let few = (w (record read.0.tree { code = [] }) (read_judges z x read.0 read.1)).0 in
       not_past z types now (HasGroupIn z x) k
       (λ before own has within.
-          let some = groups_within z x before own read.0 short has read.1 in
-          let whole = length-append types before in
-          roomy z (types ++ before) own (omega (arith, few, some, whole)))
+      let some = groups_within z x before own read.0 short has read.1 in
+      let whole = length-append types before in
+      roomy z (types ++ before) own (omega (arith, few, some, whole)))
       e past
 
   few_from : (types : List TypeTree) (now : List Group) (xs : List (List ℕ)) (vs : List Verdict) → AreKnown types now → AreCounted xs
@@ -236,7 +236,6 @@ few_rows z x y m n = record {
   again = λ j one last w. let few = ((w m j).1 m j).0 in omega (arith, few, one, last);
   no_module = λ not k j. absurd (not (k, j));
 }
-
 
 -- Types that come a second time take no room where they are kept in canonical form, and do where they are not; and behind as many as a list has,
 -- there is no room for one more. A module whose types the list has all passes no total if there is room for its group besides, and a second

@@ -71,9 +71,9 @@ Reads z s x t = IsRead group_value group_read (rec_group z) s x t
 
 module _ (z : Settings) where
   -- what is read first is spelled first
-  first_read : (s t : State) (r : RecGroup) (n : ℕ) (a : Written) (as : List Written) → rec_group z s ≡ Done (group_value r) t → Many (SpelledGroup z) (suc n) (a ∷ as) s.rest
-      → (a ≡ group_read r) × Many (SpelledGroup z) n as t.rest
-  first_read s t r n a as read (front, back, spelled, many, parts) =
+  first_read : (s t : State) (r : RecGroup) (n : ℕ) (a : Written) (bs : List Written) → rec_group z s ≡ Done (group_value r) t → Many (SpelledGroup z) (suc n) (a ∷ bs) s.rest
+      → (a ≡ group_read r) × Many (SpelledGroup z) n bs t.rest
+  first_read s t r n a bs read (front, back, spelled, many, parts) =
       let v = (groups_given z a front).1 spelled in
       let after : State = record { rest = back; place = s.place + length front; settings = s.settings; start = s.start } in
       let complete : rec_group z s ≡ Done v.0 after
@@ -81,21 +81,21 @@ module _ (z : Settings) where
       let both : done (group_value r) t ≡ done v.0 after = sym read ∙ complete in
       let same : group_value r ≡ v.0 = value_is (group_value r) v.0 t after both in
       let there : t ≡ after = state_is (group_value r) v.0 t after both in
-      (sym v.1 ∙ sym (ap group_of same) ∙ sym (group_is_of_value r), subst (λ (w : State). Many (SpelledGroup z) n as w.rest) (sym there) many)
+      (sym v.1 ∙ sym (ap group_of same) ∙ sym (group_is_of_value r), subst (λ (w : State). Many (SpelledGroup z) n bs w.rest) (sym there) many)
 
   -- so some groups that are read, and one more, come first among all
   come_first : (front : List Written) (s here there : State) (x : Written) (n : ℕ) (gs : List Written) → Many (SpelledGroup z) n gs s.rest → AddsEach (Reads z) s front here
       → Reads z here x there → length front < n → (back : List Written) × (gs ≡ front ++ x ∷ back)
   come_first [] s here there x zero gs many is read few = absurd (omega (arith, few))
   come_first [] s here there x (suc n) [] many is read few = absurd many
-  come_first [] s here there x (suc n) (a ∷ as) many is (r, e, read) few =
-      let k = first_read here there r n a as read (subst (λ (w : State). Many (SpelledGroup z) (suc n) (a ∷ as) w.rest) is many) in
-      (as, ap (λ (y : Written). y ∷ as) (k.0 ∙ e))
+  come_first [] s here there x (suc n) (a ∷ bs) many is (r, e, read) few =
+      let k = first_read here there r n a bs read (subst (λ (w : State). Many (SpelledGroup z) (suc n) (a ∷ bs) w.rest) is many) in
+      (bs, ap (λ (y : Written). y ∷ as) (k.0 ∙ e))
   come_first (y ∷ ys) s here there x zero gs many is read few = absurd (omega (arith, few))
   come_first (y ∷ ys) s here there x (suc n) [] many is read few = absurd many
-  come_first (y ∷ ys) s here there x (suc n) (a ∷ as) many (k, (r, e, first), more) read few =
-      let f = first_read s k r n a as first many in
-      let rest = come_first ys k here there x n as f.1 more read (omega (arith, few)) in
+  come_first (y ∷ ys) s here there x (suc n) (a ∷ bs) many (k, (r, e, first), more) read few =
+      let f = first_read s k r n a bs first many in
+      let rest = come_first ys k here there x n bs f.1 more read (omega (arith, few)) in
       (rest.0, (λ i. (f.0 ∙ e) i ∷ rest.1 i))
 
 -- ---- how many types there are
