@@ -90,7 +90,7 @@ module _ (z : Settings) where
   come_first [] s here there x (suc n) [] many is read few = absurd many
   come_first [] s here there x (suc n) (a ∷ bs) many is (r, e, read) few =
       let k = first_read here there r n a bs read (subst (λ (w : State). Many (SpelledGroup z) (suc n) (a ∷ bs) w.rest) is many) in
-      (bs, ap (λ (y : Written). y ∷ as) (k.0 ∙ e))
+      (bs, ap (λ (y : Written). y ∷ bs) (k.0 ∙ e))
   come_first (y ∷ ys) s here there x zero gs many is read few = absurd (omega (arith, few))
   come_first (y ∷ ys) s here there x (suc n) [] many is read few = absurd many
   come_first (y ∷ ys) s here there x (suc n) (a ∷ bs) many (k, (r, e, first), more) read few =
