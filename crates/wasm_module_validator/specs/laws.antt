@@ -8,3 +8,4 @@ pub mod GroupsIn
 pub mod Alone
 pub mod Unasked
 pub mod Parts
+pub mod PartRows
