@@ -1,5 +1,5 @@
 -- The worked module in parts.
-use Rattle.std.proofs.Common.{◌≡◌, ◌<◌, ◌≤◌, ◌%◌, ℕ, zero, suc, nat_eq, true, List, [], ◌∷◌, ◌++◌, length, refl, subst, arith}
+use Rattle.std.proofs.Common.{◌≡◌, ◌<◌, ◌≤◌, ◌%◌, ℕ, zero, suc, false, true, List, [], ◌∷◌, ◌++◌, length, refl, subst, arith}
 use Rattle.std.proofs.lemmas.Bool.{eqb-true}
 use Rattle.std.proofs.lemmas.Nat.{mod_below}
 use Rattle.wasm_module_validator_rules.proofs.WorkedBytes.{bytes_worked}
@@ -42,5 +42,5 @@ part_rows = record {
   only = λ first. bytes_worked.body_empty (whole_is_accepted everything 1 bodiless (omega arith) (each_of_one first));
   one_of_two = λ first second. bytes_worked.body_empty (whole_is_accepted everything 2 bodiless (omega arith) (each_of_two first second));
   outside = λ a. bytes_worked.no_body_aside a.0;
-  second = λ R x y s t. ((λ h. h.1.0 refl), (λ r. ((λ k. absurd cc), ((λ k. r), tt))));
+  second = λ R x y s t. ((λ h. h.1.0 refl), (λ r. ((λ k. absurd (let bad : false ≡ true = k in cc)), ((λ k. r), tt))));
 }

@@ -181,7 +181,7 @@ module _ (z : Settings) (id : ValidatorId) where
   not_past_few types now x xs e k short w (inr none) valid = none valid
   not_past_few types now x xs e k short w (inl past) valid =
       let read = (outside_is_read z x).0 valid in
-      let few = (w (record read.0.tree { code = [] }) (read_judges z x read.0 read.1)).0 in
+      let few : length types + length (types_behind [] read.0.tree.types) ≤ max_types = (w (record read.0.tree { code = [] }) (read_judges z x read.0 read.1)).0 in
       not_past z types now (HasGroupIn z x) k
       (λ before own has within.
       let some = groups_within z x before own read.0 short has read.1 in

@@ -39,7 +39,6 @@ use Rattle.wasm_module_validator_section_order.specs.items.Adding.{AddsEach, IsI
 use Rattle.wasm_module_validator_section_order.specs.sections.Kinds.{group_of, group_read}
 use Rattle.wasm_module_validator_section_order.specs.sections.laws.Groups.{groups_given, group_is_of_value}
 use Rattle.wasm_module_validator_section_order.specs.sections.laws.Shapes.{shape_judged}
-use Rattle.wasm_module_validator_drivers.specs.declarations.Total.{IsSizeOf}
 use Rattle.wasm_module_validator_drivers.specs.payloads.Progress.{HasGroup, HasItem}
 use Rattle.wasm_module_validator_drivers.specs.reading.Reading.{HasGroupIn, IsReadAs, first_parser}
 
@@ -197,7 +196,7 @@ frame_has z f x p r before own is has settings judged =
     let by : b.0.settings ≡ z = subst (HasSettings z) b.1 settings in
     let here : JudgesSection z p section.types b.0.rest r
     = (shape_judged z section.types p r b.0.rest).0 (subst (λ (g : Frame). JudgesShape z p (shape_of g) r) b.1 judged) in
-    let last = here.last in
+    let last : r.last ≡ 1 = here.last in
     (omega (arith, last), section_has z b.0 s.0.reader s.0.count r.tree.types before own by b.2 here.spelled s.2)
 
 -- a group of bytes that are read is one of their module: with the types before it, it has no more than all
@@ -206,7 +205,8 @@ pub groups_within : (z : Settings) (text : List ℕ) (before : List TypeTree) (o
 groups_within z text before own q room g (ys, is, judged) =
     let all = g.frames ++ g.last ∷ [] in
     let ended : JudgesShapes z nothing (ys ++ the_end ∷ []) q = judged_joined z ys (the_end ∷ []) nothing q q judged (q, refl, refl) in
-    let front = calls_with_end (first_parser z) g.parser text g.rest all ys refl (omega (arith, room)) is g.calls in
+    let short : 0 + length text < 2 ^ 64 = omega (arith, room) in
+    let front = calls_with_end (first_parser z) g.parser text g.rest all ys refl short is g.calls in
     let split = judged_split z (shapes_of all) front.0 nothing q (subst (λ (xs : List Shape). JudgesShapes z nothing xs q) front.1 ended) in
     let last = judged_less z g.frames g.last split.0 split.1 in
     let there = frame_has z g.last g.section last.0 split.0 before own g.is g.has (last_settings g.frames g.last (first_parser z) g.parser text g.rest g.calls) last.2 in

@@ -1,4 +1,4 @@
-use Rattle.std.proofs.Common.{refl, rules, arith}
+use Rattle.std.proofs.Common.{refl, rules}
 use Rattle.wasm_check_command.proofs.LineLemmas.{front_kept, more_written, stopped_there}
 use Rattle.wasm_check_command.proofs.judging.write_text.Goals as goal
 
