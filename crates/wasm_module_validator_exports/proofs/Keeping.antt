@@ -1,6 +1,6 @@
 -- Names that are kept one by one.
 use Rattle.std.specs.Prelude.{IsUtf8}
-use Rattle.std.proofs.Common.{◌≡◌, ◌∙◌, ◌<◌, ◌+◌, ◌-◌, ◌&&◌, take, drop, arith, get_or, set, map, true, false, Bool, cond, ℕ, zero, suc, pred, List, [], ◌∷◌, ◌++◌, length, slice_get, Option, Some, None, option_map, refl, sym, ap, subst, inr, ⊎_elim, String, string_bytes, if◌then◌else◌}
+use Rattle.std.proofs.Common.{◌≡◌, ◌∙◌, ◌<◌, ◌+◌, ◌-◌, take, drop, arith, get_or, set, true, false, Bool, ℕ, zero, suc, pred, List, [], ◌∷◌, ◌++◌, length, slice_get, Option, Some, None, option_map, refl, sym, ap, subst, inr, ⊎_elim, String, string_bytes, if◌then◌else◌}
 use Rattle.std.specs.declared.alloc.Global.{Global}
 use Rattle.std.specs.Option.{unwrap_or}
 use Rattle.std.specs.Str.{bytes_eq}
@@ -8,7 +8,7 @@ use Rattle.std.specs.Cmp.Lexicographic.{bytes_decides}
 use Rattle.std.proofs.lemmas.List.{length_push, length-append, length-drop, length-map, map-append, drop-append-le, take-append-le, take_all, take_more}
 use Rattle.wasm_module_validator_exports.specs.declared.names.imports.Place.{Place}
 use Rattle.wasm_module_validator_exports.specs.declared.names.imports.KeptNames.{KeptNames}
-use Rattle.wasm_module_validator_exports.specs.names.Imports.{AreKept, HasKept, HasKeptNames, ImportedName, StaysKept, IsNamed, Pair, all_named, has_names, index_of, is_pair, module_at, module_name_of, name_at, named_at, pairs_of, with_import}
+use Rattle.wasm_module_validator_exports.specs.names.Imports.{AreKept, HasAdded, HasKept, HasKeptNames, HasPushed, ImportedName, StaysKept, IsNamed, Pair, all_named, has_names, index_of, is_pair, module_at, module_name_of, name_at, named_at, pairs_of, with_import}
 
 -- what stands at an index that is there
 pub read : {A : Type 0} (xs : List A) (i : ℕ) (x : A) → i < length xs → x ≡ get_or xs i x → slice_get xs i ≡ Some x
@@ -310,10 +310,10 @@ module _ (m f : List ℕ) (p : Place) (old new : List (String Global)) (t u : Li
   abbrev before : List ImportedName
   before = all_named old t ks
 
-  same_before : all_named new u ks ≡ before
+  pub same_before : all_named new u ks ≡ before
   same_before = (keeps.0 ks h).0
 
-  still_kept : AreKept new u ks
+  pub still_kept : AreKept new u ks
   still_kept = (keeps.0 ks h).1
 
   -- it comes behind the others
@@ -333,3 +333,18 @@ module _ (m f : List ℕ) (p : Place) (old new : List (String Global)) (t u : Li
   pairs_more =
       ap pairs_of (map-append (named_at new u) ks (k ∷ [])) ∙ map-append (λ (n : ImportedName). (n.module_name, n.field_name)) (all_named new u ks) (named_at new u k ∷ [])
       ∙ ap (λ (n : ImportedName). pairs_of (all_named new u ks) ++ (n.module_name, n.field_name) ∷ []) keeps.3
+
+-- what comes to a pair that stands: it is imported by these names besides, where there was memory
+pub comes_at : (m f : List ℕ) (p : Place) (ms : List (String Global)) (t : List ℕ) (ks next : List KeptNames) (at : ℕ) (all : List ImportedName) (b : Bool) → HasPushed at p ks next b
+    → index_of m f (pairs_of (all_named ms t ks)) ≡ Some at → all_named ms t ks ≡ all → HasAdded m f p all (all_named ms t next) b
+comes_at m f p ms t ks next at all true (x, y, got, put, mo, st, en, fi, it) e same =
+    ap (all_named ms t) put ∙ (one_comes ms t x y mo st en m f p ks at got fi it e ∙ ap (with_import m f p) same)
+comes_at m f p ms t ks next at all false (x, y, got, put, mo, st, en, fi, it) e same =
+    ap (all_named ms t) put ∙ (all_stay ms t x y mo st en ks at got fi it ∙ same)
+
+-- and the names stay
+pub stays_at : (p : Place) (ms : List (String Global)) (t : List ℕ) (ks next : List KeptNames) (at : ℕ) (b : Bool) → HasPushed at p ks next b → AreKept ms t ks
+    → AreKept ms t next × (pairs_of (all_named ms t next) ≡ pairs_of (all_named ms t ks))
+stays_at p ms t ks next at b (x, y, got, put, mo, st, en, fi, it) h =
+    subst (λ (js : List KeptNames). AreKept ms t js × (pairs_of (all_named ms t js) ≡ pairs_of (all_named ms t ks))) (sym put)
+    (kept_set ms t x y mo st en ks at got h, pairs_stay ms t x y mo st en ks at got)

@@ -1,6 +1,6 @@
 //! Imports, by their names.
 
-ghost use Rattle.std.specs.Prelude.{◌≡◌, ◌++◌, ◌∷◌, ◌<◌, [], length, vec_len, vec_capacity, IfErr, IfSome, OnErr, OnOk, option_map, slice_get};
+ghost use Rattle.std.specs.Prelude.{◌≡◌, ◌++◌, ◌∷◌, ◌-◌, ◌<◌, ◌^◌, [], length, vec_len, vec_capacity, IfSome, option_map, slice_get, IfErr, OnErr, OnOk};
 ghost use Rattle.wasm_types.specs.decoding.declared.error.ErrorKind.TheVariants.{OutOfMemory};
 ghost use Rattle.wasm_module_validator_exports.specs.names.Imports.{AreKept, HasAdded, HasKept, HasKeptNames, HasPushed, Holds, IsNamed, all_named, module_at, name_at, named_of, pairs_of, with_import};
 
@@ -204,7 +204,8 @@ fn make_room(
 impl<'a> NamedImports<'a> {
     /// Where an import by these names stands, counted from 0.
     pub fn place(&self, at: usize) -> Option<Place>
-        ensures { result ≡ slice_get (named_of self.now).places at }
+        ensures told { result ≡ slice_get (named_of self.now).places at }
+        ensures within { IfSome result (λ _. at < 2 ^ 64 - 1) }
     {
         if at == 0 {
             return Some(self.first);
@@ -237,7 +238,8 @@ impl Imports {
 
     /// A pair of names, in the order in which they came first, with what is imported by it. It takes no memory.
     pub fn get(&self, at: usize) -> Option<NamedImports<'_>>
-        ensures { option_map named_of result ≡ slice_get self.now at }
+        ensures told { option_map named_of result ≡ slice_get self.now at }
+        ensures within { IfSome result (λ _. at < 2 ^ 64 - 1) }
     {
         let kept = self.pairs.as_slice().get(at)?;
         Some(NamedImports {

@@ -1,4 +1,4 @@
-use Rattle.std.proofs.Common.{rules, true, false}
+use Rattle.std.proofs.Common.{rules, true}
 use Rattle.wasm_module_validator_exports.proofs.Finding.{leads_to, not_free, not_led}
 use Rattle.wasm_module_validator_exports.proofs.Keeping.{kept_at, read}
 use Rattle.wasm_module_validator_exports.proofs.names.pairs.meet.Goals as goal

@@ -7,4 +7,4 @@ pub loop-named-preserved : goal.loop-named-preserved
 loop-named-preserved c =
     let left = c.loop-named.self-inside in
     let named = c.in-Some.named in
-    c.loop-named.invariant ∙ pair_past left.imports.now left.past left.given (named_of named) (sym c.in-Some.ensures) (sym c.in_default-place.ensures)
+    c.loop-named.invariant ∙ pair_past left.imports.now left.past left.given (named_of named) (sym c.in-Some.ensures.told) (sym c.in_default-place.ensures.told)
