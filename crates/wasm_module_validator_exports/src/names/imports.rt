@@ -145,7 +145,8 @@ fn keep_names(
     name: &str,
     place: Place,
 ) -> Option<KeptNames>
-    ensures { HasKeptNames «module».now name.now place modules.old.items modules.new.items names.old.items names.new.items result }
+    ensures { HasKeptNames «module».now name.now place modules.old.items modules.new.items names.old.items
+        names.new.items result }
 {
     let Some(module) = keep_module(alloc, modules, module) else {
         return None;

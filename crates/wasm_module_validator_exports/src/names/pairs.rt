@@ -43,7 +43,8 @@ fn number(module: &str, name: &str) -> u64
 // Whether these are the names that are kept.
 fn has_names(modules: &[String], names: &[u8], kept: &KeptNames, module: &str, name: &str) -> bool
     requires { IsNamed names.now kept.now }
-    ensures { result ≡ is_pair «module».now name.now (module_at modules.now kept.now.«module», name_at names.now kept.now) }
+    ensures { result ≡ is_pair «module».now name.now
+        (module_at modules.now kept.now.«module», name_at names.now kept.now) }
 {
     module == module_of(modules, kept) && name == name_of(names, kept)
 }
@@ -58,7 +59,8 @@ fn meet(
     name: &str,
 ) -> Met
     requires { AreKept modules.now names.now pairs.now }
-    ensures { HasMet slots.now (pairs_of (all_named modules.now names.now pairs.now)) «module».now name.now result }
+    ensures { HasMet slots.now (pairs_of (all_named modules.now names.now pairs.now)) «module».now name.now
+        result }
 {
     let at = slot(number(module, name), slots.len());
     let Some(index) = slots.get(at) else {
@@ -112,7 +114,8 @@ pub(crate) fn settle(
 ) -> Sought
     requires kept { AreKept modules.now names.now pairs.now }
     requires holds { Holds slots.old.items others.old (pairs_of (all_named modules.now names.now pairs.now)) }
-    ensures { HasSettled «module».now name.now (pairs_of (all_named modules.now names.now pairs.now)) slots.new.items others.new result }
+    ensures { HasSettled «module».now name.now (pairs_of (all_named modules.now names.now pairs.now))
+        slots.new.items others.new result }
 {
     match meet(slots.as_slice(), modules, names, pairs, module, name) {
         Met::Free(at, index) => {
