@@ -4,7 +4,7 @@ use Rattle.wasm_types.specs.trees.Trees.{TypeTree, opened}
 use Rattle.wasm_types.specs.trees.Below.{expanded}
 use Rattle.wasm_operator_validator_state.specs.resources.Meaning.{type_in}
 use Rattle.wasm_operator_validator_rules.specs.arity.Worked.{splitting, pair}
-use Rattle.wasm_operator_validator_tests.specs.Answers.{CountsEnd, NamesAnswered, NamesMean, FunctionTypes, KnowsModule, ContinuationsAnswered, OthersAnswered}
+use Rattle.wasm_operator_validator_tests.specs.Answers.{CountsEnd, NamesAnswered, NamesMean, FunctionTypes, KnowsModule, OperatorsAnswered}
 
 pub counts_end : CountsEnd
 counts_end = record { few = refl; most = refl; one_more = refl; many_taken = refl; many_given = refl; unknown = refl }
@@ -78,26 +78,15 @@ function_types = record {
 pub knows_module : KnowsModule
 knows_module = refl
 
-pub continuations_answered : ContinuationsAnswered
+pub operators_answered : OperatorsAnswered
 unfolding opened
-continuations_answered = record {
-  made = refl;
-  bound = refl;
-  bound_to_fewer = refl;
-  bound_function = refl;
-  suspended = refl;
-  suspended_unknown = refl;
+operators_answered = record {
+  added = refl;
+  unknown_function = refl;
+  vector = λ o. refl;
+  vector_number = λ o. refl;
   resumed = refl;
-  resumed_other = refl;
   resumed_struct = refl;
   resumed_unknown = refl;
-  thrown = refl;
-  thrown_unknown = refl;
-  thrown_by_reference = refl;
-  switched = refl;
-  switched_to_no_continuation = refl;
+  resumed_nameless = refl;
 }
-
-pub others_answered : OthersAnswered
-unfolding opened
-others_answered = record { added = refl; vector = λ o. refl; vector_number = λ o. refl; unknown = refl }

@@ -1,10 +1,10 @@
 -- What is answered of numbers of operands: they end at 32 bits; a type by its id, or by any index, or none; and for each operator what the
 -- table has.
-use Rattle.std.specs.Prelude.{◌≡◌, ℕ, Bool, true, false, [], ◌∷◌, ◌++◌, Option, Some, None}
+use Rattle.std.specs.Prelude.{◌≡◌, ℕ, Bool, true, false, [], ◌∷◌, Some, None}
 use Rattle.wasm_types.specs.trees.declared.index.UnpackedIndex.{UnpackedIndex}
 use Rattle.wasm_types.specs.trees.declared.index.UnpackedIndex.TheVariants.{Module, RecGroup, Id}
 use Rattle.wasm_types.specs.trees.Types.{i32, i64, number, ref, abstract, concrete, exact, func, any, none, function, continuation}
-use Rattle.wasm_types.specs.trees.Trees.{TypeTree}
+use Rattle.wasm_types.specs.trees.ValidGroup.{type_at}
 use Rattle.wasm_types.specs.trees.worked.Types.{alone, declared_entry}
 use Rattle.wasm_types.specs.values.declared.heap.HeapType.TheVariants as heap
 use Rattle.wasm_types.specs.values.declared.heap.AbstractHeapType.TheVariants as abstract_heap
@@ -12,12 +12,11 @@ use Rattle.wasm_types.specs.values.declared.value.ValType.TheVariants as value_t
 use Rattle.wasm_operator_validator_state.specs.resources.Meaning.{Meaning, IsKnownIndex, named_type, heap_in, type_in, reference_in, function_in, global_in, table_in, top_heap}
 use Rattle.wasm_operator_validator_state.specs.resources.Answers.{IsTypeOf}
 use Rattle.wasm_operators_enums.specs.Op as op
-use Rattle.wasm_operators_enums.specs.Op.{ContinuationTree}
 use Rattle.wasm_operators_enums.specs.declared.control.ControlOperator.TheVariants as control
 use Rattle.wasm_operators_enums.specs.declared.numeric.NumericOperator.TheVariants as numeric
 use Rattle.wasm_operators_immediates.specs.declared.block.BlockType.TheVariants as block
 use Rattle.wasm_operators_immediates.specs.declared.frames.FrameKind.TheVariants as frames
-use Rattle.wasm_operator_validator_rules.specs.arity.Arity.{Counts, in_u32}
+use Rattle.wasm_operator_validator_rules.specs.arity.Arity.{in_u32}
 use Rattle.wasm_operator_validator_rules.specs.arity.Worked.{small_module, splitting, pair, within}
 use Rattle.wasm_operator_validator_constants.specs.arity.Knowing.{ended, type_by_id, type_named, type_of_heap, type_referred, function_by_id, function_named, known_by, answer_for}
 
@@ -101,38 +100,18 @@ pub record FunctionTypes : Type 0 where
 abbrev pub KnowsModule : Type 0
 KnowsModule = known_by listed ((block.FuncType 0, frames.Loop) ∷ (block.Val value_type.I32, frames.Block) ∷ []) ≡ within
 
--- a function that takes a number and a continuation of `splitting`, and a continuation of it
-abbrev pub switching : TypeTree
-switching = alone (declared_entry None false (function (number i64 ∷ ref true (concrete (alone (declared_entry None false (continuation splitting)))) ∷ []) (number i32 ∷ [])))
+-- a module with a continuation that names a type past the end
+abbrev pub nameless : Meaning
+nameless = record { «module» = record small_module { types = alone (declared_entry None false (continuation (type_at [] 5))) ∷ [] }; ids = [] }
 
--- the module of `Worked` with that continuation as its fifth type
-abbrev pub switchable : Meaning
-switchable = record { «module» = record small_module { types = small_module.types ++ alone (declared_entry None false (continuation switching)) ∷ [] }; ids = [] }
-
-abbrev pub answered : ContinuationTree → Option Counts
-answered o = answer_for switchable [] (op.Continuation o)
-
--- the answer for operators on continuations, and none if an index names no continuation
-pub record ContinuationsAnswered : Type 0 where
-  pub made : answered (op.ContNew 3) ≡ Some (1, 1)
-  pub bound : answered (op.ContBind 4 3) ≡ Some (2, 1)
-  pub bound_to_fewer : answered (op.ContBind 3 4) ≡ Some (1, 1)
-  pub bound_function : answered (op.ContBind 0 3) ≡ None
-  pub suspended : answered (op.Suspend 0) ≡ Some (1, 2)
-  pub suspended_unknown : answered (op.Suspend 1) ≡ None
-  pub resumed : answered (op.Resume 3 []) ≡ Some (2, 2)
-  pub resumed_other : answered (op.Resume 4 []) ≡ Some (3, 1)
-  pub resumed_struct : answered (op.Resume 1 []) ≡ None
-  pub resumed_unknown : answered (op.Resume 9 []) ≡ None
-  pub thrown : answered (op.ResumeThrow 4 0 []) ≡ Some (2, 1)
-  pub thrown_unknown : answered (op.ResumeThrow 4 1 []) ≡ None
-  pub thrown_by_reference : answered (op.ResumeThrowRef 3 []) ≡ Some (2, 2)
-  pub switched : answered (op.Switch 4 0) ≡ Some (2, 1)
-  pub switched_to_no_continuation : answered (op.Switch 3 0) ≡ None
-
--- of vectors, and of what the module does not know, there is none
-pub record OthersAnswered : Type 0 where
+-- The answer for an operator is what the table has: none of a vector, or if the module does not know what the operator names. A type past the
+-- end is a function from nothing to nothing.
+pub record OperatorsAnswered : Type 0 where
   pub added : answer_for listed [] (op.Numeric numeric.I32Add) ≡ Some (2, 1)
+  pub unknown_function : answer_for listed [] (op.Control (control.Call 1)) ≡ None
   pub vector : (o : _) → answer_for listed [] (op.Simd o) ≡ None
   pub vector_number : (o : _) → answer_for listed [] (op.SimdNumeric o) ≡ None
-  pub unknown : answer_for listed [] (op.Control (control.Call 1)) ≡ None
+  pub resumed : answer_for listed [] (op.Continuation (op.Resume 3 [])) ≡ Some (2, 2)
+  pub resumed_struct : answer_for listed [] (op.Continuation (op.Resume 1 [])) ≡ None
+  pub resumed_unknown : answer_for listed [] (op.Continuation (op.Resume 9 [])) ≡ None
+  pub resumed_nameless : answer_for nameless [] (op.Continuation (op.Resume 0 [])) ≡ Some (1, 0)

@@ -8,7 +8,7 @@ ghost use Rattle.wasm_operators_immediates.specs.declared.memory.Ordering.{Order
 ghost use Rattle.wasm_operator_validator_state.specs.resources.Meaning.{Meaning};
 ghost use Rattle.wasm_operator_validator_state.specs.declared.attempts.log.RollbackLogAllocations.{RollbackLogAllocations};
 ghost use Rattle.wasm_operator_validator_tests.specs.Counts.{ReferencesCounted, AggregatesCounted, DescriptorsCounted, ExceptionsCounted, SharedCounted, ContinuationsCounted};
-ghost use Rattle.wasm_operator_validator_tests.specs.Answers.{CountsEnd, NamesAnswered, NamesMean, FunctionTypes, KnowsModule, ContinuationsAnswered, OthersAnswered};
+ghost use Rattle.wasm_operator_validator_tests.specs.Answers.{CountsEnd, NamesAnswered, NamesMean, FunctionTypes, KnowsModule, OperatorsAnswered};
 ghost use Rattle.wasm_operator_validator_tests.specs.States.{RefusalsTold, AnswersDo, KindsOfRefusals, NamesOfTypes, UsesRows, ChecksRows, VisitsRows};
 ghost use Rattle.wasm_operator_validator_tests.specs.Attempts.{NotesRows, AttemptsRows};
 ghost use Rattle.wasm_operator_validator_tests.specs.Beginning.{BeginningRows};
@@ -33,8 +33,7 @@ pub const fn answers_are_worked()
     ensures meanings { NamesMean }
     ensures types { FunctionTypes }
     ensures known { KnowsModule }
-    ensures continuations { ContinuationsAnswered }
-    ensures others { OthersAnswered }
+    ensures operators { OperatorsAnswered }
 {}
 
 /// What refusals are, what a function may use, and what the check and the visit of an operator promise.

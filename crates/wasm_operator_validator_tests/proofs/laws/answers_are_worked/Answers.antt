@@ -1,4 +1,4 @@
-use Rattle.wasm_operator_validator_tests.specs.AnswerLaws.{counts_end, names_answered, names_mean, function_types, knows_module, continuations_answered, others_answered}
+use Rattle.wasm_operator_validator_tests.specs.AnswerLaws.{counts_end, names_answered, names_mean, function_types, knows_module, operators_answered}
 use Rattle.wasm_operator_validator_tests.proofs.laws.answers_are_worked.Goals as goal
 
 pub returns-clause-counts : goal.returns-clause-counts
@@ -16,8 +16,5 @@ returns-clause-types c = function_types
 pub returns-clause-known : goal.returns-clause-known
 returns-clause-known c = knows_module
 
-pub returns-clause-continuations : goal.returns-clause-continuations
-returns-clause-continuations c = continuations_answered
-
-pub returns-clause-others : goal.returns-clause-others
-returns-clause-others c = others_answered
+pub returns-clause-operators : goal.returns-clause-operators
+returns-clause-operators c = operators_answered
