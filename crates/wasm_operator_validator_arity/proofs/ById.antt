@@ -81,12 +81,14 @@ map_twice f g None = refl
 map_twice f g (Some x) = refl
 
 -- a function that was taken from what was found
-pub function_taken : {A : Type 0} (now : A → FuncType) (r : Option A) (m : Meaning) (o : Option TypeTree) (x : SubType) → option_map now r ≡ func_in x.composite_type.inner
-    → Some (entry_in m x) ≡ option_map opened o → option_map (λ (f : A). function_in m (now f)) r ≡ option_and_then (λ t. function_alone (expanded t)) o
+pub function_taken : {A : Type 0} (now : A → FuncType) (r : Option A) (m : Meaning) (o : Option TypeTree) (x : SubType)
+    → option_map now r ≡ func_in x.composite_type.inner → Some (entry_in m x) ≡ option_map opened o
+    → option_map (λ (f : A). function_in m (now f)) r ≡ option_and_then (λ t. function_alone (expanded t)) o
 function_taken now r m o x e s = sym (map_twice now (function_in m) r) ∙ ap (option_map (function_in m)) e ∙ function_found m o x s
 
 -- the same of a function that a continuation goes on with
-pub function_gone_to : {A : Type 0} (now : A → FuncType) (r : Option A) (m : Meaning) (k : CompositeInnerType) (i : UnpackedIndex) (x : SubType) → Some i ≡ index_resumed k
+pub function_gone_to : {A : Type 0} (now : A → FuncType) (r : Option A) (m : Meaning) (k : CompositeInnerType) (i : UnpackedIndex) (x : SubType)
+    → Some i ≡ index_resumed k
     → option_map now r ≡ func_in x.composite_type.inner → Some (entry_in m x) ≡ option_map opened (type_named m i)
     → option_map (λ (f : A). function_in m (now f)) r ≡ function_resumed m k
 function_gone_to now r m k i x is e s = function_taken now r m (type_named m i) x e s ∙ ap (option_and_then (function_named m)) is

@@ -40,11 +40,13 @@ counts_are m x r e = ap type_counts (resumed_is m x.composite_type.inner ∙ ap 
 pub nothing_resumed : (m : Meaning) (x : SubType) → None ≡ index_resumed x.composite_type.inner → None ≡ type_counts (resumed (entry_in m x).inner)
 nothing_resumed m x e = sym (counts_are m x None e)
 
-pub unknown_counted : (m : Meaning) (x : SubType) (i : UnpackedIndex) → Some i ≡ index_resumed x.composite_type.inner → None ≡ option_map opened (type_named m i)
+pub unknown_counted : (m : Meaning) (x : SubType) (i : UnpackedIndex) → Some i ≡ index_resumed x.composite_type.inner
+    → None ≡ option_map opened (type_named m i)
     → Some (0, 0) ≡ type_counts (resumed (entry_in m x).inner)
 unknown_counted m x i e f = sym (counts_are m x (Some i) e ∙ ap function_counts (unnamed m i (nothing_behind (type_named m i) f)))
 
-pub resumed_counted : (m : Meaning) (x y : SubType) (i : UnpackedIndex) → Some i ≡ index_resumed x.composite_type.inner → Some (entry_in m y) ≡ option_map opened (type_named m i)
+pub resumed_counted : (m : Meaning) (x y : SubType) (i : UnpackedIndex) → Some i ≡ index_resumed x.composite_type.inner
+    → Some (entry_in m y) ≡ option_map opened (type_named m i)
     → declared_counts y.composite_type.inner ≡ type_counts (resumed (entry_in m x).inner)
 resumed_counted m x y i e f =
     let (t, is, same) = type_behind (entry_in m y) (type_named m i) f in
@@ -55,8 +57,10 @@ resumed_counted m x y i e f =
 pub no_index : (m : Meaning) (k : CompositeInnerType) → None ≡ index_resumed k → None ≡ function_resumed m k
 no_index m k e = ap (option_and_then (function_named m)) e
 
-pub no_function : (m : Meaning) (k : CompositeInnerType) (i : UnpackedIndex) → Some i ≡ index_resumed k → None ≡ option_map opened (type_named m i) → None ≡ function_resumed m k
-no_function m k i e f = sym (ap (option_and_then (λ t. function_alone (expanded t))) (nothing_behind (type_named m i) f)) ∙ ap (option_and_then (function_named m)) e
+pub no_function : (m : Meaning) (k : CompositeInnerType) (i : UnpackedIndex) → Some i ≡ index_resumed k → None ≡ option_map opened (type_named m i)
+    → None ≡ function_resumed m k
+no_function m k i e f =
+    sym (ap (option_and_then (λ t. function_alone (expanded t))) (nothing_behind (type_named m i) f)) ∙ ap (option_and_then (function_named m)) e
 
 -- ---- continuations by an index of the module
 
@@ -75,7 +79,8 @@ by_index : (m : Meaning) (i : UnpackedIndex) (o : Option TypeTree) → type_name
 by_index m i None e = ap (λ (y : InnerOf TypeTree). type_counts (resumed y)) (unnamed m i e)
 by_index m i (Some t) e = ap (λ (u : TypeTree). continuation_counts (Some u)) (named m i t e)
 
-by_heap : (m : Meaning) (n : Bool) (h : HeapType) → continuation_counts (referred (value_map (named_type m) (value_of (Ref (record { nullable = n; heap = h }))))) ≡ continuation_counts (heap_named m h)
+by_heap : (m : Meaning) (n : Bool) (h : HeapType)
+    → continuation_counts (referred (value_map (named_type m) (value_of (Ref (record { nullable = n; heap = h }))))) ≡ continuation_counts (heap_named m h)
 by_heap m n (heap.Abstract s a) = refl
 by_heap m n (heap.Concrete i) = by_index m i (type_named m i) refl
 by_heap m n (heap.Exact i) = by_index m i (type_named m i) refl
@@ -101,10 +106,11 @@ some_long [] v e = cc
 some_long (t ∷ ts) v e = omega arith
 
 -- how many parameters the continuation takes to which the last refers
-abbrev pub taken_by_last : Meaning → List ValType → Option ℕ
+abbrev taken_by_last : Meaning → List ValType → Option ℕ
 taken_by_last m ts = option_map (λ d. d.0) (continuation_counts (last_referred (map (value_map (named_type m)) (map value_of ts))))
 
-taken_is : (m : Meaning) (ts : List ValType) (v : ValType) → slice_get ts (length ts - 1) ≡ Some v → taken_by_last m ts ≡ option_map (λ d. d.0) (continuation_counts (type_referred m v))
+taken_is : (m : Meaning) (ts : List ValType) (v : ValType) → slice_get ts (length ts - 1) ≡ Some v
+    → taken_by_last m ts ≡ option_map (λ d. d.0) (continuation_counts (type_referred m v))
 taken_is m ts v l =
     let last = last_seen m ts (length ts - 1) v (some_long ts v l) l in
     ap (option_map (λ (d : Counts). d.0)) (ap continuation_counts last ∙ referred_counted m v)
@@ -120,9 +126,11 @@ no_last m (t ∷ ts) e =
 
 pub last_unknown : (m : Meaning) (ts : List ValType) (v : ValType) → slice_get ts (length ts - 1) ≡ Some v → None ≡ option_map opened (type_referred m v)
     → None ≡ option_map (λ d. d.0) (continuation_counts (last_referred (map (value_map (named_type m)) (map value_of ts))))
-last_unknown m ts v l e = sym (taken_is m ts v l ∙ ap (λ (o : Option TypeTree). option_map (λ (d : Counts). d.0) (continuation_counts o)) (nothing_behind (type_referred m v) e))
+last_unknown m ts v l e =
+    sym (taken_is m ts v l ∙ ap (λ (o : Option TypeTree). option_map (λ (d : Counts). d.0) (continuation_counts o)) (nothing_behind (type_referred m v) e))
 
-pub last_counted : (m : Meaning) (ts : List ValType) (v : ValType) (x : SubType) → slice_get ts (length ts - 1) ≡ Some v → Some (entry_in m x) ≡ option_map opened (type_referred m v)
+pub last_counted : (m : Meaning) (ts : List ValType) (v : ValType) (x : SubType) → slice_get ts (length ts - 1) ≡ Some v
+    → Some (entry_in m x) ≡ option_map opened (type_referred m v)
     → option_map (λ d. d.0) (type_counts (resumed (entry_in m x).inner))
     ≡ option_map (λ d. d.0) (continuation_counts (last_referred (map (value_map (named_type m)) (map value_of ts))))
 last_counted m ts v x l e = ap (option_map (λ (d : Counts). d.0)) (continuation_counted m x (type_referred m v) e) ∙ sym (taken_is m ts v l)

@@ -36,7 +36,8 @@ is_function (array_of x) f e = cc
 is_function (struct_of xs) f e = cc
 is_function (continuation t) f e = cc
 
-found_function : (o : Option TypeTree) (f : InnerOf TypeTree) → Some f ≡ option_and_then (λ t. function_alone (expanded t)) o → (t : TypeTree) × (o ≡ Some t) × (expanded t ≡ f)
+found_function : (o : Option TypeTree) (f : InnerOf TypeTree) → Some f ≡ option_and_then (λ t. function_alone (expanded t)) o
+    → (t : TypeTree) × (o ≡ Some t) × (expanded t ≡ f)
 found_function None f e = cc
 found_function (Some t) f e = (t, refl, is_function (expanded t) f (sym e))
 

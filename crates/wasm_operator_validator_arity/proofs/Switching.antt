@@ -26,7 +26,8 @@ pub switch_missing : (o : Option TypeTree) → None ≡ option_map opened o
     → None ≡ ended (option_and_then (λ g. switch_counts (expanded g)) (option_and_then (λ u. resumed (expanded u)) o))
 switch_missing o e = sym (ap (λ (y : Option TypeTree). ended (switch_at y)) (nothing_behind o e))
 
-switch_seen : (m : Meaning) (x : SubType) (o : Option TypeTree) → Some (entry_in m x) ≡ option_map opened o → switch_at o ≡ switch_to (option_map (named_type m) (index_resumed x.composite_type.inner))
+switch_seen : (m : Meaning) (x : SubType) (o : Option TypeTree) → Some (entry_in m x) ≡ option_map opened o
+    → switch_at o ≡ switch_to (option_map (named_type m) (index_resumed x.composite_type.inner))
 switch_seen m x o e =
     let (t, is, same) = type_behind (entry_in m x) o e in
     ap switch_at is ∙ ap (λ (y : EntryOf TypeTree). switch_to (resumed y.inner)) (sym same) ∙ ap switch_to (resumed_is m x.composite_type.inner)
@@ -39,7 +40,8 @@ no_switch (array_of x) e = refl
 no_switch (struct_of xs) e = refl
 no_switch (continuation t) e = refl
 
-by_name : (m : Meaning) (i : UnpackedIndex) (o : Option TypeTree) → type_named m i ≡ o → None ≡ option_and_then (λ t. function_alone (expanded t)) o → switch_counts (expanded (named_type m i)) ≡ None
+by_name : (m : Meaning) (i : UnpackedIndex) (o : Option TypeTree) → type_named m i ≡ o → None ≡ option_and_then (λ t. function_alone (expanded t)) o
+    → switch_counts (expanded (named_type m i)) ≡ None
 by_name m i None e f = ap switch_counts (unnamed m i e)
 by_name m i (Some t) e f = ap (λ (u : TypeTree). switch_counts (expanded u)) (named m i t e) ∙ no_switch (expanded t) f
 
@@ -47,18 +49,20 @@ goes_nowhere : (m : Meaning) (r : Option UnpackedIndex) → None ≡ option_and_
 goes_nowhere m None f = refl
 goes_nowhere m (Some i) f = by_name m i (type_named m i) refl f
 
-pub switch_to_none : (m : Meaning) (x : SubType) (o : Option TypeTree) → Some (entry_in m x) ≡ option_map opened o → None ≡ function_resumed m x.composite_type.inner
+pub switch_to_none : (m : Meaning) (x : SubType) (o : Option TypeTree) → Some (entry_in m x) ≡ option_map opened o
+    → None ≡ function_resumed m x.composite_type.inner
     → None ≡ ended (option_and_then (λ g. switch_counts (expanded g)) (option_and_then (λ u. resumed (expanded u)) o))
 switch_to_none m x o e f = sym (ap ended (switch_seen m x o e ∙ goes_nowhere m (index_resumed x.composite_type.inner) f))
 
 -- ---- to a function
 
-goes_to : (m : Meaning) (r : Option UnpackedIndex) (f : InnerOf TypeTree) → Some f ≡ option_and_then (function_named m) r → switch_to (option_map (named_type m) r) ≡ switch_counts f
+goes_to : (m : Meaning) (r : Option UnpackedIndex) (f : InnerOf TypeTree) → Some f ≡ option_and_then (function_named m) r
+    → switch_to (option_map (named_type m) r) ≡ switch_counts f
 goes_to m None f e = cc
 goes_to m (Some i) f e = ap switch_counts (function_seen m i f e)
 
-switch_is : (m : Meaning) (x : SubType) (o : Option TypeTree) (f : FuncType) → Some (entry_in m x) ≡ option_map opened o → Some (function_in m f) ≡ function_resumed m x.composite_type.inner
-    → switch_at o ≡ switch_counts (function_in m f)
+switch_is : (m : Meaning) (x : SubType) (o : Option TypeTree) (f : FuncType) → Some (entry_in m x) ≡ option_map opened o
+    → Some (function_in m f) ≡ function_resumed m x.composite_type.inner → switch_at o ≡ switch_counts (function_in m f)
 switch_is m x o f e s = switch_seen m x o e ∙ goes_to m (index_resumed x.composite_type.inner) (function_in m f) s
 
 ungiven : (n : ℕ) (o : Option Counts) → None ≡ option_map (λ d. d.0) o → option_map (λ d. (n, d.0)) o ≡ None
