@@ -129,8 +129,9 @@ pub last_unknown : (m : Meaning) (ts : List ValType) (v : ValType) → slice_get
 last_unknown m ts v l e =
     sym (taken_is m ts v l ∙ ap (λ (o : Option TypeTree). option_map (λ (d : Counts). d.0) (continuation_counts o)) (nothing_behind (type_referred m v) e))
 
-pub last_counted : (m : Meaning) (ts : List ValType) (v : ValType) (x : SubType) → slice_get ts (length ts - 1) ≡ Some v
-    → Some (entry_in m x) ≡ option_map opened (type_referred m v)
-    → option_map (λ d. d.0) (type_counts (resumed (entry_in m x).inner))
-    ≡ option_map (λ d. d.0) (continuation_counts (last_referred (map (value_map (named_type m)) (map value_of ts))))
-last_counted m ts v x l e = ap (option_map (λ (d : Counts). d.0)) (continuation_counted m x (type_referred m v) e) ∙ sym (taken_is m ts v l)
+pub last_counted : (m : Meaning) (ts : List ValType) (v : ValType) (x : SubType) (c : Option Counts) (taken : Option ℕ)
+    → slice_get ts (length ts - 1) ≡ Some v → Some (entry_in m x) ≡ option_map opened (type_referred m v)
+    → c ≡ type_counts (resumed (entry_in m x).inner) → taken ≡ option_map (λ d. d.0) c
+    → taken ≡ option_map (λ d. d.0) (continuation_counts (last_referred (map (value_map (named_type m)) (map value_of ts))))
+last_counted m ts v x c taken l e f g =
+    g ∙ ap (option_map (λ (d : Counts). d.0)) (f ∙ continuation_counted m x (type_referred m v) e) ∙ sym (taken_is m ts v l)

@@ -1,10 +1,9 @@
 -- What a switch to a continuation takes and gives.
-use Rattle.std.proofs.Common.{◌≡◌, ◌∙◌, ℕ, List, [], map, length, Option, Some, None, option_map, option_and_then, refl, sym, ap}
+use Rattle.std.proofs.Common.{◌≡◌, ◌∙◌, ℕ, map, length, Option, Some, None, option_map, option_and_then, refl, sym, ap}
 use Rattle.wasm_types.specs.trees.declared.index.UnpackedIndex.{UnpackedIndex}
 use Rattle.wasm_types.specs.trees.Types.{EntryOf, InnerOf, function, array_of, struct_of, continuation, value_map}
 use Rattle.wasm_types.specs.trees.Trees.{TypeTree, opened}
 use Rattle.wasm_types.specs.trees.Below.{expanded}
-use Rattle.wasm_types.specs.values.declared.value.ValType.{ValType}
 use Rattle.wasm_types.specs.values.Values.{value_of}
 use Rattle.wasm_types.specs.fields.declared.func.FuncType.{FuncType}
 use Rattle.wasm_types.specs.declared.sub_type.SubType.{SubType}

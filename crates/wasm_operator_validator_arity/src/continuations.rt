@@ -11,14 +11,16 @@ ghost use Rattle.wasm_types.specs.values.Values.{value_of};
 ghost use Rattle.wasm_operator_validator_resources.specs.Meaning.{entry_in, function_in, named_type};
 ghost use Rattle.wasm_operators_enums.specs.Op.{continuation_of};
 ghost use Rattle.wasm_operator_validator_rules.specs.arity.Arity.{in_u32, type_counts, continuation_counts, continuation_operator_counts, switch_counts, last_referred, resumed};
-ghost use Rattle.wasm_operator_validator_arity.specs.Knowing.{ended, known_by, function_resumed, index_resumed, type_referred};
+ghost use Rattle.wasm_operator_validator_arity.specs.Knowing.{ended, known_by, function_resumed, heap_named, index_resumed, type_referred};
 
 use crate::ModuleArity;
 use crate::answering::function_of;
 use crate::fixed::{calling, in_u32, params_of, sum_in_u32};
 use crate::looking_up::function_counts;
 use wasm_operators_visit::ContinuationOperator;
-use wasm_types::{CompositeInnerType, FuncType, HeapType, SubType, UnpackedIndex, ValType};
+use wasm_types::{
+    CompositeInnerType, FuncType, HeapType, RefType, SubType, UnpackedIndex, ValType,
+};
 
 /// The index of the type that a continuation goes on with.
 fn index_resumed(ty: &SubType) -> Option<UnpackedIndex>
@@ -72,18 +74,26 @@ fn continuation_counts<M: ModuleArity>(known: &M, type_index: u32) -> Option<(us
     counts_resumed(known, ty)
 }
 
+/// The type that a reference refers to, if that is a defined type.
+fn heap_named<'a, M: ModuleArity>(known: &'a M, ty: &RefType) -> Option<&'a SubType>
+    ensures { option_map (λ t. entry_in (M.meaning known.now) t.now) result ≡ option_map opened
+        (heap_named (M.meaning known.now) ty.now.heap) }
+{
+    match ty.heap_type() {
+        HeapType::Abstract { .. } => None,
+        HeapType::Concrete(index) => known.sub_type_named(index),
+        HeapType::Exact(index) => known.sub_type_named(index),
+    }
+}
+
 /// The type that a value refers to, if it is a reference to a defined type.
 fn type_referred<'a, M: ModuleArity>(known: &'a M, ty: &ValType) -> Option<&'a SubType>
     ensures { option_map (λ t. entry_in (M.meaning known.now) t.now) result ≡ option_map opened
         (type_referred (M.meaning known.now) ty.now) }
 {
-    let Some(reference) = ty.as_reference_type() else {
-        return None;
-    };
-    match reference.heap_type() {
-        HeapType::Abstract { .. } => None,
-        HeapType::Concrete(index) => known.sub_type_named(index),
-        HeapType::Exact(index) => known.sub_type_named(index),
+    match ty {
+        ValType::Ref(reference) => heap_named(known, reference),
+        ValType::I32 | ValType::I64 | ValType::F32 | ValType::F64 | ValType::V128 => None,
     }
 }
 
@@ -157,7 +167,7 @@ fn thrown_by_reference(continuation: Option<(usize, usize)>) -> Option<(u32, u32
 }
 
 /// Operators on continuations.
-#[tactic(auto, using(crate::proofs::Parts::thrown_into_ended))]
+#[tactic(auto, using(crate::proofs::Parts::bound_counted, crate::proofs::Parts::thrown_counted))]
 pub(crate) fn continuation<M: ModuleArity>(
     known: &M,
     op: &ContinuationOperator,
