@@ -98,7 +98,7 @@ fn type_referred<'a, M: ModuleArity>(known: &'a M, ty: &ValType) -> Option<&'a S
 }
 
 /// How many parameters the continuation takes to which the last of these types refers.
-#[tactic(auto, using(crate::proofs::Continuing::last_counted, crate::proofs::Continuing::last_unknown, crate::proofs::Continuing::no_last))]
+#[tactic(auto, using(crate::proofs::Continuing::last_unknown, crate::proofs::Continuing::no_last))]
 fn taken_by_last<M: ModuleArity>(known: &M, types: &[ValType]) -> Option<usize>
     ensures { result ≡ option_map (λ d. d.0) (continuation_counts
         (last_referred (map (value_map (named_type (M.meaning known.now))) (map value_of types.now)))) }
