@@ -113,7 +113,7 @@ fn taken_by_last<M: ModuleArity>(known: &M, types: &[ValType]) -> Option<usize>
 }
 
 /// What a switch to a continuation of the type at an index takes and gives.
-#[tactic(auto, using(crate::proofs::Switching::switch_missing, crate::proofs::Switching::switch_to_none, crate::proofs::Switching::switch_without_last, crate::proofs::Switching::switch_counted))]
+#[tactic(auto, using(crate::proofs::Switching::switch_missing))]
 fn switched<M: ModuleArity>(known: &M, type_index: u32) -> Option<(u32, u32)>
     ensures { result ≡ ended (option_and_then (λ g. switch_counts (expanded g))
         (option_and_then (λ u. resumed (expanded u)) (slice_get (M.meaning known.now).«module».types type_index))) }
