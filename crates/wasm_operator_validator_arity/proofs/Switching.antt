@@ -64,7 +64,7 @@ switch_is : (m : Meaning) (x : SubType) (o : Option TypeTree) (f : FuncType) →
     → Some (function_in m f) ≡ function_resumed m x.composite_type.inner → switch_at o ≡ switch_counts (function_in m f)
 switch_is m x o f e s = switch_seen m x o e ∙ goes_to m (index_resumed x.composite_type.inner) (function_in m f) s
 
-ungiven : (n : ℕ) (o : Option Counts) → None ≡ option_map (λ d. d.0) o → option_map (λ d. (n, d.0)) o ≡ None
+ungiven : (n : ℕ) (o : Option Counts) → None ≡ option_map (λ d. d.0) o → option_map {U = Counts} (λ d. (n, d.0)) o ≡ None
 ungiven n None e = refl
 ungiven n (Some d) e = cc
 
