@@ -5,10 +5,11 @@ ghost use Rattle.wasm_operator_validator_arity.specs.resources.Meaning.{Meaning}
 
 use crate::FuncValidator;
 use wasm_operator_validator_arity::{
-    ModuleArity, func_type_of_cont_type, in_u32, sub_type_of_ref_type, tag_type_arity,
+    ModuleArity, func_type_of_cont_type, in_u32, sub_type_named, sub_type_of_ref_type,
+    tag_type_arity,
 };
 use wasm_operator_validator_stacks::{BlockType, FrameKind, WasmModuleResources};
-use wasm_types::{ContType, FuncType, RefType, SubType};
+use wasm_types::{ContType, FuncType, RefType, SubType, UnpackedIndex};
 
 impl<R: WasmModuleResources> ModuleArity for FuncValidator<R> {
     ghost meaning = { λ v. R.meaning v.resources };
@@ -17,6 +18,10 @@ impl<R: WasmModuleResources> ModuleArity for FuncValidator<R> {
 
     fn sub_type_at(&self, type_index: u32) -> Option<&SubType> {
         self.resources.sub_type_at(type_index)
+    }
+
+    fn sub_type_named(&self, index: UnpackedIndex) -> Option<&SubType> {
+        sub_type_named(&self.resources, index)
     }
 
     fn type_index_of_function(&self, function_index: u32) -> Option<u32> {

@@ -17,7 +17,7 @@ use Rattle.wasm_types.specs.declared.composite.CompositeInnerType.TheVariants.{F
 use Rattle.wasm_types.specs.declared.sub_type.SubType.{SubType}
 use Rattle.wasm_operator_validator_resources.specs.Meaning.{Meaning, IsKnown, type_of_id, named_type, entry_in, function_in}
 use Rattle.wasm_operator_validator_rules.specs.arity.Arity.{in_u32, function_counts, type_counts}
-use Rattle.wasm_operator_validator_arity.specs.Knowing.{ended, type_by_id, function_alone, function_by_id}
+use Rattle.wasm_operator_validator_arity.specs.Knowing.{ended, type_by_id, type_named, function_alone, function_by_id, function_named, function_resumed, index_resumed}
 use Rattle.wasm_operator_validator_arity.proofs.Looking.{type_behind, nothing_behind}
 use Rattle.wasm_operator_validator_arity.proofs.Continuing.{function_counted}
 
@@ -59,7 +59,7 @@ named_otherwise m (index.Module n) e = refl
 named_otherwise m (index.RecGroup n) e = refl
 named_otherwise m (index.Id j) e = cc
 
--- ---- functions by ids
+-- ---- functions that were found
 
 functions_seen : (m : Meaning) (i : CompositeInnerType) → option_map (function_in m) (func_in i) ≡ function_alone (inner_map (named_type m) (inner_of i))
 functions_seen m (Func f) = refl
@@ -67,10 +67,10 @@ functions_seen m (Array a) = refl
 functions_seen m (Struct s) = refl
 functions_seen m (Cont c) = refl
 
-pub function_found : (m : Meaning) (i : UnpackedIndex) (x : SubType) → Some (entry_in m x) ≡ option_map opened (type_by_id m i)
-    → option_map (function_in m) (func_in x.composite_type.inner) ≡ function_by_id m i
-function_found m i x e =
-    let (t, is, same) = type_behind (entry_in m x) (type_by_id m i) e in
+pub function_found : (m : Meaning) (o : Option TypeTree) (x : SubType) → Some (entry_in m x) ≡ option_map opened o
+    → option_map (function_in m) (func_in x.composite_type.inner) ≡ option_and_then (λ t. function_alone (expanded t)) o
+function_found m o x e =
+    let (t, is, same) = type_behind (entry_in m x) o e in
     functions_seen m x.composite_type.inner ∙ ap (λ (y : EntryOf TypeTree). function_alone y.inner) same ∙ sym (ap (option_and_then (λ u. function_alone (expanded u))) is)
 
 pub function_missing : (m : Meaning) (i : UnpackedIndex) → None ≡ option_map opened (type_by_id m i) → None ≡ function_by_id m i
@@ -81,6 +81,14 @@ map_twice f g None = refl
 map_twice f g (Some x) = refl
 
 -- a function that was taken from what was found
-pub function_taken : {A : Type 0} (now : A → FuncType) (r : Option A) (m : Meaning) (i : UnpackedIndex) (x : SubType) → option_map now r ≡ func_in x.composite_type.inner
-    → Some (entry_in m x) ≡ option_map opened (type_by_id m i) → option_map (λ (f : A). function_in m (now f)) r ≡ function_by_id m i
-function_taken now r m i x e s = sym (map_twice now (function_in m) r) ∙ ap (option_map (function_in m)) e ∙ function_found m i x s
+pub function_taken : {A : Type 0} (now : A → FuncType) (r : Option A) (m : Meaning) (o : Option TypeTree) (x : SubType)
+    → option_map now r ≡ func_in x.composite_type.inner → Some (entry_in m x) ≡ option_map opened o
+    → option_map (λ (f : A). function_in m (now f)) r ≡ option_and_then (λ t. function_alone (expanded t)) o
+function_taken now r m o x e s = sym (map_twice now (function_in m) r) ∙ ap (option_map (function_in m)) e ∙ function_found m o x s
+
+-- the same of a function that a continuation goes on with
+pub function_gone_to : {A : Type 0} (now : A → FuncType) (r : Option A) (m : Meaning) (k : CompositeInnerType) (i : UnpackedIndex) (x : SubType)
+    → Some i ≡ index_resumed k
+    → option_map now r ≡ func_in x.composite_type.inner → Some (entry_in m x) ≡ option_map opened (type_named m i)
+    → option_map (λ (f : A). function_in m (now f)) r ≡ function_resumed m k
+function_gone_to now r m k i x is e s = function_taken now r m (type_named m i) x e s ∙ ap (option_and_then (function_named m)) is

@@ -1,7 +1,7 @@
--- Numbers in 32 bits, and answers that may be missing.
-use Rattle.std.proofs.Common.{◌≡◌, ◌+◌, ◌-◌, ℕ, Option, Some, None, option_map, option_and_then, refl, ap, arith}
-use Rattle.wasm_operator_validator_rules.specs.arity.Arity.{Counts, in_u32, calling, leaving, params_alone}
-use Rattle.wasm_operator_validator_arity.specs.Knowing.{ended, Partly}
+-- Numbers in 32 bits, from numbers that were looked up.
+use Rattle.std.proofs.Common.{◌≡◌, ◌∙◌, ◌+◌, ◌-◌, ℕ, Option, Some, None, option_map, option_and_then, refl, ap, subst, arith}
+use Rattle.wasm_operator_validator_rules.specs.arity.Arity.{Counts, in_u32, leaving, params_alone}
+use Rattle.wasm_operator_validator_arity.specs.Knowing.{ended}
 
 -- ---- numbers
 
@@ -23,28 +23,22 @@ caught_ended None r = refl
 caught_ended (Some c) None = refl
 caught_ended (Some c) (Some r) = refl
 
--- ---- answers that may be missing
+thrown_into_ended : (c t : Option Counts) → option_and_then (λ n. option_map (λ d. (in_u32 (d.0 + 1), in_u32 n.1)) (ended t)) c
+    ≡ ended (option_and_then (λ n. option_map (λ d. (d.0 + 1, n.1)) t) c)
+thrown_into_ended None t = refl
+thrown_into_ended (Some c) None = refl
+thrown_into_ended (Some c) (Some d) = rw (one_more d.0) refl
 
-pub partly_itself : {A : Type 0} (o : Option A) → Partly o o
-partly_itself None = tt
-partly_itself (Some x) = refl
+-- ---- continuations
 
-pub calling_partly : (n : ℕ) (a is : Option Counts) → Partly a is → Partly (ended (calling n a)) (ended (calling n is))
-calling_partly n None is p = tt
-calling_partly n (Some c) is p = ap (λ (x : Option Counts). ended (calling n x)) p
+pub thrown_counted : (c tag is t r : Option Counts) → c ≡ is → tag ≡ ended t → r ≡ option_and_then (λ n. option_map (λ d. (in_u32 (d.0 + 1), in_u32 n.1)) tag) c
+    → r ≡ ended (option_and_then (λ n. option_map (λ d. (d.0 + 1, n.1)) t) is)
+thrown_counted c tag is t r p q e =
+    let f = subst (λ (x : Option Counts). r ≡ option_and_then (λ n. option_map (λ d. (in_u32 (d.0 + 1), in_u32 n.1)) tag) x) p e in
+    subst (λ (y : Option Counts). r ≡ option_and_then (λ n. option_map (λ d. (in_u32 (d.0 + 1), in_u32 n.1)) y) is) q f ∙ thrown_into_ended is t
 
-pub bound_partly : (a b is js : Option Counts) → Partly a is → Partly b js
-    → Partly (ended (option_and_then (λ c. option_map (λ d. (c.0 - d.0 + 1, 1)) b) a)) (ended (option_and_then (λ c. option_map (λ d. (c.0 - d.0 + 1, 1)) js) is))
-bound_partly None b is js p q = tt
-bound_partly (Some c) None is js p q = tt
-bound_partly (Some c) (Some d) is js p q = rw (← p, ← q) refl
-
-pub thrown_into_partly : (a is t : Option Counts) → Partly a is
-    → Partly (option_and_then (λ c. option_map (λ d. (in_u32 (d.0 + 1), in_u32 c.1)) (ended t)) a) (ended (option_and_then (λ c. option_map (λ d. (d.0 + 1, c.1)) t) is))
-thrown_into_partly None is t p = tt
-thrown_into_partly (Some c) is None p = tt
-thrown_into_partly (Some c) is (Some d) p = rw (← p, one_more d.0) refl
-
-pub by_reference_partly : (a is : Option Counts) → Partly a is → Partly (ended (option_map (λ c. (2, c.1)) a)) (ended (option_map (λ c. (2, c.1)) is))
-by_reference_partly None is p = tt
-by_reference_partly (Some c) is p = ap (λ (x : Option Counts). ended (option_map (λ n. (2, n.1)) x)) p
+pub bound_counted : (from to is js r : Option Counts) → from ≡ is → to ≡ js → r ≡ ended (option_and_then (λ c. option_map (λ d. (c.0 - d.0 + 1, 1)) to) from)
+    → r ≡ ended (option_and_then (λ c. option_map (λ d. (c.0 - d.0 + 1, 1)) js) is)
+bound_counted from to is js r p q e =
+    let f = subst (λ (x : Option Counts). r ≡ ended (option_and_then (λ c. option_map (λ d. (c.0 - d.0 + 1, 1)) to) x)) p e in
+    subst (λ (y : Option Counts). r ≡ ended (option_and_then (λ c. option_map (λ d. (c.0 - d.0 + 1, 1)) y) is)) q f

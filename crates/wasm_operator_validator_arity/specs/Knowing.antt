@@ -1,5 +1,5 @@
--- What look-ups by ids mean, and what an answer says.
-use Rattle.std.specs.Prelude.{◌≡◌, ℕ, List, length, Option, Some, None, option_map, option_and_then, slice_get, IfSome}
+-- What look-ups of types mean, and what an answer says.
+use Rattle.std.specs.Prelude.{ℕ, List, length, Option, Some, None, option_and_then, slice_get}
 use Rattle.wasm_types.specs.trees.declared.index.UnpackedIndex.{UnpackedIndex}
 use Rattle.wasm_types.specs.trees.declared.index.UnpackedIndex.TheVariants as index
 use Rattle.wasm_types.specs.trees.Types.{InnerOf, function, array_of, struct_of, continuation}
@@ -7,13 +7,14 @@ use Rattle.wasm_types.specs.trees.Trees.{TypeTree}
 use Rattle.wasm_types.specs.trees.Below.{expanded}
 use Rattle.wasm_types.specs.values.declared.heap.HeapType.{HeapType}
 use Rattle.wasm_types.specs.values.declared.heap.HeapType.TheVariants as heap
+use Rattle.wasm_types.specs.values.declared.value.ValType.{ValType}
+use Rattle.wasm_types.specs.values.declared.value.ValType.TheVariants as value_type
 use Rattle.wasm_types.specs.declared.composite.CompositeInnerType.{CompositeInnerType}
 use Rattle.wasm_types.specs.declared.composite.CompositeInnerType.TheVariants.{Func, Array, Struct, Cont}
 use Rattle.wasm_operators_immediates.specs.declared.block.BlockType.{BlockType}
 use Rattle.wasm_operators_immediates.specs.declared.frames.FrameKind.{FrameKind}
-use Rattle.wasm_operators_enums.specs.Op as op
 use Rattle.wasm_operators_enums.specs.Op.{Op}
-use Rattle.wasm_operator_validator_rules.specs.arity.Arity.{Known, Counts, resumed}
+use Rattle.wasm_operator_validator_rules.specs.arity.Arity.{Known, Counts, counts_of}
 pub use Rattle.wasm_operator_validator_arity.specs.fixed.Ended.{ended}
 use Rattle.wasm_operator_validator_resources.specs.Meaning.{Meaning}
 
@@ -31,6 +32,30 @@ type_of_heap m (heap.Abstract s a) = None
 type_of_heap m (heap.Concrete i) = type_by_id m i
 type_of_heap m (heap.Exact i) = type_by_id m i
 
+-- ---- types by any index
+
+-- the type that an index names, if it names one: the id of a known type, or else an index of the module
+abbrev pub type_named : Meaning → UnpackedIndex → Option TypeTree
+type_named m (index.Module n) = slice_get m.«module».types n
+type_named m (index.RecGroup n) = slice_get m.«module».types n
+type_named m (index.Id i) = slice_get m.ids i.0
+
+abbrev pub heap_named : Meaning → HeapType → Option TypeTree
+heap_named m (heap.Abstract s a) = None
+heap_named m (heap.Concrete i) = type_named m i
+heap_named m (heap.Exact i) = type_named m i
+
+-- the type that a value refers to, if it is a reference to a defined type
+abbrev pub type_referred : Meaning → ValType → Option TypeTree
+type_referred m value_type.I32 = None
+type_referred m value_type.I64 = None
+type_referred m value_type.F32 = None
+type_referred m value_type.F64 = None
+type_referred m value_type.V128 = None
+type_referred m (value_type.Ref r) = heap_named m r.heap
+
+-- ---- function types
+
 -- a type that is a function type
 abbrev pub function_alone : InnerOf TypeTree → Option (InnerOf TypeTree)
 function_alone (function ps rs) = Some (function ps rs)
@@ -40,6 +65,9 @@ function_alone (continuation t) = None
 
 abbrev pub function_by_id : Meaning → UnpackedIndex → Option (InnerOf TypeTree)
 function_by_id m i = option_and_then (λ t. function_alone (expanded t)) (type_by_id m i)
+
+abbrev pub function_named : Meaning → UnpackedIndex → Option (InnerOf TypeTree)
+function_named m i = option_and_then (λ t. function_alone (expanded t)) (type_named m i)
 
 -- ---- types as they are declared
 
@@ -59,16 +87,16 @@ declared_size (Cont c) = None
 
 -- ---- continuations
 
--- the function that a continuation of such a type goes on with, where it is known by its id
-abbrev pub continued_by : Meaning → CompositeInnerType → Option (InnerOf TypeTree)
-continued_by m (Func f) = None
-continued_by m (Array a) = None
-continued_by m (Struct s) = None
-continued_by m (Cont c) = function_by_id m c.0
+-- the index of the type that a continuation goes on with
+abbrev pub index_resumed : CompositeInnerType → Option UnpackedIndex
+index_resumed (Func f) = None
+index_resumed (Array a) = None
+index_resumed (Struct s) = None
+index_resumed (Cont c) = Some c.0
 
--- the same of a type
-abbrev pub continued_at : Option TypeTree → Option (InnerOf TypeTree)
-continued_at t = option_map expanded (option_and_then (λ u. resumed (expanded u)) t)
+-- the function that a continuation goes on with, if its index names one
+abbrev pub function_resumed : Meaning → CompositeInnerType → Option (InnerOf TypeTree)
+function_resumed m i = option_and_then (function_named m) (index_resumed i)
 
 -- ---- answers
 
@@ -76,12 +104,6 @@ continued_at t = option_map expanded (option_and_then (λ u. resumed (expanded u
 abbrev pub known_by : Meaning → List (BlockType × FrameKind) → Known
 known_by m fs = record { «module» = m.«module»; frames = fs }
 
--- An answer that may be missing, and is else what is so.
-abbrev pub Partly : {A : Type 0} → Option A → Option A → Type 0
-Partly answer is = IfSome answer (λ c. Some c ≡ is)
-
--- The answer for an operator: what the table has. Of an operator on continuations it may be missing though the table has it, where
--- the module names a continuation's type otherwise than by a known id.
-abbrev pub AnswersFor : Op → Option Counts → Option Counts → Type 0
-AnswersFor (op.Continuation o) answer counts = Partly answer counts
-AnswersFor o answer counts = answer ≡ counts
+-- the answer for an operator: what the table has, in 32 bits
+abbrev pub answer_for : Meaning → List (BlockType × FrameKind) → Op → Option Counts
+answer_for m fs o = ended (counts_of (known_by m fs) o)

@@ -1,82 +1,127 @@
 //! Numbers of operands of operators on continuations (the proposal on stack switching).
 //!
-//! A module names the function type of a continuation by an id. Where it does not, or has no type with that id, nothing is answered.
+//! A continuation names the type of the function that it goes on with by any index, and so does a reference to a continuation. An index
+//! that names no type is, in the rules, of a function from nothing to nothing.
 
-ghost use Rattle.std.specs.Prelude.{◌≡◌, ◌+◌, ◌-◌, Some, IfSome, option_map, option_and_then, slice_get, map};
+ghost use Rattle.std.specs.Prelude.{◌≡◌, ◌+◌, ◌-◌, option_map, option_and_then, slice_get, map};
 ghost use Rattle.wasm_types.specs.trees.Types.{value_map};
+ghost use Rattle.wasm_types.specs.trees.Trees.{opened};
 ghost use Rattle.wasm_types.specs.trees.Below.{expanded};
 ghost use Rattle.wasm_types.specs.values.Values.{value_of};
-ghost use Rattle.wasm_operator_validator_resources.specs.Meaning.{function_in, named_type};
+ghost use Rattle.wasm_operator_validator_resources.specs.Meaning.{entry_in, function_in, named_type};
 ghost use Rattle.wasm_operators_enums.specs.Op.{continuation_of};
-ghost use Rattle.wasm_operator_validator_rules.specs.arity.Arity.{in_u32, continuation_counts, continuation_operator_counts, switch_counts, last_referred, resumed};
-ghost use Rattle.wasm_operator_validator_arity.specs.Knowing.{Partly, ended, known_by, continued_by, continued_at};
+ghost use Rattle.wasm_operator_validator_rules.specs.arity.Arity.{in_u32, type_counts, continuation_counts, continuation_operator_counts, switch_counts, last_referred, resumed};
+ghost use Rattle.wasm_operator_validator_arity.specs.Knowing.{ended, known_by, function_resumed, heap_named, index_resumed, type_referred};
 
 use crate::ModuleArity;
-use crate::fixed::{calling, in_u32, sum_in_u32};
+use crate::answering::function_of;
+use crate::fixed::{calling, in_u32, params_of, sum_in_u32};
+use crate::looking_up::function_counts;
 use wasm_operators_visit::ContinuationOperator;
-use wasm_types::{CompositeInnerType, FuncType, SubType, ValType};
+use wasm_types::{
+    CompositeInnerType, FuncType, HeapType, RefType, SubType, UnpackedIndex, ValType,
+};
 
-/// The function that a continuation of this type goes on with, where it is known by its id.
-fn continued_by<'a, M: ModuleArity>(known: &'a M, ty: &SubType) -> Option<&'a FuncType>
-    ensures { IfSome result (λ f. Some (function_in (M.meaning known.now) f.now) ≡ continued_by
-        (M.meaning known.now) ty.now.composite_type.inner) }
+/// The index of the type that a continuation goes on with.
+fn index_resumed(ty: &SubType) -> Option<UnpackedIndex>
+    ensures { result ≡ index_resumed ty.now.composite_type.inner }
 {
     match &ty.composite_type.inner {
-        CompositeInnerType::Cont(continuation) => known.func_type_of_cont_type(continuation),
+        CompositeInnerType::Cont(continuation) => Some(continuation.0.unpack()),
         CompositeInnerType::Func(_) => None,
         CompositeInnerType::Array(_) => None,
         CompositeInnerType::Struct(_) => None,
     }
 }
 
-/// The same of the type at an index of the module.
-#[tactic(auto, using(crate::proofs::Continuing::continued_found))]
-fn continued_at<M: ModuleArity>(known: &M, type_index: u32) -> Option<&FuncType>
-    ensures { IfSome result (λ f. Some (function_in (M.meaning known.now) f.now) ≡ continued_at
-        (slice_get (M.meaning known.now).«module».types type_index)) }
+/// How many parameters and results the function has that a continuation of this type goes on with.
+#[tactic(auto, using(crate::proofs::Continuing::nothing_resumed, crate::proofs::Continuing::unknown_counted, crate::proofs::Continuing::resumed_counted))]
+fn counts_resumed<M: ModuleArity>(known: &M, ty: &SubType) -> Option<(usize, usize)>
+    ensures { result ≡ type_counts (resumed (entry_in (M.meaning known.now) ty.now).inner) }
+{
+    let Some(index) = index_resumed(ty) else {
+        return None;
+    };
+    let Some(function) = known.sub_type_named(index) else {
+        return Some((0, 0));
+    };
+    function_counts(function)
+}
+
+/// The function that a continuation of this type goes on with, if its index names one.
+#[tactic(auto, using(crate::proofs::Continuing::no_index, crate::proofs::Continuing::no_function))]
+fn function_resumed<'a, M: ModuleArity>(known: &'a M, ty: &SubType) -> Option<&'a FuncType>
+    ensures { option_map (λ f. function_in (M.meaning known.now) f.now) result ≡ function_resumed
+        (M.meaning known.now) ty.now.composite_type.inner }
+{
+    let Some(index) = index_resumed(ty) else {
+        return None;
+    };
+    let Some(function) = known.sub_type_named(index) else {
+        return None;
+    };
+    function_of(function)
+}
+
+/// How many parameters and results the function has that a continuation goes on with, of the type at an index of the module.
+#[tactic(auto, using(crate::proofs::Continuing::continuation_counted, crate::proofs::Continuing::continuation_missing))]
+fn continuation_counts<M: ModuleArity>(known: &M, type_index: u32) -> Option<(usize, usize)>
+    ensures { result ≡ continuation_counts (slice_get (M.meaning known.now).«module».types type_index) }
 {
     let Some(ty) = known.sub_type_at(type_index) else {
         return None;
     };
-    continued_by(known, ty)
+    counts_resumed(known, ty)
 }
 
-/// How many parameters and results that function has.
-#[tactic(auto, using(crate::proofs::Continuing::continuation_counted))]
-fn continuation_counts<M: ModuleArity>(known: &M, type_index: u32) -> Option<(usize, usize)>
-    ensures { Partly result (continuation_counts (slice_get (M.meaning known.now).«module».types type_index)) }
+/// The type that a reference refers to, if that is a defined type.
+fn heap_named<'a, M: ModuleArity>(known: &'a M, ty: &RefType) -> Option<&'a SubType>
+    ensures { option_map (λ t. entry_in (M.meaning known.now) t.now) result ≡ option_map opened
+        (heap_named (M.meaning known.now) ty.now.heap) }
 {
-    let Some(function) = continued_at(known, type_index) else {
-        return None;
-    };
-    Some((function.params().len(), function.results().len()))
+    match ty.heap_type() {
+        HeapType::Abstract { .. } => None,
+        HeapType::Concrete(index) => known.sub_type_named(index),
+        HeapType::Exact(index) => known.sub_type_named(index),
+    }
+}
+
+/// The type that a value refers to, if it is a reference to a defined type.
+fn type_referred<'a, M: ModuleArity>(known: &'a M, ty: &ValType) -> Option<&'a SubType>
+    ensures { option_map (λ t. entry_in (M.meaning known.now) t.now) result ≡ option_map opened
+        (type_referred (M.meaning known.now) ty.now) }
+{
+    match ty {
+        ValType::Ref(reference) => heap_named(known, reference),
+        ValType::I32 | ValType::I64 | ValType::F32 | ValType::F64 | ValType::V128 => None,
+    }
 }
 
 /// How many parameters the continuation takes to which the last of these types refers.
-#[tactic(auto, using(crate::proofs::Continuing::last_counted))]
+#[tactic(auto, using(crate::proofs::Continuing::last_unknown, crate::proofs::Continuing::no_last))]
 fn taken_by_last<M: ModuleArity>(known: &M, types: &[ValType]) -> Option<usize>
-    ensures { Partly result (option_map (λ d. d.0) (continuation_counts
-        (last_referred (map (value_map (named_type (M.meaning known.now))) (map value_of types.now))))) }
+    ensures { result ≡ option_map (λ d. d.0) (continuation_counts
+        (last_referred (map (value_map (named_type (M.meaning known.now))) (map value_of types.now)))) }
 {
-    let Some(ValType::Ref(reference)) = types.last() else {
+    let Some(last) = types.last() else {
         return None;
     };
-    let Some(ty) = known.sub_type_of_ref_type(reference) else {
+    let Some(ty) = type_referred(known, last) else {
         return None;
     };
-    let Some(function) = continued_by(known, ty) else {
-        return None;
-    };
-    Some(function.params().len())
+    params_of(counts_resumed(known, ty))
 }
 
 /// What a switch to a continuation of the type at an index takes and gives.
-#[tactic(auto, using(crate::proofs::Continuing::switch_counted))]
+#[tactic(auto, using(crate::proofs::Switching::switch_missing))]
 fn switched<M: ModuleArity>(known: &M, type_index: u32) -> Option<(u32, u32)>
-    ensures { Partly result (ended (option_and_then (λ g. switch_counts (expanded g))
-        (option_and_then (λ u. resumed (expanded u)) (slice_get (M.meaning known.now).«module».types type_index)))) }
+    ensures { result ≡ ended (option_and_then (λ g. switch_counts (expanded g))
+        (option_and_then (λ u. resumed (expanded u)) (slice_get (M.meaning known.now).«module».types type_index))) }
 {
-    let Some(function) = continued_at(known, type_index) else {
+    let Some(ty) = known.sub_type_at(type_index) else {
+        return None;
+    };
+    let Some(function) = function_resumed(known, ty) else {
         return None;
     };
     let Some(given) = taken_by_last(known, function.params()) else {
@@ -122,13 +167,13 @@ fn thrown_by_reference(continuation: Option<(usize, usize)>) -> Option<(u32, u32
 }
 
 /// Operators on continuations.
-#[tactic(auto, using(crate::proofs::Parts::bound_partly, crate::proofs::Parts::calling_partly, crate::proofs::Parts::thrown_into_partly, crate::proofs::Parts::by_reference_partly, crate::proofs::Parts::partly_itself))]
+#[tactic(auto, using(crate::proofs::Parts::bound_counted, crate::proofs::Parts::thrown_counted))]
 pub(crate) fn continuation<M: ModuleArity>(
     known: &M,
     op: &ContinuationOperator,
 ) -> Option<(u32, u32)>
-    ensures { Partly result (ended (continuation_operator_counts (known_by (M.meaning known.now) (M.frames known.now))
-        (continuation_of op.now))) }
+    ensures { result ≡ ended (continuation_operator_counts (known_by (M.meaning known.now) (M.frames known.now))
+        (continuation_of op.now)) }
 {
     match op {
         ContinuationOperator::ContNew { .. } => Some((1, 1)),

@@ -16,6 +16,6 @@ mod module_arity;
 mod operator_arity;
 
 pub use crate::fixed::in_u32;
-pub use answering::{func_type_of_cont_type, sub_type_of_ref_type, tag_type_arity};
+pub use answering::{func_type_of_cont_type, sub_type_named, sub_type_of_ref_type, tag_type_arity};
 pub use module_arity::ModuleArity;
 pub use operator_arity::OperatorArity;

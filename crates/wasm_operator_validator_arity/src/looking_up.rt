@@ -10,7 +10,7 @@ use wasm_operator_validator_resources::{BlockType, FrameKind};
 use wasm_types::{CompositeInnerType, SubType};
 
 /// How many parameters and results a type has, if it is a function type.
-fn function_counts(ty: &SubType) -> Option<(usize, usize)>
+pub(crate) fn function_counts(ty: &SubType) -> Option<(usize, usize)>
     ensures { result ≡ declared_counts ty.now.composite_type.inner }
 {
     match &ty.composite_type.inner {

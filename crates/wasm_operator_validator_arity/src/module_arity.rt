@@ -7,10 +7,10 @@ ghost use Rattle.wasm_operator_validator_resources.specs.Meaning.{Meaning, entry
 ghost use Rattle.wasm_operators_immediates.specs.declared.block.BlockType.{BlockType as TheBlockType};
 ghost use Rattle.wasm_operators_immediates.specs.declared.frames.FrameKind.{FrameKind as TheFrameKind};
 ghost use Rattle.wasm_operator_validator_rules.specs.arity.Arity.{in_u32, type_counts};
-ghost use Rattle.wasm_operator_validator_arity.specs.Knowing.{ended, function_by_id, type_of_heap};
+ghost use Rattle.wasm_operator_validator_arity.specs.Knowing.{ended, function_by_id, type_named, type_of_heap};
 
 use wasm_operator_validator_resources::{BlockType, FrameKind};
-use wasm_types::{ContType, FuncType, RefType, SubType};
+use wasm_types::{ContType, FuncType, RefType, SubType, UnpackedIndex};
 
 /// A module, and the frames that are open at a place in a body, for numbers of operands. Its meaning is the module of the rules, what
 /// each id stands for, and the frames, the innermost first. Numbers of more than 32 bits end at `u32::MAX`.
@@ -25,6 +25,12 @@ pub trait ModuleArity {
     fn sub_type_at(&self, type_index: u32) -> Option<&SubType>
         ensures { option_map (λ t. entry_in (meaning self.now) t.now) result ≡ option_map opened
             (slice_get (meaning self.now).«module».types type_index) };
+
+    /// The type that an index names, as a type of the module has it: by its id, or else by its index in the module, for which a place in a
+    /// group counts too.
+    fn sub_type_named(&self, index: UnpackedIndex) -> Option<&SubType>
+        ensures { option_map (λ t. entry_in (meaning self.now) t.now) result ≡ option_map opened
+            (type_named (meaning self.now) index) };
 
     /// The index of a function's type.
     fn type_index_of_function(&self, function_index: u32) -> Option<u32>

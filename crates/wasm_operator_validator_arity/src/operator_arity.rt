@@ -1,8 +1,8 @@
 //! How many operands an operator takes and gives.
 
+ghost use Rattle.std.specs.Prelude.{◌≡◌};
 ghost use Rattle.wasm_operators_enums.specs.Op.{op_of};
-ghost use Rattle.wasm_operator_validator_rules.specs.arity.Arity.{counts_of};
-ghost use Rattle.wasm_operator_validator_arity.specs.Knowing.{ended, known_by, AnswersFor};
+ghost use Rattle.wasm_operator_validator_arity.specs.Knowing.{answer_for};
 
 use crate::ModuleArity;
 use crate::continuations::continuation;
@@ -13,15 +13,15 @@ use wasm_operators_visit::Operator;
 /// How many operands an operator takes and gives.
 pub trait OperatorArity {
     /// How many operands the operator takes, and how many it gives, in a module and frames that know its types, labels and tags
-    /// (WebAssembly 3.0, validation, instructions). Behind an operator after which nothing is reached none is given; what the row of an
-    /// operator leaves free is not counted. None for operators on vectors, and where the module does not know what the operator names.
+    /// (WebAssembly 3.0, validation, instructions). After an operator from which nothing is reached none is given; what the row of an
+    /// operator leaves free is not counted. None for operators on vectors, and if the module does not know what the operator names. If a
+    /// continuation of the module names a type that the module does not know, that is a function from nothing to nothing, as in the rules.
     fn operator_arity<M: ModuleArity>(&self, known: &M) -> Option<(u32, u32)>;
 }
 
 impl<'a> OperatorArity for Operator<'a> {
     fn operator_arity<M: ModuleArity>(&self, known: &M) -> Option<(u32, u32)>
-        ensures { AnswersFor (op_of self.now) result (ended (counts_of
-            (known_by (M.meaning known.now) (M.frames known.now)) (op_of self.now))) }
+        ensures { result ≡ answer_for (M.meaning known.now) (M.frames known.now) (op_of self.now) }
     {
         match self {
             Operator::Control(op) => control(known, op),

@@ -1,14 +1,10 @@
 -- The rows of `Answers`.
-use Rattle.std.proofs.Common.{◌≡◌, Option, Some, None, refl, sym, ap, arith, lit<}
+use Rattle.std.proofs.Common.{◌≡◌, Some, refl, ap, arith, lit<}
 use Rattle.wasm_types.specs.trees.Trees.{TypeTree, opened}
 use Rattle.wasm_types.specs.trees.Below.{expanded}
-use Rattle.wasm_operators_enums.specs.Op as op
-use Rattle.wasm_operators_enums.specs.Op.{Op}
 use Rattle.wasm_operator_validator_state.specs.resources.Meaning.{type_in}
-use Rattle.wasm_operator_validator_rules.specs.arity.Arity.{Counts}
 use Rattle.wasm_operator_validator_rules.specs.arity.Worked.{splitting, pair}
-use Rattle.wasm_operator_validator_constants.specs.arity.Knowing.{AnswersFor}
-use Rattle.wasm_operator_validator_tests.specs.Answers.{CountsEnd, NamesAnswered, NamesMean, FunctionTypes, KnowsModule, AnswersAreOfTheTable}
+use Rattle.wasm_operator_validator_tests.specs.Answers.{CountsEnd, NamesAnswered, NamesMean, FunctionTypes, KnowsModule, OperatorsAnswered}
 
 pub counts_end : CountsEnd
 counts_end = record { few = refl; most = refl; one_more = refl; many_taken = refl; many_given = refl; unknown = refl }
@@ -27,6 +23,17 @@ names_answered = record {
   no_function = refl;
   no_type = refl;
   index_of_function = refl;
+  named_by_id = refl;
+  named_by_index = refl;
+  named_by_place = refl;
+  no_id = refl;
+  no_index = refl;
+  function_by_index = refl;
+  no_function_by_index = refl;
+  referred = refl;
+  referred_itself = refl;
+  number_refers = refl;
+  abstract_refers = refl;
 }
 
 pub names_mean : NamesMean
@@ -71,42 +78,15 @@ function_types = record {
 pub knows_module : KnowsModule
 knows_module = refl
 
-exact : (o : Op) (c : Option Counts) → AnswersFor o c c
-exact (op.Continuation o) None = tt
-exact (op.Continuation o) (Some c) = refl
-exact (op.Control o) c = refl
-exact (op.Parametric o) c = refl
-exact (op.Exception o) c = refl
-exact (op.Memory o) c = refl
-exact (op.Const o) c = refl
-exact (op.Numeric o) c = refl
-exact (op.Bulk o) c = refl
-exact (op.Gc o) c = refl
-exact (op.Descriptor o) c = refl
-exact (op.Simd o) c = refl
-exact (op.SimdNumeric o) c = refl
-exact (op.Atomic o) c = refl
-exact (op.Shared o) c = refl
-
-some_counts : (c : Counts) → None ≡ Some c → ⊥
-some_counts c e = absurd cc
-
-pub answers_are_of_the_table : AnswersAreOfTheTable
-answers_are_of_the_table = record {
-  exact = exact;
-  missing_control = λ o e. some_counts (0, 0) e;
-  missing_parametric = λ o e. some_counts (0, 0) e;
-  missing_exception = λ o e. some_counts (0, 0) e;
-  missing_memory = λ o e. some_counts (0, 0) e;
-  missing_constant = λ o e. some_counts (0, 0) e;
-  missing_numeric = λ o e. some_counts (0, 0) e;
-  missing_bulk = λ o e. some_counts (0, 0) e;
-  missing_aggregate = λ o e. some_counts (0, 0) e;
-  missing_descriptor = λ o e. some_counts (0, 0) e;
-  missing_vector = λ o e. some_counts (0, 0) e;
-  missing_vector_number = λ o e. some_counts (0, 0) e;
-  missing_atomic = λ o e. some_counts (0, 0) e;
-  missing_shared = λ o e. some_counts (0, 0) e;
-  invented = λ o e. some_counts (0, 0) (sym e);
-  missing_continuation = λ o. tt;
+pub operators_answered : OperatorsAnswered
+unfolding opened
+operators_answered = record {
+  added = refl;
+  unknown_function = refl;
+  vector = λ o. refl;
+  vector_number = λ o. refl;
+  resumed = refl;
+  resumed_struct = refl;
+  resumed_unknown = refl;
+  resumed_nameless = refl;
 }

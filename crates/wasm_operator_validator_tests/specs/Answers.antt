@@ -1,21 +1,24 @@
--- What is answered of numbers of operands: they end at 32 bits; a type by its id, or none; and of operators on continuations nothing may be
--- answered.
-use Rattle.std.specs.Prelude.{◌≡◌, ℕ, Bool, true, false, [], ◌∷◌, Option, Some, None}
+-- What is answered of numbers of operands: they end at 32 bits; a type by its id, or by any index, or none; and for each operator what the
+-- table has.
+use Rattle.std.specs.Prelude.{◌≡◌, ℕ, Bool, true, false, [], ◌∷◌, Some, None}
 use Rattle.wasm_types.specs.trees.declared.index.UnpackedIndex.{UnpackedIndex}
 use Rattle.wasm_types.specs.trees.declared.index.UnpackedIndex.TheVariants.{Module, RecGroup, Id}
-use Rattle.wasm_types.specs.trees.Types.{i32, i64, number, ref, abstract, concrete, exact, func, any, none, function}
+use Rattle.wasm_types.specs.trees.Types.{i32, i64, number, ref, abstract, concrete, exact, func, any, none, function, continuation}
+use Rattle.wasm_types.specs.trees.ValidGroup.{type_at}
+use Rattle.wasm_types.specs.trees.worked.Types.{alone, declared_entry}
 use Rattle.wasm_types.specs.values.declared.heap.HeapType.TheVariants as heap
 use Rattle.wasm_types.specs.values.declared.heap.AbstractHeapType.TheVariants as abstract_heap
 use Rattle.wasm_types.specs.values.declared.value.ValType.TheVariants as value_type
 use Rattle.wasm_operator_validator_state.specs.resources.Meaning.{Meaning, IsKnownIndex, named_type, heap_in, type_in, reference_in, function_in, global_in, table_in, top_heap}
 use Rattle.wasm_operator_validator_state.specs.resources.Answers.{IsTypeOf}
 use Rattle.wasm_operators_enums.specs.Op as op
-use Rattle.wasm_operators_enums.specs.Op.{Op}
+use Rattle.wasm_operators_enums.specs.declared.control.ControlOperator.TheVariants as control
+use Rattle.wasm_operators_enums.specs.declared.numeric.NumericOperator.TheVariants as numeric
 use Rattle.wasm_operators_immediates.specs.declared.block.BlockType.TheVariants as block
 use Rattle.wasm_operators_immediates.specs.declared.frames.FrameKind.TheVariants as frames
-use Rattle.wasm_operator_validator_rules.specs.arity.Arity.{Counts, in_u32}
+use Rattle.wasm_operator_validator_rules.specs.arity.Arity.{in_u32}
 use Rattle.wasm_operator_validator_rules.specs.arity.Worked.{small_module, splitting, pair, within}
-use Rattle.wasm_operator_validator_constants.specs.arity.Knowing.{ended, type_by_id, type_of_heap, function_by_id, known_by, AnswersFor}
+use Rattle.wasm_operator_validator_constants.specs.arity.Knowing.{ended, type_by_id, type_named, type_of_heap, type_referred, function_by_id, function_named, known_by, answer_for}
 
 -- ---- numbers
 
@@ -49,6 +52,17 @@ pub record NamesAnswered : Type 0 where
   pub no_function : function_by_id listed (id 0) ≡ None
   pub no_type : function_by_id listed (id 2) ≡ None
   pub index_of_function : function_by_id listed (Module 0) ≡ None
+  pub named_by_id : type_named listed (id 0) ≡ Some pair
+  pub named_by_index : type_named listed (Module 0) ≡ Some splitting
+  pub named_by_place : type_named listed (RecGroup 1) ≡ Some pair
+  pub no_id : type_named listed (id 2) ≡ None
+  pub no_index : type_named listed (Module 9) ≡ None
+  pub function_by_index : function_named listed (Module 0) ≡ Some (function (number i64 ∷ []) (number i32 ∷ number i32 ∷ []))
+  pub no_function_by_index : function_named listed (Module 1) ≡ None
+  pub referred : type_referred listed (value_type.Ref (record { nullable = true; heap = heap.Concrete (Module 0) })) ≡ Some splitting
+  pub referred_itself : type_referred listed (value_type.Ref (record { nullable = false; heap = heap.Exact (id 0) })) ≡ Some pair
+  pub number_refers : type_referred listed value_type.I64 ≡ None
+  pub abstract_refers : type_referred listed (value_type.Ref (record { nullable = true; heap = heap.Abstract false abstract_heap.Any })) ≡ None
 
 -- what names of types mean: an index of the module, and an id of the list
 pub record NamesMean : Type 0 where
@@ -86,21 +100,18 @@ pub record FunctionTypes : Type 0 where
 abbrev pub KnowsModule : Type 0
 KnowsModule = known_by listed ((block.FuncType 0, frames.Loop) ∷ (block.Val value_type.I32, frames.Block) ∷ []) ≡ within
 
--- For an operator of each group the table's answer, and no other; on continuations none, or the table's.
-pub record AnswersAreOfTheTable : Type 0 where
-  pub exact : (o : Op) (c : Option Counts) → AnswersFor o c c
-  pub missing_control : (o : _) → AnswersFor (op.Control o) None (Some (0, 0)) → ⊥
-  pub missing_parametric : (o : _) → AnswersFor (op.Parametric o) None (Some (0, 0)) → ⊥
-  pub missing_exception : (o : _) → AnswersFor (op.Exception o) None (Some (0, 0)) → ⊥
-  pub missing_memory : (o : _) → AnswersFor (op.Memory o) None (Some (0, 0)) → ⊥
-  pub missing_constant : (o : _) → AnswersFor (op.Const o) None (Some (0, 0)) → ⊥
-  pub missing_numeric : (o : _) → AnswersFor (op.Numeric o) None (Some (0, 0)) → ⊥
-  pub missing_bulk : (o : _) → AnswersFor (op.Bulk o) None (Some (0, 0)) → ⊥
-  pub missing_aggregate : (o : _) → AnswersFor (op.Gc o) None (Some (0, 0)) → ⊥
-  pub missing_descriptor : (o : _) → AnswersFor (op.Descriptor o) None (Some (0, 0)) → ⊥
-  pub missing_vector : (o : _) → AnswersFor (op.Simd o) None (Some (0, 0)) → ⊥
-  pub missing_vector_number : (o : _) → AnswersFor (op.SimdNumeric o) None (Some (0, 0)) → ⊥
-  pub missing_atomic : (o : _) → AnswersFor (op.Atomic o) None (Some (0, 0)) → ⊥
-  pub missing_shared : (o : _) → AnswersFor (op.Shared o) None (Some (0, 0)) → ⊥
-  pub invented : (o : _) → AnswersFor (op.Continuation o) (Some (0, 0)) None → ⊥
-  pub missing_continuation : (o : _) → AnswersFor (op.Continuation o) None (Some (0, 0))
+-- a module with a continuation that names a type past the end
+abbrev pub nameless : Meaning
+nameless = record { «module» = record small_module { types = alone (declared_entry None false (continuation (type_at [] 5))) ∷ [] }; ids = [] }
+
+-- The answer for an operator is what the table has: none of a vector, or if the module does not know what the operator names. A type past the
+-- end is a function from nothing to nothing.
+pub record OperatorsAnswered : Type 0 where
+  pub added : answer_for listed [] (op.Numeric numeric.I32Add) ≡ Some (2, 1)
+  pub unknown_function : answer_for listed [] (op.Control (control.Call 1)) ≡ None
+  pub vector : (o : _) → answer_for listed [] (op.Simd o) ≡ None
+  pub vector_number : (o : _) → answer_for listed [] (op.SimdNumeric o) ≡ None
+  pub resumed : answer_for listed [] (op.Continuation (op.Resume 3 [])) ≡ Some (2, 2)
+  pub resumed_struct : answer_for listed [] (op.Continuation (op.Resume 1 [])) ≡ None
+  pub resumed_unknown : answer_for listed [] (op.Continuation (op.Resume 9 [])) ≡ None
+  pub resumed_nameless : answer_for nameless [] (op.Continuation (op.Resume 0 [])) ≡ Some (1, 0)

@@ -8,7 +8,7 @@ ghost use Rattle.wasm_operators_immediates.specs.declared.memory.Ordering.{Order
 ghost use Rattle.wasm_operator_validator_state.specs.resources.Meaning.{Meaning};
 ghost use Rattle.wasm_operator_validator_state.specs.declared.attempts.log.RollbackLogAllocations.{RollbackLogAllocations};
 ghost use Rattle.wasm_operator_validator_tests.specs.Counts.{ReferencesCounted, AggregatesCounted, DescriptorsCounted, ExceptionsCounted, SharedCounted, ContinuationsCounted};
-ghost use Rattle.wasm_operator_validator_tests.specs.Answers.{CountsEnd, NamesAnswered, NamesMean, FunctionTypes, KnowsModule, AnswersAreOfTheTable};
+ghost use Rattle.wasm_operator_validator_tests.specs.Answers.{CountsEnd, NamesAnswered, NamesMean, FunctionTypes, KnowsModule, OperatorsAnswered};
 ghost use Rattle.wasm_operator_validator_tests.specs.States.{RefusalsTold, AnswersDo, KindsOfRefusals, NamesOfTypes, UsesRows, ChecksRows, VisitsRows};
 ghost use Rattle.wasm_operator_validator_tests.specs.Attempts.{NotesRows, AttemptsRows};
 ghost use Rattle.wasm_operator_validator_tests.specs.Beginning.{BeginningRows};
@@ -26,14 +26,14 @@ pub const fn further_counts_are_worked()
     ensures continuations { (hs : Handle) → ContinuationsCounted hs }
 {}
 
-/// What is answered of numbers of operands, of types by their ids, and for operators.
+/// What is answered of numbers of operands, of types by their ids and by any index, and for operators.
 pub const fn answers_are_worked()
     ensures counts { CountsEnd }
     ensures names { NamesAnswered }
     ensures meanings { NamesMean }
     ensures types { FunctionTypes }
     ensures known { KnowsModule }
-    ensures operators { AnswersAreOfTheTable }
+    ensures operators { OperatorsAnswered }
 {}
 
 /// What refusals are, what a function may use, and what the check and the visit of an operator promise.

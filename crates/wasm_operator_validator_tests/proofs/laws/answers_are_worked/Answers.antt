@@ -1,4 +1,4 @@
-use Rattle.wasm_operator_validator_tests.specs.AnswerLaws.{counts_end, names_answered, names_mean, function_types, knows_module, answers_are_of_the_table}
+use Rattle.wasm_operator_validator_tests.specs.AnswerLaws.{counts_end, names_answered, names_mean, function_types, knows_module, operators_answered}
 use Rattle.wasm_operator_validator_tests.proofs.laws.answers_are_worked.Goals as goal
 
 pub returns-clause-counts : goal.returns-clause-counts
@@ -17,4 +17,4 @@ pub returns-clause-known : goal.returns-clause-known
 returns-clause-known c = knows_module
 
 pub returns-clause-operators : goal.returns-clause-operators
-returns-clause-operators c = answers_are_of_the_table
+returns-clause-operators c = operators_answered
