@@ -11,7 +11,8 @@ use std::marker::Model;
 use std::mem::replace;
 
 /// A stack. In an attempt it keeps the items that stood where the attempt began and were taken off since; those below
-/// `kept` still lie in place. A contract sees the items, the top last, and what stood where the attempt began. Above the
+/// `kept` still lie in place. So it keeps no more items than stood there (`saved` of `specs/tape/Kept.antt`), and has room for them
+/// (`IsKept`). A contract sees the items, the top last, and what stood where the attempt began. Above the
 /// items lie places of items that were taken off: they are written again, so that an item is put on without a call.
 #[derive(Drop)]
 pub struct Tape<T: Copy + Drop> {
