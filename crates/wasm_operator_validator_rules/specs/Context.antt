@@ -67,6 +67,7 @@ pub record Context : Type 0 where
 abbrev pub MayUse : Context → Bool → Type 0
 MayUse g shared = IsTrue g.shared → IsTrue shared
 
+-- standard: part of MayUse
 abbrev pub may_use : Context → Bool → Bool
 may_use g true = true
 may_use g false = if g.shared then false else true

@@ -116,13 +116,16 @@ is_described s = is_some (opened s.type).descriptor
 abbrev pub element_of : Array → ValueType
 element_of a = unpacked a.element.storage
 
+-- standard: valid-instr-aggr: struct.get, array.get: not of a packed type
 -- a place is read: what is stored there, or a packed type, which is extended; it is written, if it may be
 abbrev pub read : Place → Option InstructionType
 read p = provided (not (is_packed p.storage)) (p.reached_by ⟶ unpacked p.storage ∷ [])
 
+-- standard: valid-instr-aggr: struct.get_sx, array.get_sx: of a packed type
 abbrev pub read_packed : Place → Option InstructionType
 read_packed p = provided (is_packed p.storage) (p.reached_by ⟶ i32_type ∷ [])
 
+-- standard: valid-instr-aggr: struct.set, array.set: of a mutable field or element
 abbrev pub written : Place → Option InstructionType
 written p = provided p.mutable ((p.reached_by ++ unpacked p.storage ∷ []) ⟶ [])
 
@@ -215,9 +218,11 @@ abbrev pub work_type : Context → VectorWork → Option InstructionType
 work_type g (on_lanes c) = Some (lanes_type c)
 work_type g (reaches a) = accesses g false (Some a)
 
+-- standard: part of instruction_type
 abbrev pub simd_type_of : Context → SimdOperator → Option InstructionType
 simd_type_of g o = where_vectors g (work_type g (work_of o))
 
+-- standard: part of instruction_type
 abbrev pub simd_numeric_type_of : Context → SimdNumericOperator → Option InstructionType
 simd_numeric_type_of g o = where_vectors g (Some (lanes_type (vector_class o)))
 

@@ -34,10 +34,12 @@ is_of_bytes (value (ref n h)) = false
 abbrev pub has_default : FieldOf TypeTree → Bool
 has_default x = defaultable (unpacked x.storage)
 
+-- standard: part of has_default
 abbrev pub have_defaults : List (FieldOf TypeTree) → Bool
 have_defaults [] = true
 have_defaults (x ∷ xs) = has_default x && have_defaults xs
 
+-- standard: valid-instr-aggr: struct.new: the unpacked types of the fields
 -- the operands of which a struct with these fields is made
 abbrev pub operands_for : List (FieldOf TypeTree) → List ValueType
 operands_for [] = []

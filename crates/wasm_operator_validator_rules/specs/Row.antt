@@ -200,6 +200,7 @@ Row g set o popped pushed = IsEnabled g.bits o × GroupRow g set o popped pushed
 
 -- ---- the locals that are initialised after an operator (validation, conventions, instruction types)
 
+-- standard: part of after
 abbrev pub sets : MemoryOperator → Initialised → Initialised
 sets (memory.LocalSet x) set = λ k. if x == k then true else set k
 sets (memory.LocalTee x) set = λ k. if x == k then true else set k

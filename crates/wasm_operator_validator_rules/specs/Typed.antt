@@ -24,6 +24,7 @@ abbrev pub Steps : Context → Initialised → Op → List Operand → List Oper
 Steps g set o s m = (popped pushed rest : List Operand) × Row g set o popped pushed × AllBelow s (reverse popped ++ rest)
     × (m ≡ reverse pushed ++ rest)
 
+-- standard: part of OpensFrame
 -- the block type that an operator carries
 abbrev pub block_type_of : Op → Option BlockType
 block_type_of (op.Control (control.Block bt)) = Some bt
@@ -80,6 +81,7 @@ Turns g b (op.Exception (op.Catch x)) ts = IsEnabled g.bits (op.Exception (op.Ca
 Turns g b (op.Exception op.CatchAll) ts = IsEnabled g.bits (op.Exception op.CatchAll) × (ts ≡ [])
 Turns g b o ts = ⊥
 
+-- standard: part of Typed
 -- the kind of this part, and the context in it
 abbrev pub part_kind : Op → FrameKind
 part_kind (op.Exception (op.Catch x)) = frames.LegacyCatch

@@ -13,6 +13,7 @@ use Rattle.wasm_operators_enums.specs.declared.role.Role.TheVariants.{Plain, Ope
 use Rattle.wasm_operators_enums.specs.declared.role.Effect.{Effect}
 use Rattle.wasm_operators_enums.specs.declared.role.Effect.TheVariants as effects
 
+-- standard: part of role_of
 -- the openers of blocks, `else` and `end` have a role of their own
 abbrev pub control_role : ControlOperator → Role
 control_role (control.Block blockty) = Opens frames.Block
@@ -22,6 +23,7 @@ control_role control.Else = Else
 control_role control.End = End
 control_role o = Plain
 
+-- standard: part of role_of
 -- the two forms of `try`, and the clauses of the older one
 abbrev pub exception_role : ExceptionTree → Role
 exception_role (op.Try blockty) = Opens frames.LegacyTry

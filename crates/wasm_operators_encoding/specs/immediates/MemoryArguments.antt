@@ -100,7 +100,7 @@ memory_argument features access natural = flags (may_order features access)
 
 -- ---- grammars
 
--- standard: binary-instr-memory: memarg: the flags (differs: below 2^7; bit 6 needs multi-memory)
+-- standard: binary-instr-memory: memarg: the flags (differs: an exponent of 16 or more is malformed, not invalid; bit 6 needs multi-memory)
 -- n:u32 => the exponent of the alignment, below 2^4, and what follows the flags, of what may follow them
 pub record SpelledFlags (order memory : Bool) (f : Flags) (text : List ℕ) : Type 0 where
   pub number : IsUnsigned 32 (number_of f) text

@@ -40,6 +40,7 @@ parametric_immediates tree.Select = []
 parametric_immediates (tree.TypedSelect ty) = ValueTypes (ty ∷ []) ∷ []
 parametric_immediates (tree.TypedSelectMulti tys) = ValueTypes tys ∷ []
 
+-- standard: part of is_canonical
 -- `select` with one type is TypedSelect, and with any other number of types TypedSelectMulti: both have the same code
 abbrev pub is_canonical : ParametricTree → Bool
 is_canonical (tree.TypedSelectMulti (ty ∷ [])) = false

@@ -29,6 +29,7 @@ pub record ElementTree (C : Type 0) : Type 0 where
 abbrev pub any_function : Reference
 any_function = record { nullable = true; heap = Abstract false heap.Func }
 
+-- standard: binary-elemsec: elem: the flags for its mode
 -- the two low bits of a flag: bit 0 where it is not active; bit 1 where a table is named, or where it is declared
 abbrev pub use_bits : {C : Type 0} → ElementMode C → ℕ
 use_bits (active None x) = 0
@@ -36,6 +37,7 @@ use_bits passive = 1
 use_bits (active (Some t) x) = 2
 use_bits declared = 3
 
+-- standard: binary-elemsec: elem: the flag for expressions
 -- bit 2: where elements are expressions
 abbrev pub kind_bits : {C : Type 0} → ElementItems C → ℕ
 kind_bits (functions ys) = 0
