@@ -4,6 +4,7 @@ ghost use Rattle.std.specs.Prelude.{◌≡◌, ◌+◌, ◌<◌, ◌≤◌, ◌^
 ghost use Rattle.wasm_types.specs.settings.Sets.{bits_of, default_features};
 ghost use Rattle.wasm_types.specs.settings.Limits.{default_limits, IsWithinCeilings};
 ghost use Rattle.wasm_types.specs.reader.Reading.{NeedsNoMemory};
+ghost use Rattle.wasm_sections_parser.specs.Steps.{counted};
 ghost use Rattle.wasm_sections_parser.specs.runs.calls.Runs.{fresh};
 ghost use Rattle.wasm_sections.specs.Parsing.{taken, ParsesPayload};
 
@@ -116,6 +117,26 @@ impl Parser {
                 Err(error)
             }
         }
+    }
+
+    /// The offset where it stands.
+    pub fn offset(&self) -> u64
+        ensures { result ≡ self.now.frames.offset }
+    {
+        self.frames.offset()
+    }
+
+    /// Goes past a section of this id, which counts so many items, and which takes so many bytes with its id and its size: if the caller has
+    /// read it, or does without its contents. Nothing is checked of it, neither that it is there nor that it is in order.
+    pub fn pass_section(&mut self, id: u8, count: u32, bytes: u64)
+        requires { self.old.frames.offset + bytes < 2 ^ 64 }
+        ensures { self.new.frames ≡ record {
+          offset = self.old.frames.offset + bytes;
+          settings = self.old.frames.settings;
+          progress = counted self.old.frames.progress id count;
+        } }
+    {
+        self.frames.pass_section(id, count, bytes);
     }
 
     /// The payloads of these bytes, which are all that is left of the module.
