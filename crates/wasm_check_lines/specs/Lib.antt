@@ -2,7 +2,6 @@
 pub mod Shown
 pub mod Json
 pub mod FeatureWords
-pub mod Causes
 pub mod Hints
 pub mod Explanations
 pub mod Forms

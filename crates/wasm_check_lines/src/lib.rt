@@ -3,10 +3,9 @@
 //! Of each file a [`Form`] makes one text: of a file that is valid [`valid_text`], of one that was refused [`refused_text`]. Whatever
 //! a file's name, the reason of a refusal and an explanation hold, no byte of them ends a line: [`Shown`] writes them in lines, and
 //! [`Quoted`] in strings of JSON. For example a file called `a` and a line feed, if it is valid, is told as `a\u{a}: valid`. `specs/`
-//! defines the texts, and what a person can do about a refusal.
+//! defines the texts, and what a person can do about a refusal, whose cause `wasm_refusal_causes` tells.
 #![tactic(auto)]
 
-mod causes;
 mod forms;
 mod hints;
 mod json;
