@@ -1,11 +1,11 @@
 //! Why bytes were refused, as C sees it.
 
 ghost use Rattle.std.specs.Prelude.{◌≡◌, ◌≤◌, length, slice_index_or};
-ghost use Rattle.wasm_refusal_causes.specs.Causes.{cause_of};
+ghost use Rattle.wasm_check_lines.specs.Causes.{cause_of};
 ghost use Rattle.durskeyl_c.specs.Told.{detail_of, limit_of, number_of, IsEnded};
 
 use bitflags::Flags;
-use wasm_refusal_causes::{Cause, cause_of};
+use wasm_check_lines::{Cause, cause_of};
 use wasm_types::{Error, ErrorKind, Limits};
 
 /// How many bytes the text has room for, its closing 0 included: a message has 256 at most.

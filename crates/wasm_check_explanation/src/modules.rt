@@ -11,7 +11,7 @@ use crate::passed::Passed;
 use crate::place::{Function, Offsets, Place, Signature};
 use crate::sections::{Part, offsets_of, part_of};
 use std::alloc::{AllocError, Global};
-use wasm_refusal_causes::{Cause, cause_of};
+use wasm_check_lines::{Cause, cause_of};
 use wasm_sections::Payload;
 use wasm_types::{Error, Limits, WasmFeatures};
 

@@ -18,12 +18,12 @@ use Rattle.wasm_check_lines.specs.Json.{json_text, json_char, json_escape, zeros
 use Rattle.wasm_check_lines.specs.FeatureWords.{worded, first_word, word_for, words_from_0, words_from_7, words_from_14, words_from_21}
 use Rattle.wasm_types.specs.settings.declared.Limits.{Limits}
 use Rattle.wasm_types.specs.settings.declared.WasmFeatures.{WasmFeatures}
-use Rattle.wasm_refusal_causes.specs.declared.limit.Limit.{Limit as Chosen}
-use Rattle.wasm_refusal_causes.specs.declared.limit.Limit.TheVariants as limits
-use Rattle.wasm_refusal_causes.specs.declared.causes.Cause.{Cause}
-use Rattle.wasm_refusal_causes.specs.declared.causes.Cause.TheVariants.{Vectors, Limit, Feature, FixedLimit, Types, Another}
-use Rattle.wasm_refusal_causes.specs.Causes.{cause_of}
-use Rattle.wasm_refusal_causes.specs.Limits.{word_of}
+use Rattle.wasm_check_lines.specs.declared.limit.Limit.{Limit as Chosen}
+use Rattle.wasm_check_lines.specs.declared.limit.Limit.TheVariants as limits
+use Rattle.wasm_check_lines.specs.declared.causes.Cause.{Cause}
+use Rattle.wasm_check_lines.specs.declared.causes.Cause.TheVariants.{Vectors, Limit, Feature, FixedLimit, Types, Another}
+use Rattle.wasm_check_lines.specs.Causes.{cause_of}
+use Rattle.wasm_check_lines.specs.Limits.{word_of}
 use Rattle.wasm_check_lines.specs.Hints.{feature_hint, features_hint, framed, is_text, limit_hint, text_hint, hint_for, hint_of}
 use Rattle.wasm_check_lines.specs.Forms.{valid_line, invalid_line, hint_line, valid_object, invalid_object, error_word, kind_word, cause_member, help_members, hint_member, refusal_object}
 use Rattle.wasm_check_lines.specs.Explanations.{array_text, explanation_member, member_text, next_item, note_line, value_text}

@@ -5,7 +5,7 @@ use Rattle.std.specs.Str.{chars}
 use Rattle.wasm_check_lines.specs.Shown.{shown}
 use Rattle.wasm_check_lines.specs.Json.{json_text}
 use Rattle.wasm_types.specs.settings.Limits.{default_limits}
-use Rattle.wasm_refusal_causes.specs.Causes.{cause_of, feature_lacking, limit_meant}
+use Rattle.wasm_check_lines.specs.Causes.{cause_of, feature_lacking, limit_meant}
 use Rattle.wasm_check_lines.specs.Hints.{feature_hint, is_text, limit_hint}
 use Rattle.wasm_check_lines.specs.ShownRows.{ShownRows}
 use Rattle.wasm_check_lines.specs.FormRows.{FormRows}

@@ -3,7 +3,7 @@ use Rattle.std.specs.Prelude.{◌≡◌, ℕ, [], List, Option, codes}
 use Rattle.wasm_types.specs.decoding.ErrorValue.{ErrorValue}
 use Rattle.wasm_types.specs.decoding.declared.error.ErrorKind.TheVariants.{Other, MissingFeature}
 use Rattle.wasm_types.specs.settings.Limits.{default_limits}
-use Rattle.wasm_refusal_causes.specs.declared.causes.Cause.TheVariants.{Another}
+use Rattle.wasm_check_lines.specs.declared.causes.Cause.TheVariants.{Another}
 use Rattle.wasm_check_lines.specs.Hints.{is_text, hint_for, hint_of}
 use Rattle.wasm_check_lines.specs.Explanations.{note_line}
 use Rattle.wasm_check_lines.specs.FeatureWords.{word_for}

@@ -7,10 +7,10 @@ use Rattle.wasm_types.specs.decoding.declared.error.ErrorKind.TheVariants.{EndOf
 use Rattle.wasm_check_lines.specs.declared.forms.Form.{Form}
 use Rattle.wasm_check_lines.specs.declared.forms.Form.TheVariants.{Lines, Json, Quiet}
 use Rattle.wasm_types.specs.settings.declared.Limits.{Limits}
-use Rattle.wasm_refusal_causes.specs.declared.causes.Cause.{Cause}
-use Rattle.wasm_refusal_causes.specs.declared.causes.Cause.TheVariants.{Vectors, Limit, Feature, FixedLimit, Types, Another}
-use Rattle.wasm_refusal_causes.specs.Causes.{cause_of}
-use Rattle.wasm_refusal_causes.specs.Limits.{word_of}
+use Rattle.wasm_check_lines.specs.declared.causes.Cause.{Cause}
+use Rattle.wasm_check_lines.specs.declared.causes.Cause.TheVariants.{Vectors, Limit, Feature, FixedLimit, Types, Another}
+use Rattle.wasm_check_lines.specs.Causes.{cause_of}
+use Rattle.wasm_check_lines.specs.Limits.{word_of}
 use Rattle.wasm_check_lines.specs.FeatureWords.{word_for}
 use Rattle.wasm_check_lines.specs.Shown.{shown}
 use Rattle.wasm_check_lines.specs.Json.{json_text}

@@ -3,10 +3,10 @@ use Rattle.std.specs.Prelude.{ℕ, Bool, false, ◌==◌, ◌||◌, List, [], �
 use Rattle.wasm_types.specs.decoding.ErrorValue.{ErrorValue}
 use Rattle.wasm_types.specs.settings.declared.Limits.{Limits}
 use Rattle.wasm_types.specs.settings.declared.WasmFeatures.{WasmFeatures}
-use Rattle.wasm_refusal_causes.specs.declared.causes.Cause.{Cause}
-use Rattle.wasm_refusal_causes.specs.declared.causes.Cause.TheVariants.{Vectors, Limit, Feature, FixedLimit, Types, Another}
-use Rattle.wasm_refusal_causes.specs.Causes.{cause_of}
-use Rattle.wasm_refusal_causes.specs.Limits.{word_of}
+use Rattle.wasm_check_lines.specs.declared.causes.Cause.{Cause}
+use Rattle.wasm_check_lines.specs.declared.causes.Cause.TheVariants.{Vectors, Limit, Feature, FixedLimit, Types, Another}
+use Rattle.wasm_check_lines.specs.Causes.{cause_of}
+use Rattle.wasm_check_lines.specs.Limits.{word_of}
 use Rattle.wasm_check_lines.specs.FeatureWords.{word_for}
 
 -- a space of the text format: a space, a tab, a line feed or a carriage return (WebAssembly 3.0, 6.2.3)

@@ -4,6 +4,7 @@ ghost use Rattle.std.specs.Prelude.{◌≡◌, ◌++◌, IfOk, option_map, strin
 ghost use Rattle.wasm_check_lines.specs.Forms.{cause_member, error_word, help_members, kind_word, lines_below, refusal_line, refusal_object, refused_text, valid_text};
 ghost use Rattle.wasm_check_lines.specs.Hints.{hint_for};
 
+use crate::causes::{Cause, cause_of};
 use crate::hints::{write_framed, write_hint};
 use crate::json::Quoted;
 use crate::notes::{Explanation, write_explanation, write_explanation_member};
@@ -11,7 +12,6 @@ use crate::shown::Shown;
 use crate::words::word_for;
 use std::alloc::{AllocError, Global};
 use std::fmt;
-use wasm_refusal_causes::{Cause, cause_of};
 use wasm_types::{Error, ErrorKind, Limits};
 
 /// How verdicts are written.

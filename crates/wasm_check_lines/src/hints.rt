@@ -1,12 +1,13 @@
 //! What a person can do about a refusal.
 ghost use Rattle.std.specs.Fmt.{WritesOnOk};
 ghost use Rattle.std.specs.Prelude.{◌≡◌, Some, bytes_eq, take, codes, option_map};
-ghost use Rattle.wasm_refusal_causes.specs.Limits.{word_of};
+ghost use Rattle.wasm_check_lines.specs.Limits.{word_of};
 ghost use Rattle.wasm_check_lines.specs.Hints.{feature_hint, features_hint, framed, hint_for, is_space, is_text, limit_hint, text_hint};
 
+use crate::causes::Cause;
+use crate::limit::Limit;
 use crate::words::word_for;
 use std::fmt;
-use wasm_refusal_causes::{Cause, Limit};
 use wasm_types::WasmFeatures;
 
 // Whether a byte is a space of the text format.

@@ -2,10 +2,9 @@
 //!
 //! Most limits are told by the message alone. No message begins with a text that a module chose, so how it begins tells which limit it is.
 ghost use Rattle.std.specs.Prelude.{◌≡◌};
-ghost use Rattle.wasm_refusal_causes.specs.Causes.{begins, type_fronts, entity_fronts, segment_fronts, content_fronts, meant_by};
-ghost use Rattle.wasm_refusal_causes.specs.Causes.{single_limit, limit_meant, allowing, kind_feature, message_feature, feature_lacking};
-ghost use Rattle.wasm_refusal_causes.specs.Causes.{message_cause, limit_cause, cause_of};
-ghost use Rattle.wasm_refusal_causes.specs.CauseRows.{CauseRows};
+ghost use Rattle.wasm_check_lines.specs.Causes.{begins, type_fronts, entity_fronts, segment_fronts, content_fronts, meant_by};
+ghost use Rattle.wasm_check_lines.specs.Causes.{single_limit, limit_meant, allowing, kind_feature, message_feature, feature_lacking};
+ghost use Rattle.wasm_check_lines.specs.Causes.{message_cause, limit_cause, cause_of};
 
 use crate::limit::Limit;
 use bitflags::Flags;
@@ -298,9 +297,3 @@ pub fn cause_of(limits: &Limits, error: &Error) -> Cause
         message,
     )
 }
-
-/// Worked errors, and the cause of each.
-#[tactic(auto, using(crate::proofs::Rows::cause_rows))]
-pub const fn causes_are_told()
-    ensures { CauseRows }
-{}

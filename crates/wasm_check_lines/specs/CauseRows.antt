@@ -4,10 +4,10 @@ use Rattle.wasm_types.specs.decoding.ErrorValue.{ErrorValue}
 use Rattle.wasm_types.specs.decoding.declared.error.ErrorKind.TheVariants.{Other, MissingFeature}
 use Rattle.wasm_types.specs.settings.Limits.{default_limits}
 use Rattle.wasm_types.specs.settings.declared.WasmFeatures.{WasmFeatures}
-use Rattle.wasm_refusal_causes.specs.declared.limit.Limit.TheVariants as limits
-use Rattle.wasm_refusal_causes.specs.declared.causes.Cause.{Cause}
-use Rattle.wasm_refusal_causes.specs.declared.causes.Cause.TheVariants as causes
-use Rattle.wasm_refusal_causes.specs.Causes.{cause_of, kind_feature}
+use Rattle.wasm_check_lines.specs.declared.limit.Limit.TheVariants as limits
+use Rattle.wasm_check_lines.specs.declared.causes.Cause.{Cause}
+use Rattle.wasm_check_lines.specs.declared.causes.Cause.TheVariants as causes
+use Rattle.wasm_check_lines.specs.Causes.{cause_of, kind_feature}
 
 -- an error of content, with this message
 abbrev pub other_by : List ℕ → ErrorValue

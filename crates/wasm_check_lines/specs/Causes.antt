@@ -8,10 +8,10 @@ use Rattle.wasm_types.specs.decoding.declared.error.ErrorKind.TheVariants.{EndOf
 use Rattle.wasm_types.specs.settings.Features.{mask, ReferenceTypes, MultiMemory, BulkMemory, ComponentModel}
 use Rattle.wasm_types.specs.settings.declared.Limits.{Limits}
 use Rattle.wasm_types.specs.settings.declared.WasmFeatures.{WasmFeatures}
-use Rattle.wasm_refusal_causes.specs.declared.limit.Limit.{Limit}
-use Rattle.wasm_refusal_causes.specs.declared.limit.Limit.TheVariants as limits
-use Rattle.wasm_refusal_causes.specs.declared.causes.Cause.{Cause}
-use Rattle.wasm_refusal_causes.specs.declared.causes.Cause.TheVariants as causes
+use Rattle.wasm_check_lines.specs.declared.limit.Limit.{Limit}
+use Rattle.wasm_check_lines.specs.declared.limit.Limit.TheVariants as limits
+use Rattle.wasm_check_lines.specs.declared.causes.Cause.{Cause}
+use Rattle.wasm_check_lines.specs.declared.causes.Cause.TheVariants as causes
 
 -- the message begins so
 abbrev pub begins : List ℕ → List ℕ → Bool

@@ -1,6 +1,6 @@
 //! The limits that a caller chooses, by name.
 ghost use Rattle.std.specs.Prelude.{◌≡◌, ◌<◌};
-ghost use Rattle.wasm_refusal_causes.specs.Limits.{place_of, word_of};
+ghost use Rattle.wasm_check_lines.specs.Limits.{place_of, word_of};
 
 /// A limit that a caller chooses: the field of `Limits` of this name. They are in the order of the fields.
 #[derive(Clone, Copy, Debug)]

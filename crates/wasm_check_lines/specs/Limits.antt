@@ -1,7 +1,7 @@
 -- The limits that a caller chooses: their words in `--limits`, and their places among the fields of `Limits`.
 use Rattle.std.specs.Prelude.{ℕ, List, codes}
-use Rattle.wasm_refusal_causes.specs.declared.limit.Limit.{Limit}
-use Rattle.wasm_refusal_causes.specs.declared.limit.Limit.TheVariants as limits
+use Rattle.wasm_check_lines.specs.declared.limit.Limit.{Limit}
+use Rattle.wasm_check_lines.specs.declared.limit.Limit.TheVariants as limits
 
 abbrev pub word_of : Limit → List ℕ
 word_of limits.Types = codes "types"

@@ -1,8 +1,8 @@
 -- The worked rows, each by computing it.
 use Rattle.std.proofs.Common.{refl}
 use Rattle.wasm_types.specs.settings.Limits.{default_limits}
-use Rattle.wasm_refusal_causes.specs.Causes.{cause_of, feature_lacking, limit_meant}
-use Rattle.wasm_refusal_causes.specs.CauseRows.{CauseRows}
+use Rattle.wasm_check_lines.specs.Causes.{cause_of, feature_lacking, limit_meant}
+use Rattle.wasm_check_lines.specs.CauseRows.{CauseRows}
 
 pub cause_rows : CauseRows
 unfolding cause_of limit_meant feature_lacking default_limits
