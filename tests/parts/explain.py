@@ -76,6 +76,16 @@ EXPLAINED = [
         "--limits locals=N sets this limit", "in the code section, function 0", "of type (func)", "its locals are misspelt or too many",
         "rules: WebAssembly 3.0, appendix, implementation limitations"],
         {**PLAIN, "body": "locals unread"}),
+    ("mixed.wasm", ["--limits=locals=1"], "0x0: too many locals: locals exceed maximum", [
+        "--limits locals=N sets this limit", "in the code section, function 2 `mix`", "of type (param i32 i64) (result f32)",
+        "its parameters are more than it may have locals", "rules: WebAssembly 3.0, appendix, implementation limitations"],
+        {"section": "code", "function": 2, "name": "mix", "params": ["i32", "i64"], "results": ["f32"], "body": "params refused"}),
+    ("fill.wasm", [], "0x22: type mismatch: expected i32, found i64", [
+        "in the code section, function 0", "of type (func)", "operator 3 of the body, memory.fill at 0x22",
+        "it takes 3 operands, top first: i32 i32 i32; gives 0", "on the stack of the function, top first: i32 i64 i32", RULES],
+        {**PLAIN, "operator": "memory.fill", "operator_number": 3, "operator_offset": 0x22,
+        "takes": ["i32", "i32", "i32"], "takes_count": 3, "gives": [], "gives_count": 0,
+        "frame": "function", "unreachable": False, "stack": ["i32", "i64", "i32"], "stack_height": 3, "stack_below": 0}),
     ("refs.wasm", [], "0x24: type mismatch: expected (ref null $type), found (ref null $type)", [
         "in the code section, function 0", "of type (param (ref null 0)) (result (ref null 1))", "operator 1 of the body, end at 0x24",
         "it takes 1 operand, top first: (ref null 1); gives 1", "on the stack of the function, top first: (ref null 0)", RULES],

@@ -229,6 +229,14 @@ fn type_at(
     Ok(Some(signature))
 }
 
+/// Whether a function takes more parameters than it may have locals by these limits.
+fn takes_too_many(function: &FuncToValidate<ValidatorResources>, limits: Limits) -> bool {
+    match function_at(&function.resources, function.ty) {
+        Some(ty) => ty.params().len() > limits.locals as usize,
+        None => false,
+    }
+}
+
 /// What is known of a function whose body has this offset.
 fn known_of(
     alloc: Global,
@@ -242,6 +250,10 @@ fn known_of(
     ensures { IfOk result (λ k. BeginsBy offset k.inside.operator) }
 {
     let signature = type_at(alloc, types, &function.resources, function.ty)?;
+    if takes_too_many(&function, limits) {
+        let inside = Inside::noted(Found::Rule, Note::ParamsRefused);
+        return Ok(KnownBody { signature, inside });
+    }
     let mut function = function;
     function.limits = limits;
     let inside = match function.into_validator(FuncValidatorAllocations::new(alloc)) {
@@ -304,19 +316,59 @@ fn take_payload(
     }
 }
 
+/// A validator that was told of nothing yet.
+fn new_validator(judged: Judged<'_>) -> Validator
+    requires within { IsWithinCeilings judged.limits }
+{
+    let id = ValidatorId::new(0);
+    Validator::new_with_limits(judged.alloc, id, judged.features, judged.limits)
+}
+
+/// Tells the validator of a payload. Where it begins, if it is the body of a function that takes more parameters than it may have locals.
+fn take_overfull(
+    judged: Judged<'_>,
+    validator: &mut Validator,
+    payload: Payload<'_>,
+) -> Option<u64> {
+    let body = match payload {
+        Payload::CodeSectionEntry(body) => body,
+        other => {
+            pass(validator, other);
+            return None;
+        }
+    };
+    let Ok(function) = validator.code_section_entry(&body) else {
+        return None;
+    };
+    if takes_too_many(&function, judged.limits) {
+        return Some(body.range().start);
+    }
+    None
+}
+
+/// Where the first body begins whose function takes more parameters than it may have locals, if there is one.
+pub(crate) fn find_overfull(judged: Judged<'_>) -> Option<u64>
+    requires within { IsWithinCeilings judged.limits }
+{
+    let mut validator = new_validator(judged);
+    for payload in payloads(judged) {
+        let Ok(payload) = payload else {
+            return None;
+        };
+        if let Some(start) = take_overfull(judged, &mut validator, payload) {
+            return Some(start);
+        }
+    }
+    None
+}
+
 /// What a validator knows of the function in whose body this offset is, as far as the operator there; nothing if it refuses what comes
 /// before the body.
 pub(crate) fn find_in_body(judged: Judged<'_>, offset: u64) -> Result<Option<KnownBody>, AllocError>
     requires within { IsWithinCeilings judged.limits }
     ensures { IfOk result (λ r. IfSome r (λ k. BeginsBy offset k.inside.operator)) }
 {
-    let id = ValidatorId::new(0);
-    let mut validator = Validator::new_with_limits(
-        judged.alloc,
-        id,
-        judged.features,
-        judged.limits,
-    );
+    let mut validator = new_validator(judged);
     for payload in payloads(judged) {
         let Ok(payload) = payload else {
             return Ok(None);

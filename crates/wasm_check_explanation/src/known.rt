@@ -129,6 +129,28 @@ pub(crate) fn address_in(
     Some(index_type(memory.memory64))
 }
 
+/// The type of a length within two tables.
+pub(crate) fn length_in_tables(
+    validator: &FuncValidator<ValidatorResources>,
+    first_index: u32,
+    second_index: u32,
+) -> Option<ValType> {
+    let first = validator.resources().table_at(first_index)?;
+    let second = validator.resources().table_at(second_index)?;
+    Some(index_type(first.table64 && second.table64))
+}
+
+/// The type of a length within two memories.
+pub(crate) fn length_in_memories(
+    validator: &FuncValidator<ValidatorResources>,
+    first_index: u32,
+    second_index: u32,
+) -> Option<ValType> {
+    let first = validator.resources().memory_at(first_index)?;
+    let second = validator.resources().memory_at(second_index)?;
+    Some(index_type(first.memory64 && second.memory64))
+}
+
 /// The type of a global.
 pub(crate) fn global_at(
     validator: &FuncValidator<ValidatorResources>,

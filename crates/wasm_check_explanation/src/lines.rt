@@ -75,6 +75,9 @@ fn signature_line(alloc: Global, signature: &Signature) -> Result<String, AllocE
 /// What is wrong with a body beside its operators.
 fn note_line(alloc: Global, note: Note) -> Result<String, AllocError> {
     match note {
+        Note::ParamsRefused => {
+            String::from_str(alloc, "its parameters are more than it may have locals")
+        }
         Note::LocalsUnread => String::from_str(alloc, "its locals are misspelt or too many"),
         Note::LocalsRefused => String::from_str(
             alloc,

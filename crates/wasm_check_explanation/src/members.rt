@@ -127,6 +127,7 @@ fn add_frame(alloc: Global, frame: OpenFrame, members: &mut Vec<Member>) -> Resu
 /// Adds what is wrong with a body beside its operators.
 fn add_note(alloc: Global, note: Note, members: &mut Vec<Member>) -> Result<(), AllocError> {
     match note {
+        Note::ParamsRefused => add_word(alloc, "body", "params refused", members),
         Note::LocalsUnread => add_word(alloc, "body", "locals unread", members),
         Note::LocalsRefused => add_word(alloc, "body", "locals refused", members),
         Note::EndsWithin(name) => {

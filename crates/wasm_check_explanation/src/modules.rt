@@ -1,9 +1,9 @@
 //! Where in a module the fault is.
 ghost use Rattle.std.specs.Prelude.{◌≡◌, IfOk, IfSome, None};
 ghost use Rattle.wasm_types.specs.settings.Limits.{IsWithinCeilings};
-ghost use Rattle.wasm_check_explanation.specs.Places.{BeginsBy, IsIn, IsPlaceOf};
+ghost use Rattle.wasm_check_explanation.specs.Places.{BeginsBy, IsEmpty, IsIn, IsPlaceOf};
 
-use crate::bodies::{Found, Inside, KnownBody, find_in_body};
+use crate::bodies::{Found, Inside, KnownBody, find_in_body, find_overfull};
 use crate::items::{Spot, spot_of};
 use crate::judged::{Judged, payloads};
 use crate::names::name_of;
@@ -11,7 +11,7 @@ use crate::passed::Passed;
 use crate::place::{Function, Offsets, Place, Signature};
 use crate::sections::{Part, offsets_of, part_of};
 use std::alloc::{AllocError, Global};
-use wasm_check_lines::{Cause, cause_of};
+use wasm_check_lines::{Cause, Limit, cause_of};
 use wasm_sections::Payload;
 use wasm_types::{Error, Limits, WasmFeatures};
 
@@ -181,6 +181,42 @@ fn place_at(judged: Judged<'_>, offset: u64) -> Result<Place, AllocError>
     Ok(rest_place(passed, offset))
 }
 
+/// The place of a fault that is at no byte: the body of the first function that takes more parameters than it may have locals.
+fn overfull_place(judged: Judged<'_>) -> Result<Option<Place>, AllocError>
+    requires within { IsWithinCeilings judged.limits }
+    ensures { IfOk result (λ r. IfSome r IsEmpty) }
+{
+    let Some(start) = find_overfull(judged) else {
+        return Ok(None);
+    };
+    let mut place = place_at(judged, start)?;
+    place.range = None;
+    place.item = None;
+    place.operator = None;
+    Ok(Some(place))
+}
+
+/// Whether a fault for this cause at this offset is at no byte: parameters are refused at the offset 0, where the header is.
+fn is_at_no_byte(cause: Cause, offset: u64) -> bool {
+    match cause {
+        Cause::Limit(Limit::Locals) => offset == 0,
+        _ => false,
+    }
+}
+
+/// The place of a fault for this cause at this offset.
+fn place_of(judged: Judged<'_>, cause: Cause, offset: u64) -> Result<Place, AllocError>
+    requires within { IsWithinCeilings judged.limits }
+    ensures { IfOk result (IsPlaceOf offset) }
+{
+    if is_at_no_byte(cause, offset) {
+        if let Some(place) = overfull_place(judged)? {
+            return Ok(place);
+        }
+    }
+    place_at(judged, offset)
+}
+
 /// What is known of the place of the fault in these bytes, which were refused by this error under these features and limits.
 ///
 /// # Errors
@@ -202,8 +238,9 @@ pub fn explain(
         limits,
         bytes,
     };
-    let mut place = place_at(judged, error.offset())?;
-    match cause_of(&limits, error) {
+    let cause = cause_of(&limits, error);
+    let mut place = place_of(judged, cause, error.offset())?;
+    match cause {
         Cause::Limit(_) => place.chapter = LIMITS,
         Cause::FixedLimit => place.chapter = LIMITS,
         _ => (),

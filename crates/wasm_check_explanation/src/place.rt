@@ -86,6 +86,8 @@ pub struct OpenFrame {
 /// What is wrong with a body beside its operators.
 #[derive(Clone, Copy)]
 pub enum Note {
+    /// Its function takes more parameters than it may have locals.
+    ParamsRefused,
     /// Its locals cannot be read.
     LocalsUnread,
     /// Its locals are refused.

@@ -5,8 +5,8 @@
 
 use crate::known::{
     address_in, carried_by, element_of, field_at, fields_at, global_at, item_of, label_at,
-    outermost_results, params_of_block, params_of_type, place_in, reference_to, results_at,
-    type_of_function, value_of,
+    length_in_memories, length_in_tables, outermost_results, params_of_block, params_of_type,
+    place_in, reference_to, results_at, type_of_function, value_of,
 };
 use crate::numbers::{named_first, taken_by};
 use std::alloc::AllocError;
@@ -210,6 +210,43 @@ fn add_by_table(
     }
 }
 
+/// Adds what an operator takes that fills or copies a part of a table or of a memory.
+fn add_by_bulk(
+    validator: &FuncValidator<ValidatorResources>,
+    op: &BulkOperator,
+    types: &mut Vec<ValType>,
+) -> Result<(), AllocError> {
+    match op {
+        BulkOperator::MemoryInit { mem, .. } => {
+            add(address_in(validator, *mem), types)?;
+            add_times(Some(ValType::I32), 2, types)
+        }
+        BulkOperator::MemoryFill { mem } => {
+            add(address_in(validator, *mem), types)?;
+            add(Some(ValType::I32), types)?;
+            add(address_in(validator, *mem), types)
+        }
+        BulkOperator::MemoryCopy { dst_mem, src_mem } => {
+            add(address_in(validator, *dst_mem), types)?;
+            add(address_in(validator, *src_mem), types)?;
+            add(length_in_memories(validator, *dst_mem, *src_mem), types)
+        }
+        BulkOperator::TableInit { table, .. } => {
+            add(place_in(validator, *table), types)?;
+            add_times(Some(ValType::I32), 2, types)
+        }
+        BulkOperator::TableCopy {
+            dst_table,
+            src_table,
+        } => {
+            add(place_in(validator, *dst_table), types)?;
+            add(place_in(validator, *src_table), types)?;
+            add(length_in_tables(validator, *dst_table, *src_table), types)
+        }
+        _ => Ok(()),
+    }
+}
+
 /// Adds what the fields of the struct type at an index take.
 fn add_fields(
     validator: &FuncValidator<ValidatorResources>,
@@ -313,7 +350,10 @@ pub(crate) fn add_taken(
         Operator::Exception(op) => add_by_exception(validator, op, types),
         Operator::Memory(op) => add_by_memory(validator, op, types),
         Operator::Numeric(op) => add_times(taken_by(op.info().name), takes, types),
-        Operator::Bulk(op) => add_by_table(validator, op, types),
+        Operator::Bulk(op) => {
+            add_by_table(validator, op, types)?;
+            add_by_bulk(validator, op, types)
+        }
         Operator::Gc(op) => {
             add_by_struct(validator, op, types)?;
             add_by_array(validator, op, types)
