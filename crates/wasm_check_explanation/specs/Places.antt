@@ -1,5 +1,5 @@
 -- The place of a fault, and what it has to do with the fault's offset.
-use Rattle.std.specs.Prelude.{◌≡◌, ◌<◌, ◌≤◌, ℕ, Option, Some, None, IfSome}
+use Rattle.std.specs.Prelude.{◌≡◌, ◌<◌, ◌≤◌, ℕ, Option, None, IfSome}
 use Rattle.wasm_check_explanation.specs.declared.place.Place.{Place}
 use Rattle.wasm_check_explanation.specs.declared.place.Offsets.{Offsets}
 use Rattle.wasm_check_explanation.specs.declared.place.Item.{Item}
