@@ -1,5 +1,5 @@
 mod Growing
 mod Keeping
 mod Taking
-mod Naming
+mod Finding
 mod Functions

@@ -39,7 +39,7 @@ fn number(name: &str) -> u64
 }
 
 // The slot of a number among so many, a power of two.
-fn slot(number: u64, slots: usize) -> usize
+pub(crate) fn slot(number: u64, slots: usize) -> usize
     ensures { result ≡ slot_of number slots }
 {
     number as usize & slots.saturating_sub(1)
@@ -67,7 +67,7 @@ fn meet(slots: &[u32], exports: &[NamedExport], name: &str) -> Met
 }
 
 // An index in a slot.
-fn put(slots: &mut Vec<u32>, at: usize, index: u32)
+pub(crate) fn put(slots: &mut Vec<u32>, at: usize, index: u32)
     requires { at < length slots.old.items }
     ensures { IsPut at index slots.old.items slots.new.items }
 {

@@ -1,7 +1,6 @@
 //! A module that was read, and the list of its types, borrowed.
 
-ghost use Rattle.std.specs.Prelude.{◌≡◌, map, IfErr, IfOk};
-ghost use Rattle.wasm_types.specs.decoding.declared.error.ErrorKind.TheVariants.{OutOfMemory};
+ghost use Rattle.std.specs.Prelude.{◌≡◌, map};
 ghost use Rattle.wasm_module_validator_exports.specs.names.Exports.{export_of};
 ghost use Rattle.wasm_module_validator_index_spaces.specs.view.Entities.{export_entities, import_entities};
 
@@ -11,7 +10,6 @@ use crate::view::named::{CoreExports, CoreImports};
 use std::marker::Model;
 use wasm_module_validator_exports::names::{Imports, NamedExport};
 use wasm_module_validator_type_list::TypeList;
-use wasm_types::Result;
 
 /// What a validator learned of a module, borrowed: its index spaces, its imports and exports, and the list of its types. `types[id]` is
 /// the type of an id.
@@ -75,17 +73,11 @@ impl<'a> TypesRef<'a> {
     }
 
     /// The imports, each by the name of its module and its own name, with what it is: pairs of names in the order in which they came
-    /// first, and all imports of one pair together. They are grouped by their names here, which takes memory.
-    ///
-    /// # Errors
-    ///
-    /// Memory is refused.
-    pub fn core_imports(&self) -> Result<CoreImports<'a>>
-        ensures told { IfOk result (λ all. all ≡ import_entities self.now.spaces self.now.imports) }
-        ensures refused { IfErr result (λ e. e.kind ≡ OutOfMemory) }
+    /// first, and all imports of one pair together. It takes no memory.
+    pub fn core_imports(&self) -> CoreImports<'a>
+        ensures { result ≡ import_entities self.now.spaces self.now.imports }
     {
-        let names = self.imports.grouped()?;
-        Ok(CoreImports::new(self.module, names))
+        CoreImports::new(self.module, self.imports)
     }
 
     /// The exports in their order, each by its name with what it is.
