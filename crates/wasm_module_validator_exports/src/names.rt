@@ -7,10 +7,11 @@
 mod exports;
 mod groups;
 mod imports;
+mod kept;
 pub mod laws;
 mod slots;
 
-pub use exports::{Exports, NamedExport};
+pub use exports::{Exports, NamedExport, NamedExports};
 pub use groups::NamedImports;
 pub use imports::{Imports, Place};
 pub use slots::Tried;

@@ -1,15 +1,14 @@
 //! A module that was read, and the list of its types, borrowed.
 
-ghost use Rattle.std.specs.Prelude.{◌≡◌, map, IfErr, IfOk};
+ghost use Rattle.std.specs.Prelude.{◌≡◌, IfErr, IfOk};
 ghost use Rattle.wasm_types.specs.decoding.declared.error.ErrorKind.TheVariants.{OutOfMemory};
-ghost use Rattle.wasm_module_validator_exports.specs.names.Exports.{export_of};
 ghost use Rattle.wasm_module_validator_index_spaces.specs.view.Entities.{export_entities, import_entities};
 
 use crate::Module;
 use crate::view::ValidatorId;
 use crate::view::named::{CoreExports, CoreImports};
 use std::marker::Model;
-use wasm_module_validator_exports::names::{Imports, NamedExport};
+use wasm_module_validator_exports::names::{Exports, Imports};
 use wasm_module_validator_type_list::TypeList;
 use wasm_types::Result;
 
@@ -21,12 +20,10 @@ pub struct TypesRef<'a> {
     pub(crate) types: &'a TypeList,
     pub(crate) module: &'a Module,
     pub(crate) imports: &'a Imports,
-    pub(crate) exports: &'a [NamedExport],
+    pub(crate) exports: &'a Exports,
 }
 
 impl<'a> Model for TypesRef<'a> {
-    ghost use Rattle.std.specs.Prelude.{map};
-    ghost use Rattle.wasm_module_validator_exports.specs.names.Exports.{export_of};
     ghost use Rattle.wasm_module_validator_index_spaces.specs.view.Shown.{Shown};
 
     ghost Value = { Shown };
@@ -36,7 +33,7 @@ impl<'a> Model for TypesRef<'a> {
       groups = r.types.now.groups;
       spaces = r.«module».now;
       imports = r.imports.now;
-      exports = map export_of r.exports.now;
+      exports = r.exports.now;
     } };
 }
 
@@ -48,14 +45,14 @@ impl<'a> TypesRef<'a> {
         types: &'a TypeList,
         module: &'a Module,
         imports: &'a Imports,
-        exports: &'a [NamedExport],
+        exports: &'a Exports,
     ) -> TypesRef<'a>
         ensures { result ≡ record {
           id = id;
           groups = types.now.groups;
           spaces = «module».now;
           imports = imports.now;
-          exports = map export_of exports.now;
+          exports = exports.now;
         } }
     {
         TypesRef {
@@ -92,6 +89,6 @@ impl<'a> TypesRef<'a> {
     pub fn core_exports(&self) -> CoreExports<'a>
         ensures { result ≡ export_entities self.now.spaces self.now.exports }
     {
-        CoreExports::new(self.module, self.exports)
+        CoreExports::new(self.module, self.exports.iter())
     }
 }
