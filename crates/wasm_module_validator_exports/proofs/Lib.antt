@@ -1,4 +1,6 @@
 mod Growing
+mod Kept
+mod Listing
 mod Keeping
 mod Taking
 mod Finding

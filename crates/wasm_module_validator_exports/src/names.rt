@@ -6,10 +6,11 @@
 
 mod exports;
 mod imports;
+mod kept;
 pub mod laws;
 mod pairs;
 mod slots;
 
-pub use exports::{Exports, NamedExport};
+pub use exports::{Exports, NamedExport, NamedExports};
 pub use imports::{Imports, NamedImports, Place};
 pub use slots::Tried;

@@ -1,37 +1,35 @@
 //! Imports and exports by their names, with what they are.
 
 ghost use Rattle.std.specs.Prelude.{◌≡◌, map};
-ghost use Rattle.wasm_module_validator_exports.specs.names.Exports.{export_of};
 ghost use Rattle.wasm_module_validator_index_spaces.specs.view.Entities.{export_entities, import_entities, places_of};
 
 use crate::Module;
 use crate::view::EntityType;
 use crate::view::entity::entity_at;
 use std::marker::Model;
-use wasm_module_validator_exports::names::{Imports, NamedExport, Place};
+use wasm_module_validator_exports::names::{Imports, NamedExports, Place};
 
 /// The exports of a module that are left, in their order, each by its name with what it is. A contract sees them as a list.
 #[derive(Drop)]
 pub struct CoreExports<'a> {
     module: &'a Module,
-    exports: &'a [NamedExport],
+    exports: NamedExports<'a>,
 }
 
 impl<'a> Model for CoreExports<'a> {
-    ghost use Rattle.std.specs.Prelude.{ℕ, List, map};
-    ghost use Rattle.wasm_module_validator_exports.specs.names.Exports.{export_of};
+    ghost use Rattle.std.specs.Prelude.{ℕ, List};
     ghost use Rattle.wasm_module_validator_index_spaces.specs.declared.view.entity.EntityType.{EntityType as Entity};
     ghost use Rattle.wasm_module_validator_index_spaces.specs.view.Entities.{export_entities};
 
     ghost Value = { List (List ℕ × Entity) };
 
-    ghost view = { λ e. export_entities e.«module».now (map export_of e.exports.now) };
+    ghost view = { λ e. export_entities e.«module».now e.exports };
 }
 
 impl<'a> CoreExports<'a> {
     // All of these.
-    pub(crate) fn new(module: &'a Module, exports: &'a [NamedExport]) -> CoreExports<'a>
-        ensures { result ≡ export_entities «module».now (map export_of exports.now) }
+    pub(crate) fn new(module: &'a Module, exports: NamedExports<'a>) -> CoreExports<'a>
+        ensures { result ≡ export_entities «module».now exports.entry }
     {
         CoreExports { module, exports }
     }
@@ -47,10 +45,9 @@ impl<'a> Iterator for CoreExports<'a> {
     ghost remaining = { item_count (λ rest. rest) };
 
     fn next(&mut self) -> Option<(&'a str, EntityType)> {
-        while let Some((export, rest)) = self.exports.split_first() {
-            self.exports = rest;
+        while let Some(export) = self.exports.next() {
             if let Some(ty) = entity_at(self.module, export.kind, export.index) {
-                return Some((export.name.as_str(), ty));
+                return Some((export.name, ty));
             }
         }
         None

@@ -1,14 +1,13 @@
 //! A module that was read, and the list of its types, borrowed.
 
-ghost use Rattle.std.specs.Prelude.{◌≡◌, map};
-ghost use Rattle.wasm_module_validator_exports.specs.names.Exports.{export_of};
+ghost use Rattle.std.specs.Prelude.{◌≡◌};
 ghost use Rattle.wasm_module_validator_index_spaces.specs.view.Entities.{export_entities, import_entities};
 
 use crate::Module;
 use crate::view::ValidatorId;
 use crate::view::named::{CoreExports, CoreImports};
 use std::marker::Model;
-use wasm_module_validator_exports::names::{Imports, NamedExport};
+use wasm_module_validator_exports::names::{Exports, Imports};
 use wasm_module_validator_type_list::TypeList;
 
 /// What a validator learned of a module, borrowed: its index spaces, its imports and exports, and the list of its types. `types[id]` is
@@ -19,12 +18,10 @@ pub struct TypesRef<'a> {
     pub(crate) types: &'a TypeList,
     pub(crate) module: &'a Module,
     pub(crate) imports: &'a Imports,
-    pub(crate) exports: &'a [NamedExport],
+    pub(crate) exports: &'a Exports,
 }
 
 impl<'a> Model for TypesRef<'a> {
-    ghost use Rattle.std.specs.Prelude.{map};
-    ghost use Rattle.wasm_module_validator_exports.specs.names.Exports.{export_of};
     ghost use Rattle.wasm_module_validator_index_spaces.specs.view.Shown.{Shown};
 
     ghost Value = { Shown };
@@ -34,7 +31,7 @@ impl<'a> Model for TypesRef<'a> {
       groups = r.types.now.groups;
       spaces = r.«module».now;
       imports = r.imports.now;
-      exports = map export_of r.exports.now;
+      exports = r.exports.now;
     } };
 }
 
@@ -46,14 +43,14 @@ impl<'a> TypesRef<'a> {
         types: &'a TypeList,
         module: &'a Module,
         imports: &'a Imports,
-        exports: &'a [NamedExport],
+        exports: &'a Exports,
     ) -> TypesRef<'a>
         ensures { result ≡ record {
           id = id;
           groups = types.now.groups;
           spaces = «module».now;
           imports = imports.now;
-          exports = map export_of exports.now;
+          exports = exports.now;
         } }
     {
         TypesRef {
@@ -84,6 +81,6 @@ impl<'a> TypesRef<'a> {
     pub fn core_exports(&self) -> CoreExports<'a>
         ensures { result ≡ export_entities self.now.spaces self.now.exports }
     {
-        CoreExports::new(self.module, self.exports)
+        CoreExports::new(self.module, self.exports.iter())
     }
 }
