@@ -16,8 +16,10 @@ use Rattle.wasm_module_validator_exports.specs.declared.names.pairs.Sought.{Soug
 use Rattle.wasm_module_validator_exports.specs.declared.names.pairs.Sought.TheVariants as sought
 use Rattle.wasm_module_validator_exports.specs.names.Exports.{IsPut, slot_of}
 use Rattle.wasm_module_validator_exports.specs.declared.names.imports.KeptNames.{KeptNames}
-use Rattle.wasm_module_validator_exports.specs.names.Imports.{Pair, all_named, module_at, name_at, number_of, pairs_of, is_pair, index_of, slot_for, in_slot, is_there, stands_at, IsFree, HasMet, compare_names, find_names, HasSought, found, Finds, IsBehind, Holds, HasSettled}
+use Rattle.wasm_module_validator_exports.specs.names.Imports.{Pair, all_named, module_at, number_of, pairs_of, is_pair, index_of, slot_for, in_slot, is_there, stands_at, IsFree, HasMet, compare_names, find_names, HasSought, found, Finds, IsBehind, Holds, HasSettled}
+use Rattle.wasm_module_validator_exports.specs.names.Kept.{name_at}
 use Rattle.wasm_module_validator_exports.proofs.Keeping.{pair_at, read}
+use Rattle.wasm_module_validator_exports.proofs.Taking.{within}
 
 abbrev Key : Type 0
 Key = String Global × String Global
@@ -145,12 +147,6 @@ module _ (slots : List ℕ) (others : Others) (ps : List Pair) (m f : List ℕ) 
   new_by_slot q at free =
       let here = free_here q at free in
       by_map (free_for_all m f ps (in_slot slots m f) here.0 here.1 here.2) ∙ h.1 m f here
-
--- a slot that is there
-pub within : (xs : List ℕ) (q x : ℕ) → slice_get xs q ≡ Some x → q < length xs
-within [] q x e = absurd cc
-within (y ∷ ys) zero x e = omega arith
-within (y ∷ ys) (suc q) x e = let l = within ys q x e in omega (arith, l)
 
 module _ (old new : List ℕ) (others : Others) (ps : List Pair) (m f : List ℕ) (q i : ℕ) (at : q ≡ slot_for m f (length old)) (last : i ≡ length ps)
     (free : IsFree old ps q) (put : IsPut q i old new) (h : Holds old others ps) where
@@ -350,20 +346,20 @@ module _ (slots : List ℕ) (ms : List (String Global)) (t : List ℕ) (ks : Lis
   leads : in_slot slots m f ≡ Some x
   leads = ap (λ (w : ℕ). slice_get slots (slot_of w (length slots))) (sym number) ∙ ap (slice_get slots) (sym at) ∙ read slots q x inside was
 
-  stands_here : slice_get all x ≡ Some (module_at ms k.«module», name_at t k)
-  stands_here = pair_at ms t ks x ∙ ap (option_map (λ (j : KeptNames). (module_at ms j.«module», name_at t j))) (read ks x k beyond there)
+  stands_here : slice_get all x ≡ Some (module_at ms k.«module», name_at t k.name)
+  stands_here = pair_at ms t ks x ∙ ap (option_map (λ (j : KeptNames). (module_at ms j.«module», name_at t j.name))) (read ks x k beyond there)
 
-  pub leads_to : (b : Bool) → b ≡ is_pair m f (module_at ms k.«module», name_at t k) → (in_slot slots m f ≡ Some x) × (stands_at m f all (Some x) ≡ b)
+  pub leads_to : (b : Bool) → b ≡ is_pair m f (module_at ms k.«module», name_at t k.name) → (in_slot slots m f ≡ Some x) × (stands_at m f all (Some x) ≡ b)
   leads_to b same = (leads, ap (is_there m f) stands_here ∙ sym same)
 
-  pub not_led : false ≡ is_pair m f (module_at ms k.«module», name_at t k) → stands_at m f all (in_slot slots m f) ≡ false
+  pub not_led : false ≡ is_pair m f (module_at ms k.«module», name_at t k.name) → stands_at m f all (in_slot slots m f) ≡ false
   not_led same = ap (stands_at m f all) leads ∙ ap (is_there m f) stands_here ∙ sym same
 
   -- where a pair stands its slot is not free
   pub not_free : IsFree slots all (slot_for m f (length slots)) → ⊥
   not_free (y, is, free) =
       let same : x ≡ y = ap (λ (o : Option ℕ). unwrap_or o x) (sym leads ∙ is) in
-      let some : slice_get all y ≡ Some (module_at ms k.«module», name_at t k)
-      = subst (λ (w : ℕ). slice_get all w ≡ Some (module_at ms k.«module», name_at t k)) same stands_here in
-      let bad : None ≡ Some (module_at ms k.«module», name_at t k) = sym free ∙ some in
+      let some : slice_get all y ≡ Some (module_at ms k.«module», name_at t k.name)
+      = subst (λ (w : ℕ). slice_get all w ≡ Some (module_at ms k.«module», name_at t k.name)) same stands_here in
+      let bad : None ≡ Some (module_at ms k.«module», name_at t k.name) = sym free ∙ some in
       cc

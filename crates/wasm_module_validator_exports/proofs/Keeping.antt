@@ -8,7 +8,9 @@ use Rattle.std.specs.Cmp.Lexicographic.{bytes_decides}
 use Rattle.std.proofs.lemmas.List.{length_push, length-append, length-drop, length-map, map-append, drop-append-le, take-append-le, take_all, take_more}
 use Rattle.wasm_module_validator_exports.specs.declared.names.imports.Place.{Place}
 use Rattle.wasm_module_validator_exports.specs.declared.names.imports.KeptNames.{KeptNames}
-use Rattle.wasm_module_validator_exports.specs.names.Imports.{AreKept, HasAdded, HasKept, HasKeptNames, HasPushed, ImportedName, StaysKept, IsNamed, Pair, all_named, has_names, index_of, is_pair, module_at, module_name_of, name_at, named_at, pairs_of, with_import}
+use Rattle.wasm_module_validator_exports.specs.names.Imports.{AreKept, HasAdded, HasKept, HasKeptNames, HasPushed, ImportedName, StaysKept, Pair, all_named, has_names, index_of, is_pair, module_at, module_name_of, named_at, pairs_of, with_import}
+use Rattle.wasm_module_validator_exports.specs.names.Kept.{IsNamed, name_at}
+use Rattle.wasm_module_validator_exports.proofs.Kept.{last_name, last_named, name_still, named_still}
 
 -- what stands at an index that is there
 pub read : {A : Type 0} (xs : List A) (i : ℕ) (x : A) → i < length xs → x ≡ get_or xs i x → slice_get xs i ≡ Some x
@@ -26,13 +28,13 @@ module_still (m ∷ ms) t (suc x) l = module_still ms t x (omega (arith, l))
 named_with : KeptNames → List ℕ → List ℕ → ImportedName
 named_with k m f = record { module_name = m; field_name = f; places = k.first ∷ k.others.items }
 
-named_still : (ms : List (String Global)) (t : String Global) (names : List ℕ) (ks : List KeptNames) → AreKept ms names ks
+all_still : (ms : List (String Global)) (t : String Global) (names : List ℕ) (ks : List KeptNames) → AreKept ms names ks
     → all_named (ms ++ t ∷ []) names ks ≡ all_named ms names ks
-named_still ms t names [] h = refl
-named_still ms t names (k ∷ ks) h =
+all_still ms t names [] h = refl
+all_still ms t names (k ∷ ks) h =
     let here = module_still ms t k.«module» h.0 in
-    let rest = named_still ms t names ks h.2 in
-    λ i. record { module_name = here i; field_name = name_at names k; places = k.first ∷ k.others.items } ∷ rest i
+    let rest = all_still ms t names ks h.2 in
+    λ i. record { module_name = here i; field_name = name_at names k.name; places = k.first ∷ k.others.items } ∷ rest i
 
 kept_still : (ms : List (String Global)) (t : String Global) (names : List ℕ) (ks : List KeptNames) → AreKept ms names ks → AreKept (ms ++ t ∷ []) names ks
 kept_still ms t names [] h = tt
@@ -43,7 +45,7 @@ module _ (m : List ℕ) (old new : List (String Global)) (t : List ℕ) (ks : Li
   pub same_named : (r : Option ℕ) → HasKept m old new r → AreKept old t ks → all_named new t ks ≡ all_named old t ks
   same_named None e h = ap (λ (ms : List (String Global)). all_named ms t ks) e
   same_named (Some x) s h =
-      ⊎_elim (λ e. ap (λ (ms : List (String Global)). all_named ms t ks) e) (λ e. ap (λ (ms : List (String Global)). all_named ms t ks) e.1 ∙ named_still old e.0 t ks h) s.2
+      ⊎_elim (λ e. ap (λ (ms : List (String Global)). all_named ms t ks) e) (λ e. ap (λ (ms : List (String Global)). all_named ms t ks) e.1 ∙ all_still old e.0 t ks h) s.2
 
   pub kept_further : (r : Option ℕ) → HasKept m old new r → AreKept old t ks → AreKept new t ks
   kept_further None e h = subst (λ (ms : List (String Global)). AreKept ms t ks) (sym e) h
@@ -52,47 +54,17 @@ module _ (m : List ℕ) (old new : List (String Global)) (t : List ℕ) (ks : Li
 
 -- ---- bytes of names more
 
-name_still : (t more : List ℕ) (k : KeptNames) → IsNamed t k → name_at (t ++ more) k ≡ name_at t k
-name_still t more k n =
-    let forward = n.forward in
-    let inside = n.inside in
-    let rest = length-drop k.start t in
-    ap (take (k.end - k.start)) (drop-append-le k.start t more (omega (arith, forward, inside)))
-    ∙ take-append-le (k.end - k.start) (drop k.start t) more (omega (arith, forward, inside, rest))
-
-is_named_still : (t more : List ℕ) (k : KeptNames) → IsNamed t k → IsNamed (t ++ more) k
-is_named_still t more k n =
-    let inside = n.inside in
-    let long = length-append t more in
-    record { forward = n.forward; inside = omega (arith, inside, long); utf8 = subst IsUtf8 (sym (name_still t more k n)) n.utf8 }
-
 module _ (ms : List (String Global)) (t more : List ℕ) where
   named_longer : (ks : List KeptNames) → AreKept ms t ks → all_named ms (t ++ more) ks ≡ all_named ms t ks
   named_longer [] h = refl
   named_longer (k ∷ ks) h =
-      let here = name_still t more k h.1 in
+      let here = name_still t more k.name h.1 in
       let rest = named_longer ks h.2 in
       λ i. record { module_name = module_at ms k.«module»; field_name = here i; places = k.first ∷ k.others.items } ∷ rest i
 
   kept_longer : (ks : List KeptNames) → AreKept ms t ks → AreKept ms (t ++ more) ks
   kept_longer [] h = tt
-  kept_longer (k ∷ ks) h = (h.0, is_named_still t more k h.1, kept_longer ks h.2)
-
-behind_all : (t f : List ℕ) → drop (length t) (t ++ f) ≡ f
-behind_all [] f = refl
-behind_all (x ∷ t) f = behind_all t f
-
--- what was put behind the others is the name
-last_name : (t f : List ℕ) (k : KeptNames) → k.start ≡ length t → k.end ≡ length (t ++ f) → name_at (t ++ f) k ≡ f
-last_name t f k s e =
-    let long = length-append t f in
-    ap (take (k.end - k.start)) (ap (λ (n : ℕ). drop n (t ++ f)) s ∙ behind_all t f)
-    ∙ take_all (k.end - k.start) f (omega (arith, s, e, long))
-
-last_named : (t f : List ℕ) (k : KeptNames) → k.start ≡ length t → k.end ≡ length (t ++ f) → IsUtf8 f → IsNamed (t ++ f) k
-last_named t f k s e u =
-    let long = length-append t f in
-    record { forward = omega (arith, s, e, long); inside = omega (arith, e); utf8 = subst IsUtf8 (sym (last_name t f k s e)) u }
+  kept_longer (k ∷ ks) h = (h.0, named_still t more k.name h.1, kept_longer ks h.2)
 
 -- a name of a module that was met
 pub met_at : (ms : List (String Global)) (x : ℕ) (t : String Global) (m : List ℕ) → x < length ms → t ≡ get_or ms x t → bytes_eq m (string_bytes t) ≡ true → module_at ms x ≡ m
@@ -125,14 +97,14 @@ module _ (m f : List ℕ) (p : Place) (old new : List (String Global)) (t u : Li
   stays_without r s same ks h =
       subst (λ (v : List ℕ). (all_named new v ks ≡ all_named old t ks) × AreKept new v ks) (sym same) (same_named m old new t ks r s h, kept_further m old new t ks r s h)
 
-  pub keeps_names : (k : KeptNames) → HasKept m old new (Some k.«module») → u ≡ t ++ f → IsUtf8 f → k.start ≡ length t → k.end ≡ length u → k.first ≡ p → k.others.items ≡ []
+  pub keeps_names : (k : KeptNames) → HasKept m old new (Some k.«module») → u ≡ t ++ f → IsUtf8 f → k.name.start ≡ length t → k.name.end ≡ length u → k.first ≡ p → k.others.items ≡ []
       → HasKeptNames m f p old new t u (Some k)
   keeps_names k s long utf8 start end first others =
-      let last : k.end ≡ length (t ++ f) = end ∙ ap length long in
-      let field : name_at u k ≡ f = ap (λ (v : List ℕ). name_at v k) long ∙ last_name t f k start last in (
+      let last : k.name.end ≡ length (t ++ f) = end ∙ ap length long in
+      let field : name_at u k.name ≡ f = ap (λ (v : List ℕ). name_at v k.name) long ∙ last_name t f k.name start last in (
         stays_kept (Some k.«module») s long,
         s.0,
-        subst (λ (v : List ℕ). IsNamed v k) (sym long) (last_named t f k start last utf8),
+        subst (λ (v : List ℕ). IsNamed v k.name) (sym long) (last_named t f k.name start last utf8),
         λ i. record { module_name = s.1 i; field_name = field i; places = first i ∷ others i },
       )
 
@@ -211,14 +183,14 @@ index_within m f (p ∷ ps) i e = step (index_within m f ps) (is_pair m f p) ref
 
 -- what is put at an index changes no names, if it has those that stood there
 pub pairs_set : (ms : List (String Global)) (t : List ℕ) (ks : List KeptNames) (at : ℕ) (x y : KeptNames) → slice_get ks at ≡ Some x
-    → module_at ms y.«module» ≡ module_at ms x.«module» → name_at t y ≡ name_at t x → pairs_of (all_named ms t (set ks at y)) ≡ pairs_of (all_named ms t ks)
+    → module_at ms y.«module» ≡ module_at ms x.«module» → name_at t y.name ≡ name_at t x.name → pairs_of (all_named ms t (set ks at y)) ≡ pairs_of (all_named ms t ks)
 pairs_set ms t [] at x y e g h = absurd cc
 pairs_set ms t (z ∷ zs) zero x y e g h =
     let same : z ≡ x = ap (λ o. unwrap_or o z) e in
     let module_same : module_at ms y.«module» ≡ module_at ms z.«module» = g ∙ ap (λ (w : KeptNames). module_at ms w.«module») (sym same) in
-    let name_same : name_at t y ≡ name_at t z = h ∙ ap (name_at t) (sym same) in
+    let name_same : name_at t y.name ≡ name_at t z.name = h ∙ ap (λ (w : KeptNames). name_at t w.name) (sym same) in
     λ i. (module_same i, name_same i) ∷ pairs_of (all_named ms t zs)
-pairs_set ms t (z ∷ zs) (suc i) x y e g h = ap (λ (ps : List Pair). (module_at ms z.«module», name_at t z) ∷ ps) (pairs_set ms t zs i x y e g h)
+pairs_set ms t (z ∷ zs) (suc i) x y e g h = ap (λ (ps : List Pair). (module_at ms z.«module», name_at t z.name) ∷ ps) (pairs_set ms t zs i x y e g h)
 
 -- how many pairs there are
 pub pairs_counted : (ms : List (String Global)) (t : List ℕ) (ks : List KeptNames) → length (pairs_of (all_named ms t ks)) ≡ length ks
@@ -226,7 +198,7 @@ pairs_counted ms t ks = length-map (all_named ms t ks) (λ (n : ImportedName). (
 
 -- the pair that stands at an index
 pub pair_at : (ms : List (String Global)) (t : List ℕ) (ks : List KeptNames) (i : ℕ) → slice_get (pairs_of (all_named ms t ks)) i
-    ≡ option_map (λ (k : KeptNames). (module_at ms k.«module», name_at t k)) (slice_get ks i)
+    ≡ option_map (λ (k : KeptNames). (module_at ms k.«module», name_at t k.name)) (slice_get ks i)
 pair_at ms t [] i = refl
 pair_at ms t (k ∷ ks) zero = refl
 pair_at ms t (k ∷ ks) (suc i) = pair_at ms t ks i
@@ -237,9 +209,9 @@ named_there ms t (k ∷ ks) zero = refl
 named_there ms t (k ∷ ks) (suc i) = named_there ms t ks i
 
 -- what is kept at an index is named
-pub kept_at : (ms : List (String Global)) (t : List ℕ) (ks : List KeptNames) (i : ℕ) (k : KeptNames) → AreKept ms t ks → slice_get ks i ≡ Some k → IsNamed t k
+pub kept_at : (ms : List (String Global)) (t : List ℕ) (ks : List KeptNames) (i : ℕ) (k : KeptNames) → AreKept ms t ks → slice_get ks i ≡ Some k → IsNamed t k.name
 kept_at ms t [] i k h e = absurd cc
-kept_at ms t (x ∷ xs) zero k h e = subst (IsNamed t) (ap (λ o. unwrap_or o x) e) h.1
+kept_at ms t (x ∷ xs) zero k h e = subst (λ (j : KeptNames). IsNamed t j.name) (ap (λ o. unwrap_or o x) e) h.1
 kept_at ms t (x ∷ xs) (suc i) k h e = kept_at ms t xs i k h.2 e
 
 -- some of what is kept is kept
@@ -250,7 +222,7 @@ kept_front ms t (k ∷ ks) (suc i) h = (h.0, h.1, kept_front ms t ks i h.2)
 
 -- a pair further
 pub one_further : (ms : List (String Global)) (t : List ℕ) (ks : List KeptNames) (i : ℕ) (k : KeptNames) → i < length ks → k ≡ get_or ks i k
-    → pairs_of (all_named ms t (take (i + 1) ks)) ≡ pairs_of (all_named ms t (take i ks)) ++ (module_at ms k.«module», name_at t k) ∷ []
+    → pairs_of (all_named ms t (take (i + 1) ks)) ≡ pairs_of (all_named ms t (take i ks)) ++ (module_at ms k.«module», name_at t k.name) ∷ []
 one_further ms t ks i k h r =
     let all : List KeptNames → List Pair = (λ js. pairs_of (all_named ms t js)) in
     ap all (take_more ks i k h) ∙ ap (λ (j : KeptNames). all (take i ks ++ j ∷ [])) (sym r)
@@ -260,18 +232,12 @@ one_further ms t ks i k h r =
 -- ---- what comes to a pair
 
 -- an item is exchanged for one of the same names
-module _ (ms : List (String Global)) (t : List ℕ) (x y : KeptNames) (same_module : y.«module» ≡ x.«module») (same_start : y.start ≡ x.start) (same_end : y.end ≡ x.end) where
+module _ (ms : List (String Global)) (t : List ℕ) (x y : KeptNames) (same_module : y.«module» ≡ x.«module») (same_name : y.name ≡ x.name) where
   module_stays : module_at ms y.«module» ≡ module_at ms x.«module»
   module_stays = ap (module_at ms) same_module
 
-  name_stays : name_at t y ≡ name_at t x
-  name_stays = ap (λ (n : ℕ). take (y.end - n) (drop n t)) same_start ∙ ap (λ (n : ℕ). take (n - x.start) (drop x.start t)) same_end
-
-  named_stays : IsNamed t x → IsNamed t y
-  named_stays n =
-      let forward = n.forward in
-      let inside = n.inside in
-      record { forward = omega (arith, forward, same_start, same_end); inside = omega (arith, inside, same_end); utf8 = subst IsUtf8 (sym name_stays) n.utf8 }
+  name_stays : name_at t y.name ≡ name_at t x.name
+  name_stays = ap (name_at t) same_name
 
   pub kept_set : (ks : List KeptNames) (at : ℕ) → slice_get ks at ≡ Some x → AreKept ms t ks → AreKept ms t (set ks at y)
   kept_set [] at e h = absurd cc
@@ -279,7 +245,7 @@ module _ (ms : List (String Global)) (t : List ℕ) (x y : KeptNames) (same_modu
       let same : z ≡ x = ap (λ o. unwrap_or o z) e in
       let low : z.«module» ≡ x.«module» = ap (λ (k : KeptNames). k.«module») same in
       let short = h.0 in
-      (omega (arith, short, low, same_module), named_stays (subst (IsNamed t) same h.1), h.2)
+      (omega (arith, short, low, same_module), subst (IsNamed t) (ap (λ (k : KeptNames). k.name) same ∙ sym same_name) h.1, h.2)
   kept_set (z ∷ zs) (suc i) e h = (h.0, h.1, kept_set zs i e h.2)
 
   pub pairs_stay : (ks : List KeptNames) (at : ℕ) → slice_get ks at ≡ Some x → pairs_of (all_named ms t (set ks at y)) ≡ pairs_of (all_named ms t ks)
@@ -337,14 +303,14 @@ module _ (m f : List ℕ) (p : Place) (old new : List (String Global)) (t u : Li
 -- what comes to a pair that stands: it is imported by these names besides, where there was memory
 pub comes_at : (m f : List ℕ) (p : Place) (ms : List (String Global)) (t : List ℕ) (ks next : List KeptNames) (at : ℕ) (all : List ImportedName) (b : Bool) → HasPushed at p ks next b
     → index_of m f (pairs_of (all_named ms t ks)) ≡ Some at → all_named ms t ks ≡ all → HasAdded m f p all (all_named ms t next) b
-comes_at m f p ms t ks next at all true (x, y, got, put, mo, st, en, fi, it) e same =
-    ap (all_named ms t) put ∙ (one_comes ms t x y mo st en m f p ks at got fi it e ∙ ap (with_import m f p) same)
-comes_at m f p ms t ks next at all false (x, y, got, put, mo, st, en, fi, it) e same =
-    ap (all_named ms t) put ∙ (all_stay ms t x y mo st en ks at got fi it ∙ same)
+comes_at m f p ms t ks next at all true (x, y, got, put, mo, na, fi, it) e same =
+    ap (all_named ms t) put ∙ (one_comes ms t x y mo na m f p ks at got fi it e ∙ ap (with_import m f p) same)
+comes_at m f p ms t ks next at all false (x, y, got, put, mo, na, fi, it) e same =
+    ap (all_named ms t) put ∙ (all_stay ms t x y mo na ks at got fi it ∙ same)
 
 -- and the names stay
 pub stays_at : (p : Place) (ms : List (String Global)) (t : List ℕ) (ks next : List KeptNames) (at : ℕ) (b : Bool) → HasPushed at p ks next b → AreKept ms t ks
     → AreKept ms t next × (pairs_of (all_named ms t next) ≡ pairs_of (all_named ms t ks))
-stays_at p ms t ks next at b (x, y, got, put, mo, st, en, fi, it) h =
+stays_at p ms t ks next at b (x, y, got, put, mo, na, fi, it) h =
     subst (λ (js : List KeptNames). AreKept ms t js × (pairs_of (all_named ms t js) ≡ pairs_of (all_named ms t ks))) (sym put)
-    (kept_set ms t x y mo st en ks at got h, pairs_stay ms t x y mo st en ks at got)
+    (kept_set ms t x y mo na ks at got h, pairs_stay ms t x y mo na ks at got)

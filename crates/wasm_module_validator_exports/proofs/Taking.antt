@@ -22,6 +22,7 @@ use Rattle.wasm_module_validator_exports.specs.declared.names.slots.Tried.{Tried
 use Rattle.wasm_module_validator_exports.specs.declared.names.slots.Tried.TheVariants as tried
 use Rattle.wasm_module_validator_exports.specs.names.Exports.{AreNamed, IsNew, IsSlotOf, Finds, HasFree, HasMet, HasMetAt, HasNoted, HasSettled, Holds, IsBehind, IsFree, IsPut, beside, exports_of, first_slot, is_name, kept_of, names_of, number_of, slot_of, stands, stands_at, stands_in}
 use Rattle.wasm_module_validator_exports.specs.names.Kept.{IsNamed, name_at}
+use Rattle.wasm_module_validator_exports.proofs.Keeping.{read}
 
 neither : (a b : Bool) → (a || b) ≡ false → (a ≡ false) × (b ≡ false)
 neither false false e = (refl, refl)
@@ -114,12 +115,6 @@ pub within : (xs : List ℕ) (p x : ℕ) → slice_get xs p ≡ Some x → p < l
 within [] p x e = absurd cc
 within (y ∷ ys) zero x e = omega arith
 within (y ∷ ys) (suc p) x e = let l = within ys p x e in omega (arith, l)
-
--- what stands at an index that is there
-pub read : {A : Type 0} (xs : List A) (i : ℕ) (x : A) → i < length xs → x ≡ get_or xs i x → slice_get xs i ≡ Some x
-read [] i x h e = absurd (omega (arith, h))
-read (y ∷ ys) zero x h e = ap Some (sym e)
-read (y ∷ ys) (suc i) x h e = read ys i x (omega (arith, h)) e
 
 -- what a list that grew had
 grown : (names : List (List ℕ)) (n : List ℕ) (x : ℕ) → slice_get (names ++ n ∷ []) x ≡ None → slice_get names x ≡ None

@@ -1,6 +1,6 @@
 -- What is kept of a module's imports, by their names (WebAssembly 3.0, structure, modules, imports). Each pair of names stands once, where
 -- it came first; what is imported by it stands there in the order of the imports.
-use Rattle.std.specs.Prelude.{◌≡◌, ◌<◌, ◌≤◌, ◌-◌, ◌⊎◌, take, drop, IsUtf8, ℕ, suc, Bool, true, false, cond, ◌&&◌, List, [], ◌∷◌, ◌++◌, map, length, set, slice_get, Option, Some, None, option_map, String, string_bytes, if◌then◌else◌}
+use Rattle.std.specs.Prelude.{◌≡◌, ◌<◌, ◌⊎◌, ℕ, suc, Bool, true, false, cond, ◌&&◌, List, [], ◌∷◌, ◌++◌, map, length, set, slice_get, Option, Some, None, option_map, String, string_bytes, if◌then◌else◌}
 use Rattle.std.specs.Str.{bytes_eq}
 use Rattle.std.specs.BTreeMap.{BTreeMap, get_by}
 use Rattle.std.specs.Ordering.{ordering_then, nat_cmp}
@@ -16,6 +16,7 @@ use Rattle.wasm_module_validator_exports.specs.declared.names.pairs.Met.TheVaria
 use Rattle.wasm_module_validator_exports.specs.declared.names.pairs.Sought.{Sought}
 use Rattle.wasm_module_validator_exports.specs.declared.names.pairs.Sought.TheVariants as sought
 use Rattle.wasm_module_validator_exports.specs.names.Exports.{slot_of}
+use Rattle.wasm_module_validator_exports.specs.names.Kept.{IsNamed, name_at}
 
 -- the bytes of the name of a module and of the name of what is imported from it, and what is imported by these names
 pub record ImportedName : Type 0 where
@@ -43,27 +44,17 @@ module_name_of (Some t) = string_bytes t
 abbrev pub module_at : List (String Global) → ℕ → List ℕ
 module_at ms x = module_name_of (slice_get ms x)
 
--- the name of an import, among the bytes of all names
-abbrev pub name_at : List ℕ → KeptNames → List ℕ
-name_at names k = take (k.end - k.start) (drop k.start names)
-
 -- what is kept of a pair of names, and of all
 abbrev pub named_at : List (String Global) → List ℕ → KeptNames → ImportedName
-named_at ms names k = record { module_name = module_at ms k.«module»; field_name = name_at names k; places = k.first ∷ k.others.items }
+named_at ms names k = record { module_name = module_at ms k.«module»; field_name = name_at names k.name; places = k.first ∷ k.others.items }
 
 abbrev pub all_named : List (String Global) → List ℕ → List KeptNames → List ImportedName
 all_named ms names ks = map (named_at ms names) ks
 
--- the name of an import is kept
-pub record IsNamed (names : List ℕ) (k : KeptNames) : Type 0 where
-  pub forward : k.start ≤ k.end
-  pub inside : k.end ≤ length names
-  pub utf8 : IsUtf8 (name_at names k)
-
 -- the name of each import is kept, and that of its module
 abbrev pub AreKept : List (String Global) → List ℕ → List KeptNames → Type 0
 AreKept ms names [] = Unit {0}
-AreKept ms names (k ∷ ks) = (k.«module» < length ms) × IsNamed names k × AreKept ms names ks
+AreKept ms names (k ∷ ks) = (k.«module» < length ms) × IsNamed names k.name × AreKept ms names ks
 
 -- the name of a module stands at the index that is told, and behind those before it where it is kept anew
 abbrev pub HasKept : List ℕ → List (String Global) → List (String Global) → Option ℕ → Type 0
@@ -77,13 +68,13 @@ StaysKept old new t u = (ks : List KeptNames) → AreKept old t ks → (all_name
 -- the names of a pair of one import are kept behind those before, where there was memory
 abbrev pub HasKeptNames : List ℕ → List ℕ → Place → List (String Global) → List (String Global) → List ℕ → List ℕ → Option KeptNames → Type 0
 HasKeptNames m f p old new t u None = StaysKept old new t u
-HasKeptNames m f p old new t u (Some k) = StaysKept old new t u × (k.«module» < length new) × IsNamed u k
+HasKeptNames m f p old new t u (Some k) = StaysKept old new t u × (k.«module» < length new) × IsNamed u k.name
     × (named_at new u k ≡ record { module_name = m; field_name = f; places = p ∷ [] })
 
 -- one more is imported by the pair at an index, where there was memory; else it is as it was
 abbrev pub HasPushed : ℕ → Place → List KeptNames → List KeptNames → Bool → Type 0
 HasPushed at p old new b = (x : KeptNames) × (y : KeptNames) × (slice_get old at ≡ Some x) × (new ≡ set old at y) × (y.«module» ≡ x.«module»)
-    × (y.start ≡ x.start) × (y.end ≡ x.end) × (y.first ≡ x.first) × (y.others.items ≡ (if b then x.others.items ++ p ∷ [] else x.others.items))
+    × (y.name ≡ x.name) × (y.first ≡ x.first) × (y.others.items ≡ (if b then x.others.items ++ p ∷ [] else x.others.items))
 
 -- an import more where there was memory
 abbrev pub HasAdded : List ℕ → List ℕ → Place → List ImportedName → List ImportedName → Bool → Type 0

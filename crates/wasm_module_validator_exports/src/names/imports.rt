@@ -2,14 +2,14 @@
 
 ghost use Rattle.std.specs.Prelude.{◌≡◌, ◌++◌, ◌∷◌, ◌-◌, ◌<◌, ◌^◌, [], length, vec_len, vec_capacity, IfSome, option_map, slice_get, IfErr, OnErr, OnOk};
 ghost use Rattle.wasm_types.specs.decoding.declared.error.ErrorKind.TheVariants.{OutOfMemory};
-ghost use Rattle.wasm_module_validator_exports.specs.names.Imports.{AreKept, HasAdded, HasKept, HasKeptNames, HasPushed, Holds, IsNamed, all_named, module_at, name_at, named_of, pairs_of, with_import};
+ghost use Rattle.wasm_module_validator_exports.specs.names.Imports.{AreKept, HasAdded, HasKept, HasKeptNames, HasPushed, Holds, all_named, module_at, named_of, pairs_of, with_import};
 
+use crate::names::kept::{KeptName, name_of, push_name_in_room};
 use crate::names::pairs::{Others, Sought, rebuilt, settle};
 use crate::names::slots::after;
 use std::alloc::Global;
 use std::collections::BTreeMap;
 use std::marker::Model;
-use std::str;
 use wasm_sections_items::imports::ExternalKind;
 use wasm_types::{Error, Result};
 
@@ -27,9 +27,8 @@ pub struct Place {
 pub(crate) struct KeptNames {
     // Where the name of the module stands, among those that are kept.
     pub(crate) module: usize,
-    // Where the name of what is imported from it begins and ends, among the bytes of all names.
-    pub(crate) start: usize,
-    pub(crate) end: usize,
+    // The name of what is imported from it.
+    pub(crate) name: KeptName,
     // What is imported first. Nearly every pair is of one import: that takes no memory of its own.
     pub(crate) first: Place,
     pub(crate) others: Vec<Place>,
@@ -87,17 +86,6 @@ pub(crate) fn module_of<'a>(modules: &'a [String], kept: &KeptNames) -> &'a str
     }
 }
 
-// The name of what is imported.
-pub(crate) fn name_of<'a>(names: &'a [u8], kept: &KeptNames) -> &'a str
-    requires { IsNamed names.now kept.now }
-    ensures { result.now ≡ name_at names.now kept.now }
-{
-    match str::from_utf8(&names[kept.start..kept.end]) {
-        Ok(name) => name,
-        Err(_error) => unreachable!(),
-    }
-}
-
 // Where the name of a module stands among the last few that are kept.
 fn find_module(modules: &[String], module: &str) -> Option<usize>
     ensures { IfSome result (λ at. at < length modules.now × module_at modules.now at ≡ «module».now) }
@@ -151,15 +139,13 @@ fn keep_names(
     let Some(module) = keep_module(alloc, modules, module) else {
         return None;
     };
-    let start = names.as_slice().len();
-    let Ok(()) = names.extend_from_slice(name.as_bytes()) else {
+    let Ok(()) = names.reserve(name.len()) else {
         return None;
     };
-    let end = names.as_slice().len();
+    let name = push_name_in_room(names, name);
     Some(KeptNames {
         module,
-        start,
-        end,
+        name,
         first: place,
         others: Vec::new(alloc),
     })
@@ -245,7 +231,7 @@ impl Imports {
         let kept = self.pairs.as_slice().get(at)?;
         Some(NamedImports {
             module: module_of(self.modules.as_slice(), kept),
-            name: name_of(self.names.as_slice(), kept),
+            name: name_of(self.names.as_slice(), kept.name),
             first: kept.first,
             others: kept.others.as_slice(),
         })

@@ -5,9 +5,11 @@
 //! their order, whoever chooses the names.
 
 ghost use Rattle.std.specs.Prelude.{◌≡◌, IfSome, length};
-ghost use Rattle.wasm_module_validator_exports.specs.names.Imports.{AreKept, HasMet, HasSettled, HasSought, Holds, IsNamed, all_named, is_pair, module_at, name_at, number_of, pairs_of};
+ghost use Rattle.wasm_module_validator_exports.specs.names.Imports.{AreKept, HasMet, HasSettled, HasSought, Holds, all_named, is_pair, module_at, number_of, pairs_of};
+ghost use Rattle.wasm_module_validator_exports.specs.names.Kept.{IsNamed, name_at};
 
-use crate::names::imports::{KeptNames, module_of, name_of};
+use crate::names::imports::{KeptNames, module_of};
+use crate::names::kept::name_of;
 use crate::names::slots::{put, slot};
 use std::alloc::Global;
 use std::collections::BTreeMap;
@@ -42,11 +44,11 @@ fn number(module: &str, name: &str) -> u64
 
 // Whether these are the names that are kept.
 fn has_names(modules: &[String], names: &[u8], kept: &KeptNames, module: &str, name: &str) -> bool
-    requires { IsNamed names.now kept.now }
+    requires { IsNamed names.now kept.now.name }
     ensures { result ≡ is_pair «module».now name.now
-        (module_at modules.now kept.now.«module», name_at names.now kept.now) }
+        (module_at modules.now kept.now.«module», name_at names.now kept.now.name) }
 {
-    module == module_of(modules, kept) && name == name_of(names, kept)
+    module == module_of(modules, kept) && name == name_of(names, kept.name)
 }
 
 // What is in a pair's slot.
@@ -148,7 +150,7 @@ pub(crate) fn rebuilt(
     for i in 0..pairs.len() {
         let (before, _) = pairs.split_at(i);
         let kept = &pairs[i];
-        let (module, name) = (module_of(modules, kept), name_of(names, kept));
+        let (module, name) = (module_of(modules, kept), name_of(names, kept.name));
         match settle(
             alloc,
             &mut slots,

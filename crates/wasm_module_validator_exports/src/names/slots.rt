@@ -173,14 +173,9 @@ pub(crate) fn rebuilt(
     let mut others = BTreeSet::new(alloc);
     for i in 0..exports.len() {
         let (before, _) = exports.split_at(i);
-        match settle(
-            alloc,
-            &mut slots,
-            &mut others,
-            names,
-            before,
-            name_of(names, exports[i].name),
-        ) {
+        let export = &exports[i];
+        let name = name_of(names, export.name);
+        match settle(alloc, &mut slots, &mut others, names, before, name) {
             Tried::Added => (),
             Tried::Taken => return None,
             Tried::NoMemory => return None,

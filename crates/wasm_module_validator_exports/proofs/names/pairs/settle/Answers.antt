@@ -1,7 +1,8 @@
 use Rattle.std.proofs.Common.{List, ℕ, subst, sym}
 use Rattle.wasm_module_validator_exports.specs.names.Imports.{HasMet, HasSought, all_named, pairs_of}
 use Rattle.wasm_module_validator_exports.specs.declared.names.pairs.Met.TheVariants as met
-use Rattle.wasm_module_validator_exports.proofs.Finding.{settled, settled_by_slot, there_by_slot, within}
+use Rattle.wasm_module_validator_exports.proofs.Finding.{settled, settled_by_slot, there_by_slot}
+use Rattle.wasm_module_validator_exports.proofs.Taking.{within}
 use Rattle.wasm_module_validator_exports.proofs.Keeping.{pairs_counted}
 use Rattle.wasm_module_validator_exports.proofs.names.pairs.settle.Goals as goal
 
