@@ -148,11 +148,20 @@ module _ (slots t : List ℕ) (xs : List KeptExport) (n : List ℕ) (p x : ℕ) 
 pub no_slot : (slots : List ℕ) (names : List (List ℕ)) (p : ℕ) → length slots ≤ p → IsFree slots names p → ⊥
 no_slot slots names p beyond (y, is, free) = let l = within slots p y is in omega (arith, l, beyond)
 
+-- what stands at an index, whatever would stand past the end
+there : {A : Type 0} (xs : List A) (i : ℕ) (d : A) → i < length xs → get_or xs i d ≡ get_or xs i (get_or xs i d)
+there [] i d l = absurd (omega (arith, l))
+there (x ∷ xs) zero d l = refl
+there (x ∷ xs) (suc i) d l = there xs i d (omega (arith, l))
+
 -- the name of each is kept
 pub named_there : (t : List ℕ) (xs : List KeptExport) (i : ℕ) (e : KeptExport) → AreNamed t xs → i < length xs → e ≡ get_or xs i e → IsNamed t e.name
 named_there t [] i e h l r = absurd (omega (arith, l))
 named_there t (x ∷ xs) zero e h l r = subst (λ (f : KeptExport). IsNamed t f.name) (sym r) h.0
 named_there t (x ∷ xs) (suc i) e h l r = named_there t xs i e h.1 (omega (arith, l)) r
+
+pub named_at : (t : List ℕ) (xs : List KeptExport) (i : ℕ) (d : KeptExport) → AreNamed t xs → i < length xs → IsNamed t (get_or xs i d).name
+named_at t xs i d h l = named_there t xs i (get_or xs i d) h l (there xs i d l)
 
 pub named_first : (t : List ℕ) (xs : List KeptExport) (i : ℕ) → AreNamed t xs → AreNamed t (take i xs)
 named_first t xs zero h = tt
@@ -336,9 +345,11 @@ holds_nothing {Y} slots others e =
     )
 
 -- an export further
-pub one_further : (t : List ℕ) (xs : List KeptExport) (i : ℕ) (e : KeptExport) → i < length xs → e ≡ get_or xs i e
-    → names_of (exports_of t (take (i + 1) xs)) ≡ names_of (exports_of t (take i xs)) ++ name_at t e.name ∷ []
-one_further t xs i e h r =
+pub one_further : (t : List ℕ) (xs : List KeptExport) (i : ℕ) (d : KeptExport) → i < length xs
+    → names_of (exports_of t (take (i + 1) xs)) ≡ names_of (exports_of t (take i xs)) ++ name_at t (get_or xs i d).name ∷ []
+one_further t xs i d h =
+    let e = get_or xs i d in
+    let r = there xs i d h in
     let named : List KeptExport → List (List ℕ) = (λ es. names_of (exports_of t es)) in
     ap named (take_more xs i e h) ∙ ap (λ (f : KeptExport). named (take i xs ++ f ∷ [])) (sym r) ∙ ap names_of (map-append (kept_of t) (take i xs) (e ∷ []))
     ∙ map-append (λ (x : ExportTree). x.name) (exports_of t (take i xs)) (kept_of t e ∷ [])
