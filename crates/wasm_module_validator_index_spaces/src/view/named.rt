@@ -1,6 +1,6 @@
 //! Imports and exports by their names, with what they are.
 
-ghost use Rattle.std.specs.Prelude.{◌≡◌, map};
+ghost use Rattle.std.specs.Prelude.{◌≡◌};
 ghost use Rattle.wasm_module_validator_index_spaces.specs.view.Entities.{export_entities, import_entities, places_of};
 
 use crate::Module;
