@@ -19,7 +19,6 @@ use Rattle.wasm_module_validator_exports.specs.declared.names.imports.KeptNames.
 use Rattle.wasm_module_validator_exports.specs.names.Imports.{Pair, all_named, module_at, number_of, pairs_of, is_pair, index_of, slot_for, in_slot, is_there, stands_at, IsFree, HasMet, compare_names, find_names, HasSought, found, Finds, IsBehind, Holds, HasSettled}
 use Rattle.wasm_module_validator_exports.specs.names.Kept.{name_at}
 use Rattle.wasm_module_validator_exports.proofs.Keeping.{pair_at, read}
-use Rattle.wasm_module_validator_exports.proofs.Taking.{within}
 
 abbrev Key : Type 0
 Key = String Global × String Global

@@ -1,11 +1,11 @@
 -- Names that are kept one by one.
 use Rattle.std.specs.Prelude.{IsUtf8}
-use Rattle.std.proofs.Common.{◌≡◌, ◌∙◌, ◌<◌, ◌+◌, ◌-◌, take, drop, arith, get_or, set, true, false, Bool, ℕ, zero, suc, pred, List, [], ◌∷◌, ◌++◌, length, slice_get, Option, Some, None, option_map, refl, sym, ap, subst, inr, ⊎_elim, String, string_bytes, if◌then◌else◌}
+use Rattle.std.proofs.Common.{◌≡◌, ◌∙◌, ◌<◌, ◌+◌, take, arith, get_or, set, true, false, Bool, ℕ, zero, suc, pred, List, [], ◌∷◌, ◌++◌, length, slice_get, Option, Some, None, option_map, refl, sym, ap, subst, inr, ⊎_elim, String, string_bytes, if◌then◌else◌}
 use Rattle.std.specs.declared.alloc.Global.{Global}
 use Rattle.std.specs.Option.{unwrap_or}
 use Rattle.std.specs.Str.{bytes_eq}
 use Rattle.std.specs.Cmp.Lexicographic.{bytes_decides}
-use Rattle.std.proofs.lemmas.List.{length_push, length-append, length-drop, length-map, map-append, drop-append-le, take-append-le, take_all, take_more}
+use Rattle.std.proofs.lemmas.List.{length_push, length-map, map-append, take_more}
 use Rattle.wasm_module_validator_exports.specs.declared.names.imports.Place.{Place}
 use Rattle.wasm_module_validator_exports.specs.declared.names.imports.KeptNames.{KeptNames}
 use Rattle.wasm_module_validator_exports.specs.names.Imports.{AreKept, HasAdded, HasKept, HasKeptNames, HasPushed, ImportedName, StaysKept, Pair, all_named, has_names, index_of, is_pair, module_at, module_name_of, named_at, pairs_of, with_import}

@@ -1,11 +1,11 @@
 -- Exports one by one, with their names one after the other.
 use Rattle.std.specs.Prelude.{IsUtf8}
-use Rattle.std.proofs.Common.{◌≡◌, ◌∙◌, ℕ, List, [], ◌∷◌, ◌++◌, length, map, refl, sym, ap, subst}
+use Rattle.std.proofs.Common.{◌≡◌, ◌∙◌, ℕ, List, [], ◌∷◌, ◌++◌, length, refl, sym, ap, subst}
 use Rattle.std.proofs.lemmas.List.{map-append}
 use Rattle.wasm_sections_items.specs.imports.Spells.{ExportTree}
 use Rattle.wasm_module_validator_exports.specs.declared.names.exports.KeptExport.{KeptExport}
 use Rattle.wasm_module_validator_exports.specs.names.Exports.{AreNamed, exports_of, kept_of, names_of}
-use Rattle.wasm_module_validator_exports.specs.names.Kept.{IsNamed, name_at}
+use Rattle.wasm_module_validator_exports.specs.names.Kept.{IsNamed}
 use Rattle.wasm_module_validator_exports.proofs.Kept.{last_name, last_named, name_still, named_still}
 
 -- ---- bytes of names more

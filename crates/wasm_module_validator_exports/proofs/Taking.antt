@@ -1,5 +1,5 @@
 -- Names by the map and the set that they are found in.
-use Rattle.std.proofs.Common.{rules, ◌≡◌, ◌∙◌, ◌+◌, take, ◌⊎◌, ◌||◌, ◌==◌, ◌<◌, ◌≤◌, arith, get_or, cond, ℕ, zero, suc, Bool, true, false, not, List, [], ◌∷◌, ◌++◌, map, length, slice_get, refl, sym, ap, subst, inl, inr, ⊎_elim, String, string_bytes}
+use Rattle.std.proofs.Common.{rules, ◌≡◌, ◌∙◌, ◌+◌, take, ◌⊎◌, ◌||◌, ◌==◌, ◌<◌, ◌≤◌, arith, get_or, cond, ℕ, zero, suc, Bool, true, false, not, List, [], ◌∷◌, ◌++◌, length, slice_get, refl, sym, ap, subst, inl, inr, ⊎_elim, String, string_bytes}
 use Rattle.std.proofs.Common.{Option, Some, None, option_map}
 use Rattle.std.specs.Bool.{one_answer}
 use Rattle.std.specs.Option.{unwrap_or}

@@ -1,4 +1,5 @@
-use Rattle.std.proofs.Common.{◌≡◌, ◌∙◌, ◌+◌, ◌∷◌, drop, sym}
+use Rattle.std.proofs.Common.{◌≡◌, ◌∙◌, ◌+◌, ◌∷◌, List, ℕ, drop, sym}
+use Rattle.wasm_module_validator_exports.specs.declared.names.imports.Place.{Place}
 use Rattle.wasm_module_validator_exports.specs.names.Imports.{named_of}
 use Rattle.wasm_module_validator_index_spaces.specs.view.Entities.{places_behind}
 use Rattle.wasm_module_validator_index_spaces.proofs.Placing.{fewer_pairs, nothing_behind, one_fewer, pair_past, place_given}
@@ -26,7 +27,7 @@ pub returns-in-Some-place-clause-goes : goal.returns-in-Some-place-clause-goes
 returns-in-Some-place-clause-goes c =
     let left = c.loop-named.self-inside in
     let named = named_of c.in-Some.named in
-    let given = ((named.module_name, named.field_name), c.in-Some-place.place) in
+    let given : (List ℕ × List ℕ) × Place = ((named.module_name, named.field_name), c.in-Some-place.place) in
     let rest = places_behind (left.given + 1) (drop left.past left.imports.now) in
     let steps : c.args.self.now ≡ given ∷ rest
     = sym c.self.view_is ∙ (c.loop-named.invariant
