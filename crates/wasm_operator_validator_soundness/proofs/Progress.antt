@@ -1,7 +1,7 @@
 -- Some answer is there at each state in which all fits.
 use Rattle.std.proofs.Common.{◌≡◌, ℕ, zero, suc, List, [], ◌∷◌, ◌++◌, map, reverse, Option, Some, None, is_some, Bool, true, false, IsTrue, not, ◌&&◌, if◌then◌else◌, get_or, slice_get, slice_set, length, take, drop, refl, sym, subst, ◌∙◌, true≢false, replicate}
 use Rattle.std.specs.Prelude.{flat_map}
-use Rattle.wasm_types.specs.trees.Types.{Number, i32, i64, Abstract, any, extern, eq, array, i31, exn, HeapOf, abstract, concrete, number, ref, InnerOf, StorageOf, FieldOf}
+use Rattle.wasm_types.specs.trees.Types.{Number, i32, i64, Abstract, any, extern, array, i31, HeapOf, abstract, concrete, ref, InnerOf, StorageOf, FieldOf}
 use Rattle.wasm_types.specs.trees.Trees.{TypeTree}
 use Rattle.wasm_types.specs.trees.Below.{expanded}
 use Rattle.wasm_types.specs.trees.AbstractOrder.{same}
@@ -32,20 +32,19 @@ use Rattle.wasm_operator_validator_rules.specs.InstructionTypes.{i32_type}
 use Rattle.wasm_operator_validator_rules.specs.Numbers.{numbers}
 use Rattle.wasm_operator_validator_rules.specs.Exceptions.{ExceptionRow, exception}
 use Rattle.wasm_operator_validator_rules.specs.Typed.{Typed}
-use Rattle.wasm_operator_validator_soundness.specs.runs.Values.{Body, Function, Program, Value, number_value, ref_null, ref_function, ref_object, ref_i31, ref_host, ref_extern, ref_exn, HasValue, least_type, null_of, is_null, Fits, AllFit, IsAReference, IsNumberValue}
-use Rattle.wasm_operator_validator_soundness.specs.runs.States.{Continuation, behind, again, Exception, Label, Activation, State, Answer, Outcome, next, returned, trapped, thrown, stuck, Move, done, stop, asks, allows, choose, found, pops, Handlers, is_clause, no_handlers, table, clauses}
+use Rattle.wasm_operator_validator_soundness.specs.runs.Values.{Body, Program, Value, number_value, ref_null, ref_function, ref_object, ref_i31, ref_host, ref_extern, ref_exn, least_type, null_of, is_null, Fits, AllFit, IsAReference, IsNumberValue}
+use Rattle.wasm_operator_validator_soundness.specs.runs.States.{Continuation, behind, again, Exception, Label, Activation, Answer, Outcome, next, returned, trapped, thrown, stuck, Move, done, asks, allows, choose, found, pops, Handlers, is_clause, no_handlers, table, clauses}
 use Rattle.wasm_operator_validator_soundness.specs.runs.Names.{Places, computed, accessed, argument_of}
 use Rattle.wasm_operator_validator_soundness.specs.runs.Machine.{operand_of, operands_of, struct_fields, array_fields, IsWhole, IsPacked, AreStoredAlike, writes, copies, stores_from, within, either_part, meant, IsData, IsArray, IsUnboxed, FromData, block_signature, address, function_type, takes, gives, may_trap, hand_back, come_out, land, jump, leave_labels, unwind, throw_again, begin, body_of, named, HaveDefaults, begun, going, meant_heap}
 use Rattle.wasm_operator_validator_soundness.specs.runs.Machine.{label_at, goes, exchange, compute, access, opens, enter, branch, branch_if, invoke, call, call_reference, call_indirect, operate_control}
 use Rattle.wasm_operator_validator_soundness.specs.runs.Machine.{throw_reference, caught_at, operate_exception, select, operate_parametric, set_local, operate_memory, operate_bulk, operate_atomic}
-use Rattle.wasm_operator_validator_soundness.specs.runs.Machine.{object, object_under, make, read, write, cast, cast_top, cast_from, IsOf, number_from, null_in, convert, operate_gc, operate_vector, operate, end, execute}
-use Rattle.wasm_operator_validator_soundness.specs.runs.ValidStates.{IsThrown, IsValidState}
-use Rattle.wasm_operator_validator_soundness.specs.runs.Soundness.{step, IsValidProgram, evaluated}
-use Rattle.wasm_operator_validator_soundness.specs.runs.Progress.{control_can_trap, numeric_can_trap, exception_can_trap, memory_can_trap, bulk_can_trap, gc_can_trap, atomic_can_trap, can_trap, code_can_trap, HasAnswer, GlobalsHaveValues, AnswersExist, StatesAreAnswered, ConstantsAreAnswered}
+use Rattle.wasm_operator_validator_soundness.specs.runs.Machine.{object_under, make, read, write, cast, cast_top, cast_from, IsOf, number_from, null_in, convert, operate_gc, operate_vector, operate, end, execute}
+use Rattle.wasm_operator_validator_soundness.specs.runs.ValidStates.{IsThrown}
+use Rattle.wasm_operator_validator_soundness.specs.runs.Soundness.{IsValidProgram, evaluated}
+use Rattle.wasm_operator_validator_soundness.specs.runs.Progress.{control_can_trap, numeric_can_trap, exception_can_trap, memory_can_trap, bulk_can_trap, gc_can_trap, atomic_can_trap, can_trap, code_can_trap, GlobalsHaveValues, AnswersExist, StatesAreAnswered, ConstantsAreAnswered}
 use Rattle.wasm_operator_validator_soundness.proofs.RunsFitting.{fits_reversed}
-use Rattle.wasm_operator_validator_soundness.proofs.RunsInvariant.{none_is_some, some_same, here}
+use Rattle.wasm_operator_validator_soundness.proofs.RunsInvariant.{here}
 use Rattle.wasm_operator_validator_soundness.proofs.Options.{as_function_is}
-use Rattle.wasm_operator_validator_soundness.proofs.RunsLeaving.{signature_is}
 use Rattle.wasm_operator_validator_soundness.proofs.Thrown.{value_of, arguments_of}
 use Rattle.wasm_operator_validator_soundness.proofs.Unshared.{internal_whole, external_whole}
 use Rattle.wasm_operator_validator_soundness.proofs.Standing.{values_under, Here}
@@ -259,7 +258,7 @@ module _ (p : Program) (act : Activation) (acts : List Activation) where
   pub calls : (tail : Bool) (x : ℕ) (more : Code) → Goes true (call p trap act acts tail x more)
   calls tail x more = found_goes true (slice_get p.functions x) _ (λ f e. invokes tail (ref_function (Some x) f.type) act.innermost.values more)
 
-  calls_reference : (tail : Bool) (x : ℕ) (more : Code) → Goes true (call_reference p trap act acts tail x more)
+  pub calls_reference : (tail : Bool) (x : ℕ) (more : Code) → Goes true (call_reference p trap act acts tail x more)
   calls_reference tail x more = found_goes true (slice_get p.«module».types x) _ (λ t e.
       pops_goes true act.innermost.values _ (λ v ws. asks_goes true (Fits p v (ref true (concrete t))) _ (invokes tail v ws more)))
 

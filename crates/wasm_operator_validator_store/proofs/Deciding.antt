@@ -6,6 +6,7 @@ use Rattle.wasm_types.specs.trees.Trees.{GroupTree, SubTree, OptionTree, InnerTr
 use Rattle.wasm_types.specs.trees.Trees as tree
 use Rattle.wasm_types.specs.trees.AbstractOrder.{AbstractBelow, same, eq_any, i31_any, struct_any, array_any, none_any, i31_eq, struct_eq}
 use Rattle.wasm_types.specs.trees.AbstractOrder.{array_eq, none_eq, none_i31, none_struct, none_array, nofunc_func, noextern_extern, noexn_exn, nocont_cont}
+use Rattle.wasm_types.specs.trees.laws.Abstract.{abstract_antisymmetric}
 use Rattle.wasm_types.specs.trees.Below.{expanded, is_shared, supertype, DeclaredBelow, itself, declared, abstract_above, HeapBelow, Below}
 use Rattle.wasm_types.specs.trees.ValidGroup.{IsWithinDepth}
 use Rattle.wasm_operator_validator_rules.specs.Operands.{ValueType}
@@ -29,7 +30,7 @@ both (inl p) (inl q) = inl (p, q)
 both (inl p) (inr n) = inr (λ r. n r.1)
 both (inr n) d = inr (λ r. n r.0)
 
--- ---- numbers, and names of types by numbers
+-- ---- numbers and names
 
 same_number : (m n : ℕ) → Decided (m ≡ n)
 same_number m n = at (eqb m n) refl
@@ -44,80 +45,52 @@ same_bool true false = inr true≢false
 same_bool false true = inr (λ e. true≢false (sym e))
 same_bool false false = inl refl
 
-abbrev number_code : Number → ℕ
-number_code i32 = 0
-number_code i64 = 1
-number_code f32 = 2
-number_code f64 = 3
-number_code v128 = 4
-
-abbrev number_of : ℕ → Number
-number_of 0 = i32
-number_of 1 = i64
-number_of 2 = f32
-number_of 3 = f64
-number_of n = v128
-
-number_back : (n : Number) → number_of (number_code n) ≡ n
-number_back i32 = refl
-number_back i64 = refl
-number_back f32 = refl
-number_back f64 = refl
-number_back v128 = refl
-
 same_kind : (m n : Number) → Decided (m ≡ n)
-same_kind m n = by (λ e. sym (number_back m) ∙ ap number_of e ∙ number_back n) (ap number_code) (same_number (number_code m) (number_code n))
+same_kind i32 i32 = inl refl
+same_kind i64 i64 = inl refl
+same_kind f32 f32 = inl refl
+same_kind f64 f64 = inl refl
+same_kind v128 v128 = inl refl
+same_kind m n = inr (λ e. cc)
 
-abbrev abstract_code : Abstract → ℕ
-abstract_code func = 0
-abstract_code extern = 1
-abstract_code any = 2
-abstract_code none = 3
-abstract_code noextern = 4
-abstract_code nofunc = 5
-abstract_code eq = 6
-abstract_code struct = 7
-abstract_code array = 8
-abstract_code i31 = 9
-abstract_code exn = 10
-abstract_code noexn = 11
-abstract_code cont = 12
-abstract_code nocont = 13
+abstract_decided : (h k : Abstract) → Decided (AbstractBelow h k)
+abstract_decided func func = inl same
+abstract_decided extern extern = inl same
+abstract_decided any any = inl same
+abstract_decided none none = inl same
+abstract_decided noextern noextern = inl same
+abstract_decided nofunc nofunc = inl same
+abstract_decided eq eq = inl same
+abstract_decided struct struct = inl same
+abstract_decided array array = inl same
+abstract_decided i31 i31 = inl same
+abstract_decided exn exn = inl same
+abstract_decided noexn noexn = inl same
+abstract_decided cont cont = inl same
+abstract_decided nocont nocont = inl same
+abstract_decided eq any = inl eq_any
+abstract_decided i31 any = inl i31_any
+abstract_decided struct any = inl struct_any
+abstract_decided array any = inl array_any
+abstract_decided none any = inl none_any
+abstract_decided i31 eq = inl i31_eq
+abstract_decided struct eq = inl struct_eq
+abstract_decided array eq = inl array_eq
+abstract_decided none eq = inl none_eq
+abstract_decided none i31 = inl none_i31
+abstract_decided none struct = inl none_struct
+abstract_decided none array = inl none_array
+abstract_decided nofunc func = inl nofunc_func
+abstract_decided noextern extern = inl noextern_extern
+abstract_decided noexn exn = inl noexn_exn
+abstract_decided nocont cont = inl nocont_cont
+abstract_decided h k = inr (λ l. elim l [ ])
 
-abbrev abstract_of : ℕ → Abstract
-abstract_of 0 = func
-abstract_of 1 = extern
-abstract_of 2 = any
-abstract_of 3 = none
-abstract_of 4 = noextern
-abstract_of 5 = nofunc
-abstract_of 6 = eq
-abstract_of 7 = struct
-abstract_of 8 = array
-abstract_of 9 = i31
-abstract_of 10 = exn
-abstract_of 11 = noexn
-abstract_of 12 = cont
-abstract_of n = nocont
-
-abstract_back : (h : Abstract) → abstract_of (abstract_code h) ≡ h
-abstract_back func = refl
-abstract_back extern = refl
-abstract_back any = refl
-abstract_back none = refl
-abstract_back noextern = refl
-abstract_back nofunc = refl
-abstract_back eq = refl
-abstract_back struct = refl
-abstract_back array = refl
-abstract_back i31 = refl
-abstract_back exn = refl
-abstract_back noexn = refl
-abstract_back cont = refl
-abstract_back nocont = refl
-
-pub same_abstract : (h k : Abstract) → Decided (h ≡ k)
-same_abstract h k = by (λ e. sym (abstract_back h) ∙ ap abstract_of e ∙ abstract_back k) (ap abstract_code) (same_number (abstract_code h) (abstract_code k))
+same_abstract : (h k : Abstract) → Decided (h ≡ k)
+same_abstract h k =
+    by (λ q. abstract_antisymmetric h k q.0 q.1)
+    (λ e. (subst (λ (x : Abstract). AbstractBelow h x) e same, subst (λ (x : Abstract). AbstractBelow x h) e same))
+    (both (abstract_decided h k) (abstract_decided k h))
 
 -- ---- trees
 
@@ -233,39 +206,6 @@ pub same_type : (t u : TypeTree) → Decided (t ≡ u)
 same_type t u = by (type_same t u) (λ e. (ap (λ (x : TypeTree). x.group) e, ap (λ (x : TypeTree). x.place) e)) (both (same_group t.group u.group) (same_number t.place u.place))
 
 -- ---- a type below another
-
-pub abstract_decided : (h k : Abstract) → Decided (AbstractBelow h k)
-abstract_decided func func = inl same
-abstract_decided extern extern = inl same
-abstract_decided any any = inl same
-abstract_decided none none = inl same
-abstract_decided noextern noextern = inl same
-abstract_decided nofunc nofunc = inl same
-abstract_decided eq eq = inl same
-abstract_decided struct struct = inl same
-abstract_decided array array = inl same
-abstract_decided i31 i31 = inl same
-abstract_decided exn exn = inl same
-abstract_decided noexn noexn = inl same
-abstract_decided cont cont = inl same
-abstract_decided nocont nocont = inl same
-abstract_decided eq any = inl eq_any
-abstract_decided i31 any = inl i31_any
-abstract_decided struct any = inl struct_any
-abstract_decided array any = inl array_any
-abstract_decided none any = inl none_any
-abstract_decided i31 eq = inl i31_eq
-abstract_decided struct eq = inl struct_eq
-abstract_decided array eq = inl array_eq
-abstract_decided none eq = inl none_eq
-abstract_decided none i31 = inl none_i31
-abstract_decided none struct = inl none_struct
-abstract_decided none array = inl none_array
-abstract_decided nofunc func = inl nofunc_func
-abstract_decided noextern extern = inl noextern_extern
-abstract_decided noexn exn = inl noexn_exn
-abstract_decided nocont cont = inl nocont_cont
-abstract_decided h k = inr (λ l. elim l [ ])
 
 ended : (t u : TypeTree) → supertype t ≡ None → (t ≡ u → ⊥) → DeclaredBelow t u → ⊥
 ended t u e n itself = n refl

@@ -79,14 +79,14 @@ module _ (p : Program) (a : Answer) where
     catch_ends (Some c) act ls acts = let h = caught_by p a t vs c in
         for_ends h.tag _ (found_ends (slice_get (map branch_type ls) h.label) _ (λ ts. asks_ends (AllFit p h.values (stack ts)) _ (goes_ends _ (jump_goes p a false h.label act ls h.values acts))))
 
-    turn_ends : (o : Option Clause) (act : Activation) (l : Label) (ls : List Label) (acts : List Activation) → Ends (turn_to p a t vs o act l ls acts)
-    turn_ends None act l ls acts = refused_ends
-    turn_ends (Some c) act l ls acts = for_ends c.tag _ (record { never = λ e. no_trap _ tt e })
+    clause_ends : (o : Option Clause) (act : Activation) (l : Label) (ls : List Label) (acts : List Activation) → Ends (turn_to p a t vs o act l ls acts)
+    clause_ends None act l ls acts = refused_ends
+    clause_ends (Some c) act l ls acts = for_ends c.tag _ (record { never = λ e. no_trap _ tt e })
 
     handle_ends : (h : Handlers) (act : Activation) (l : Label) (ls : List Label) (acts : List Activation) → Ends (handle p a t vs h act l ls acts)
     handle_ends no_handlers act l ls acts = refused_ends
     handle_ends (table cs) act l ls acts = catch_ends (slice_get cs a.index) act ls acts
-    handle_ends (clauses c) act l ls acts = turn_ends (clause_at c a.index) act l ls acts
+    handle_ends (clauses c) act l ls acts = clause_ends (clause_at c a.index) act l ls acts
 
     leave_ends : (act : Activation) (ls : List Label) (n : ℕ) (acts : List Activation) (further : ℕ → Move) → ((k : ℕ) → Ends (further k)) → Ends (leave_labels p a t vs act ls n acts further)
     leave_ends act [] n acts further k = k n

@@ -235,8 +235,8 @@ module _ (p : Program) (valid : IsValidProgram p) (results : List ValueType) (ac
   memory_given (memory.LocalGet y) more next = calm (op.Memory (memory.LocalGet y)) more refl still s refl (refl, refl)
   memory_given (memory.LocalSet y) more next = calm (op.Memory (memory.LocalSet y)) more refl still s refl (refl, refl)
   memory_given (memory.LocalTee y) more next = calm (op.Memory (memory.LocalTee y)) more refl still s refl (refl, refl)
-  memory_given (memory.GlobalGet y) more next = calm (op.Memory (memory.GlobalGet y)) more refl (giving (global_in s y ∷ [])) s refl (refl, (refl, refl))
-  memory_given (memory.GlobalSet y) more next = calm (op.Memory (memory.GlobalSet y)) more refl still (with_global s y (top 0)) refl (refl, (refl, refl))
+  memory_given (memory.GlobalGet y) more next = calm (op.Memory (memory.GlobalGet y)) more refl (giving (global_in s y ∷ [])) s refl (refl, refl, refl)
+  memory_given (memory.GlobalSet y) more next = calm (op.Memory (memory.GlobalSet y)) more refl still (with_global s y (top 0)) refl (refl, refl, refl)
   memory_given (memory.MemorySize y) more next =
       let a : Answer = giving (size_for (slice_get p.«module».memories y) ∷ []) in
       calm (op.Memory (memory.MemorySize y)) more refl a s refl
@@ -357,25 +357,25 @@ module _ (p : Program) (valid : IsValidProgram p) (results : List ValueType) (ac
 
   bulk_given : (o : BulkOperator) (more : Code) → Next (plain (op.Bulk o) more) → Given (plain (op.Bulk o) more)
   bulk_given (bulk.RefNull h) more next = calm (op.Bulk (bulk.RefNull h)) more refl still s refl (refl, refl)
-  bulk_given bulk.RefIsNull more next = calm (op.Bulk bulk.RefIsNull) more refl (making (truth (is_null (top 0)))) s refl (refl, (refl, (refl, refl)))
+  bulk_given bulk.RefIsNull more next = calm (op.Bulk bulk.RefIsNull) more refl (making (truth (is_null (top 0)))) s refl (refl, (refl, refl, refl))
   bulk_given (bulk.RefFunc y) more next = calm (op.Bulk (bulk.RefFunc y)) more refl still s refl (refl, refl)
   bulk_given (bulk.TableGet y) more next = may (op.Bulk (bulk.TableGet y)) more refl
-      (or_trapped p x s (slice_get (table_in s y) (index 0)) _ (λ w e. (giving (w ∷ []), s, (refl, (refl, refl)))))
+      (or_trapped p x s (slice_get (table_in s y) (index 0)) _ (λ w e. (giving (w ∷ []), s, (refl, refl, refl))))
   bulk_given (bulk.TableSet y) more next = may (op.Bulk (bulk.TableSet y)) more refl
-      (or_trapped p x s (placed (table_in s y) (index 1) (take 1 vs)) _ (λ ws e. (still, with_table s y ws, (refl, (refl, refl)))))
+      (or_trapped p x s (placed (table_in s y) (index 1) (take 1 vs)) _ (λ ws e. (still, with_table s y ws, (refl, refl, refl))))
   bulk_given (bulk.TableSize y) more next =
-      calm (op.Bulk (bulk.TableSize y)) more refl (giving (sized (is_wide (slice_get p.«module».tables y)) (length (table_in s y)) ∷ [])) s refl (refl, (refl, refl))
+      calm (op.Bulk (bulk.TableSize y)) more refl (giving (sized (is_wide (slice_get p.«module».tables y)) (length (table_in s y)) ∷ [])) s refl (refl, refl, refl)
   bulk_given (bulk.TableGrow y) more next =
-      calm (op.Bulk (bulk.TableGrow y)) more refl (giving (sized (is_wide (slice_get p.«module».tables y)) (length (table_in s y)) ∷ [])) (with_table s y (table_in s y ++ replicate (index 0) (top 1))) refl (inl (refl, (refl, refl)))
+      calm (op.Bulk (bulk.TableGrow y)) more refl (giving (sized (is_wide (slice_get p.«module».tables y)) (length (table_in s y)) ∷ [])) (with_table s y (table_in s y ++ replicate (index 0) (top 1))) refl (inl (refl, refl, refl))
   bulk_given (bulk.TableFill y) more next = may (op.Bulk (bulk.TableFill y)) more refl
-      (or_trapped p x s (placed (table_in s y) (index 2) (replicate (index 0) (top 1))) _ (λ ws e. (still, with_table s y ws, (refl, (refl, refl)))))
+      (or_trapped p x s (placed (table_in s y) (index 2) (replicate (index 0) (top 1))) _ (λ ws e. (still, with_table s y ws, (refl, refl, refl))))
   bulk_given (bulk.TableInit i y) more next = may (op.Bulk (bulk.TableInit i y)) more refl
       (or_trapped p x s (range (segment_in s i) (index 1) (index 0)) _ (λ us e.
-      or_trapped p x s (placed (table_in s y) (index 2) us) _ (λ ws d. (giving us, with_table s y ws, (refl, (refl, refl))))))
+      or_trapped p x s (placed (table_in s y) (index 2) us) _ (λ ws d. (giving us, with_table s y ws, (refl, refl, refl)))))
   bulk_given (bulk.TableCopy y z) more next = may (op.Bulk (bulk.TableCopy y z)) more refl
       (or_trapped p x s (range (table_in s z) (index 1) (index 0)) _ (λ us e.
-      or_trapped p x s (placed (table_in s y) (index 2) us) _ (λ ws d. (giving us, with_table s y ws, (refl, (refl, refl))))))
-  bulk_given (bulk.ElemDrop i) more next = calm (op.Bulk (bulk.ElemDrop i)) more refl still (without_segment s i) refl (refl, (refl, refl))
+      or_trapped p x s (placed (table_in s y) (index 2) us) _ (λ ws d. (giving us, with_table s y ws, (refl, refl, refl)))))
+  bulk_given (bulk.ElemDrop i) more next = calm (op.Bulk (bulk.ElemDrop i)) more refl still (without_segment s i) refl (refl, refl, refl)
   bulk_given (bulk.DataDrop d) more next = calm (op.Bulk (bulk.DataDrop d)) more refl still s refl (refl, refl)
   bulk_given (bulk.MemoryInit d y) more next = may (op.Bulk (bulk.MemoryInit d y)) more refl
       (trap, s, outside (op.Bulk (bulk.MemoryInit d y)) more next trap (found_answer (slice_get p.«module».memories y) _ (λ (t : MemoryType) e. tt)) tt)
@@ -400,7 +400,7 @@ module _ (p : Program) (valid : IsValidProgram p) (results : List ValueType) (ac
   makes_given y t fields given =
       let a : Answer = record (giving given) { made = length s.objects } in
       let u : Store = with_object s (record { type = t.0; fields = fields t.0 }) in
-      (a, u, refl, there_is p x s (slice_get p.«module».types y) t.0 a u _ t.1 (refl, (refl, (refl, refl))))
+      (a, u, refl, there_is p x s (slice_get p.«module».types y) t.0 a u _ t.1 (refl, (refl, refl, refl)))
 
   making_given : (o : GcOperator) (more : Code) (y : ℕ) (fields : TypeTree → List Value) → gc_can_trap o ≡ false → (t : TypeTree) × (slice_get p.«module».types y ≡ Some t)
       → ((a : Answer) (u : Store) → MakesNamed p (act ∷ acts) s a u act y fields [] → GivesOperator p (act ∷ acts) s a u act (op.Gc o)) → Given (plain (op.Gc o) more)
@@ -440,7 +440,7 @@ module _ (p : Program) (valid : IsValidProgram p) (results : List ValueType) (ac
   reads_given c w i h k = of_known p x s w h _ (λ n t o e d.
       let f = k n t e in
       let there : field_at (expanded o.type) i ≡ Some f.0 = subst (λ (q : TypeTree). field_at (expanded q) i ≡ Some f.0) (sym d) f.1 in
-      let r = or_trapped p x s (slice_get o.fields i) (λ a u y. (a.values ≡ unpacked c (f.0).storage y ∷ []) × (a.traps ≡ false) × (u ≡ s)) (λ y b. (giving (unpacked c (f.0).storage y ∷ []), s, (refl, (refl, refl)))) in
+      let r = or_trapped p x s (slice_get o.fields i) (λ a u y. (a.values ≡ unpacked c (f.0).storage y ∷ []) × (a.traps ≡ false) × (u ≡ s)) (λ y b. (giving (unpacked c (f.0).storage y ∷ []), s, (refl, refl, refl))) in
       (r.0, r.1, there_is p x s (field_at (expanded o.type) i) f.0 r.0 r.1 _ there r.2))
 
   struct_read : (stored : StorageOf TypeTree → Type 0) (c : Bool) (y i : ℕ) (o : GcOperator) (more : Code) → Next (plain (op.Gc o) more) → gc_can_trap o ≡ true
@@ -461,7 +461,7 @@ module _ (p : Program) (valid : IsValidProgram p) (results : List ValueType) (ac
   -- what is written, of which the answer has what is read elsewhere
   writes_given : (w : Value) → Knows s w → (i : ℕ) (us given : List Value) → Some_of p x s (λ a u. Writes p (act ∷ acts) s a u act w i us given)
   writes_given w h i us given = of_known p x s w h _ (λ n t o e d.
-      or_trapped p x s (placed o.fields i us) (λ a u zs. (a.values ≡ given) × (a.traps ≡ false) × (u ≡ with_fields s n o zs)) (λ zs b. (giving given, with_fields s n o zs, (refl, (refl, refl)))))
+      or_trapped p x s (placed o.fields i us) (λ a u zs. (a.values ≡ given) × (a.traps ≡ false) × (u ≡ with_fields s n o zs)) (λ zs b. (giving given, with_fields s n o zs, (refl, refl, refl))))
 
   -- ---- casts and conversions
 
@@ -493,7 +493,7 @@ module _ (p : Program) (valid : IsValidProgram p) (results : List ValueType) (ac
 
   to_any : (w : Value) → Knows s w → ComesIn w → (a : Answer) × (u : Store) × (a.traps ≡ false) × ConvertsToAny p (act ∷ acts) s a u act w
   to_any (ref_null c h) d g = (still, s, refl, (refl, refl))
-  to_any (ref_extern k) d g = (giving (d.0 ∷ []), s, refl, there_is p x s (slice_get s.externs k) d.0 (giving (d.0 ∷ [])) s _ d.1 (refl, (refl, refl)))
+  to_any (ref_extern k) d g = (giving (d.0 ∷ []), s, refl, there_is p x s (slice_get s.externs k) d.0 (giving (d.0 ∷ [])) s _ d.1 (refl, refl, refl))
   to_any (number_value n b) d g = absurd g
   to_any (ref_function i t) d g = absurd g
   to_any (ref_object k t) d g = absurd g
@@ -502,7 +502,7 @@ module _ (p : Program) (valid : IsValidProgram p) (results : List ValueType) (ac
   to_any (ref_exn k t) d g = absurd g
 
   unboxes_given : (c : Bool) (w : Value) → Some_of p x s (λ a u. Unboxes p (act ∷ acts) s a u act c w)
-  unboxes_given c (ref_i31 b) = (making (extended c 31 b), s, (refl, (refl, (refl, refl))))
+  unboxes_given c (ref_i31 b) = (making (extended c 31 b), s, (refl, (refl, refl, refl)))
   unboxes_given c (number_value n b) = (trap, s, (refl, (refl, refl)))
   unboxes_given c (ref_null q h) = (trap, s, (refl, (refl, refl)))
   unboxes_given c (ref_function i t) = (trap, s, (refl, (refl, refl)))
@@ -519,7 +519,7 @@ module _ (p : Program) (valid : IsValidProgram p) (results : List ValueType) (ac
       (subst (λ (n : Move). n.is_answer → n.needs × IsValidOutcome p results n.outcome) (e trap) (told p valid results act acts s v trap (plain (op.Gc o) more) next))
 
   gc_given : (o : GcOperator) (more : Code) → Next (plain (op.Gc o) more) → Given (plain (op.Gc o) more)
-  gc_given gc.RefEq more next = calm (op.Gc gc.RefEq) more refl (making (truth (same (top 0) (top 1)))) s refl (refl, (refl, (refl, refl)))
+  gc_given gc.RefEq more next = calm (op.Gc gc.RefEq) more refl (making (truth (same (top 0) (top 1)))) s refl (refl, (refl, refl, refl))
   gc_given (gc.StructNew y) more next = making_given (gc.StructNew y) more y _ refl (type_made y struct_fields operands_of (λ fs m. m) (gc.StructNew y) more next (λ b. refl)) (λ a u h. h)
   gc_given (gc.StructNewDefault y) more next = making_given (gc.StructNewDefault y) more y _ refl (type_made y struct_fields (λ fs. []) (λ fs m. asks (HaveDefaults fs) m) (gc.StructNewDefault y) more next (λ b. refl)) (λ a u h. h)
   gc_given (gc.ArrayNew y) more next = making_given (gc.ArrayNew y) more y _ refl (type_made y array_fields (λ fs. operands_of fs ++ i32_type ∷ []) (λ fs m. m) (gc.ArrayNew y) more next (λ b. refl)) (λ a u h. h)
@@ -539,7 +539,7 @@ module _ (p : Program) (valid : IsValidProgram p) (results : List ValueType) (ac
   gc_given (gc.StructSet y i) more next = may (op.Gc (gc.StructSet y i)) more refl (writes_given (top 1) (top_knows 1) i (take 1 vs) [])
   gc_given (gc.ArraySet y) more next = may (op.Gc (gc.ArraySet y)) more refl (writes_given (top 2) (top_knows 2) (index 1) (take 1 vs) [])
   gc_given (gc.ArrayFill y) more next = may (op.Gc (gc.ArrayFill y)) more refl (writes_given (top 3) (top_knows 3) (index 2) (replicate (index 0) (top 1)) [])
-  gc_given gc.ArrayLen more next = may (op.Gc gc.ArrayLen) more refl (of_known p x s (top 0) (top_knows 0) _ (λ k t o e d. (making (length o.fields), s, (refl, (refl, (refl, refl))))))
+  gc_given gc.ArrayLen more next = may (op.Gc gc.ArrayLen) more refl (of_known p x s (top 0) (top_knows 0) _ (λ k t o e d. (making (length o.fields), s, (refl, (refl, refl, refl)))))
   gc_given (gc.ArrayCopy y z) more next = may (op.Gc (gc.ArrayCopy y z)) more refl
       (of_known p x s (top 2) (top_knows 2) _ (λ k t o e d. or_trapped p x s (range o.fields (index 1) (index 0)) _ (λ us b. writes_given (top 4) (top_knows 4) (index 3) us us)))
   gc_given (gc.ArrayInitData y d) more next = may (op.Gc (gc.ArrayInitData y d)) more refl (trap, s, inl (refl, (refl, refl)))
@@ -548,11 +548,11 @@ module _ (p : Program) (valid : IsValidProgram p) (results : List ValueType) (ac
   gc_given (gc.RefTestNonNull h) more next =
       let r = passes_given h (must {A = HeapOf TypeTree} (meant_heap p.«module» h) _ (told p valid results act acts s v still (plain (op.Gc (gc.RefTestNonNull h)) more) next)) in
       let n = truth (if is_null (top 0) then false else r.0) in
-      calm (op.Gc (gc.RefTestNonNull h)) more refl (record (deciding r.0) { made = n }) s refl (r.1 n, (refl, (refl, (refl, refl))))
+      calm (op.Gc (gc.RefTestNonNull h)) more refl (record (deciding r.0) { made = n }) s refl (r.1 n, (refl, (refl, refl, refl)))
   gc_given (gc.RefTestNullable h) more next =
       let r = passes_given h (must {A = HeapOf TypeTree} (meant_heap p.«module» h) _ (told p valid results act acts s v still (plain (op.Gc (gc.RefTestNullable h)) more) next)) in
       let n = truth (if is_null (top 0) then true else r.0) in
-      calm (op.Gc (gc.RefTestNullable h)) more refl (record (deciding r.0) { made = n }) s refl (r.1 n, (refl, (refl, (refl, refl))))
+      calm (op.Gc (gc.RefTestNullable h)) more refl (record (deciding r.0) { made = n }) s refl (r.1 n, (refl, (refl, refl, refl)))
   gc_given (gc.RefCastNonNull h) more next =
       let r = passes_given h (must {A = HeapOf TypeTree} (meant_heap p.«module» h) _ (told p valid results act acts s v still (plain (op.Gc (gc.RefCastNonNull h)) more) next)) in
       may (op.Gc (gc.RefCastNonNull h)) more refl (deciding r.0, s, (r.1 0, (refl, refl)))
@@ -577,17 +577,17 @@ module _ (p : Program) (valid : IsValidProgram p) (results : List ValueType) (ac
       let f = converts gc.ExternConvertAny any extern more next (λ b. refl) q.0 (q.1).is in
       let r = to_extern (top 0) (internal p (top 0) f.0 f.1) in
       calm (op.Gc gc.ExternConvertAny) more refl r.0 r.1 r.2 r.3
-  gc_given gc.RefI31 more next = calm (op.Gc gc.RefI31) more refl (giving (ref_i31 (index 0 % 2 ^ 31) ∷ [])) s refl (refl, (refl, refl))
+  gc_given gc.RefI31 more next = calm (op.Gc gc.RefI31) more refl (giving (ref_i31 (index 0 % 2 ^ 31) ∷ [])) s refl (refl, refl, refl)
   gc_given gc.I31GetS more next = may (op.Gc gc.I31GetS) more refl (unboxes_given true (top 0))
   gc_given gc.I31GetU more next = may (op.Gc gc.I31GetU) more refl (unboxes_given false (top 0))
 
   -- ---- constants, vectors and atomic accesses
 
   constant_given : (o : ConstOperator) (more : Code) → Given (plain (op.Const o) more)
-  constant_given (const.I32Const n) more = calm (op.Const (const.I32Const n)) more refl (giving (number_value i32 (integer_bits 32 n) ∷ [])) s refl (refl, (refl, refl))
-  constant_given (const.I64Const n) more = calm (op.Const (const.I64Const n)) more refl (giving (number_value i64 (integer_bits 64 n) ∷ [])) s refl (refl, (refl, refl))
-  constant_given (const.F32Const b) more = calm (op.Const (const.F32Const b)) more refl (giving (number_value f32 b.0 ∷ [])) s refl (refl, (refl, refl))
-  constant_given (const.F64Const b) more = calm (op.Const (const.F64Const b)) more refl (giving (number_value f64 b.0 ∷ [])) s refl (refl, (refl, refl))
+  constant_given (const.I32Const n) more = calm (op.Const (const.I32Const n)) more refl (giving (number_value i32 (integer_bits 32 n) ∷ [])) s refl (refl, refl, refl)
+  constant_given (const.I64Const n) more = calm (op.Const (const.I64Const n)) more refl (giving (number_value i64 (integer_bits 64 n) ∷ [])) s refl (refl, refl, refl)
+  constant_given (const.F32Const b) more = calm (op.Const (const.F32Const b)) more refl (giving (number_value f32 b.0 ∷ [])) s refl (refl, refl, refl)
+  constant_given (const.F64Const b) more = calm (op.Const (const.F64Const b)) more refl (giving (number_value f64 b.0 ∷ [])) s refl (refl, refl, refl)
 
   -- numbers that are computed
   abbrev computing : Op → Answer

@@ -15,7 +15,7 @@ use Rattle.wasm_operators_enums.specs.declared.gc.GcOperator.TheVariants as gc
 use Rattle.wasm_operators_enums.specs.Immediates.{immediates_of}
 use Rattle.wasm_operators_enums.specs.Op as op
 use Rattle.wasm_operators_enums.specs.Op.{Op, ExceptionTree}
-use Rattle.wasm_operators_encoding.specs.expressions.Code.{Code, close, plain, nested, turn}
+use Rattle.wasm_operators_encoding.specs.expressions.Code.{Code, plain}
 use Rattle.wasm_operator_validator_rules.specs.Operands.{ValueType}
 use Rattle.wasm_operator_validator_rules.specs.Context.{Global}
 use Rattle.wasm_operator_validator_rules.specs.Typed.{IsBody}

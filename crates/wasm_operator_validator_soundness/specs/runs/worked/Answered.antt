@@ -1,9 +1,8 @@
 -- Worked answers: types of which no value is, operators that may trap and operators that do not, states for which something is an
 -- answer, and states for which nothing is.
 use Rattle.std.specs.Prelude.{◌≡◌, ℤ, true, false, List, [], ◌∷◌, None}
-use Rattle.wasm_types.specs.trees.Types.{any, none, extern, exn, noexn, func, abstract, i32, i64, f32, number, ref, function}
+use Rattle.wasm_types.specs.trees.Types.{any, none, extern, exn, noexn, abstract, i32, i64, number, ref, function}
 use Rattle.wasm_types.specs.trees.Trees.{TypeTree}
-use Rattle.wasm_operators_enums.specs.declared.control.ControlOperator.TheVariants as control
 use Rattle.wasm_operators_enums.specs.declared.memory.MemoryOperator.TheVariants as memory
 use Rattle.wasm_operators_enums.specs.declared.numeric.NumericOperator.TheVariants as numeric
 use Rattle.wasm_operators_enums.specs.declared.bulk.BulkOperator.TheVariants as bulk
@@ -15,12 +14,12 @@ use Rattle.wasm_operators_enums.specs.Op as op
 use Rattle.wasm_operators_enums.specs.Op.{Op}
 use Rattle.wasm_operators_encoding.specs.expressions.Code.{plain}
 use Rattle.wasm_operator_validator_rules.specs.Operands.{ValueType}
-use Rattle.wasm_operator_validator_soundness.specs.runs.Values.{Program, Value, number_value, ref_null, ref_i31, ref_exn, HasValue, IsMade}
-use Rattle.wasm_operator_validator_soundness.specs.runs.States.{State, trapped}
+use Rattle.wasm_operator_validator_soundness.specs.runs.Values.{Program, Value, number_value, ref_null, ref_exn, HasValue, IsMade}
+use Rattle.wasm_operator_validator_soundness.specs.runs.States.{State}
 use Rattle.wasm_operator_validator_soundness.specs.runs.Soundness.{step}
 use Rattle.wasm_operator_validator_soundness.specs.runs.Progress.{can_trap, HasAnswer}
 use Rattle.wasm_operator_validator_soundness.specs.runs.worked.Caught.{tag_type}
-use Rattle.wasm_operator_validator_soundness.specs.runs.worked.Runs.{alone, end, small, silent, giving, standing, one, takes_i32, a_struct}
+use Rattle.wasm_operator_validator_soundness.specs.runs.worked.Runs.{alone, end, small, giving, standing, one, takes_i32, a_struct}
 use Rattle.wasm_operator_validator_soundness.specs.runs.worked.Stuck.{argument}
 
 -- no value is of this type, so no exception is of a tag that takes one
