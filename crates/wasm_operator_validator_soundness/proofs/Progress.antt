@@ -149,14 +149,16 @@ module _ (p : Program) (a : Answer) (t : TypeTree) (vs : List Value) where
 -- one whose tag has values for its parameters, thrown again
 again_goes : (p : Program) (t : TypeTree) (acts : List Activation) → IsThrown t → (a : Answer) × Goes false (throw_again p a t acts)
 again_goes p t acts h = with_signature (function_type t) refl
-    where
-      with_signature : (o : Option Signature) → function_type t ≡ o → (a : Answer) × Goes false (throw_again p a t acts)
-      with_signature None e = (trap, subst (λ (o : Option Signature). Goes false (found o (λ b. gives p trap b.params (λ us. unwind p trap t us acts 0)))) (sym e) (done_goes false stuck tt))
-      with_signature (Some b) e =
-          let vs = arguments_of p t h b (as_function_is (expanded t) b e) in
-          let a : Answer = leaving vs.0 (past_all acts) in
-          (a, subst (λ (o : Option Signature). Goes false (found o (λ c. gives p a c.params (λ us. unwind p a t us acts (past_all acts))))) (sym e)
-          (allows_goes false (AllFit p vs.0 (stack b.params)) _ vs.1 (unwind_goes p a t vs.0 acts)))
+  where
+    with_signature : (o : Option Signature) → function_type t ≡ o → (a : Answer) × Goes false (throw_again p a t acts)
+    with_signature None e = (trap, subst (λ (o : Option Signature). Goes false (found o (λ b. gives p trap b.params (λ us. unwind p trap t us acts 0)))) (sym e) (done_goes false stuck tt))
+    with_signature (Some b) e =
+        let vs = arguments_of p t h b (as_function_is (expanded t) b e) in
+        let a : Answer = leaving vs.0 (past_all acts) in (
+          a,
+          subst (λ (o : Option Signature). Goes false (found o (λ c. gives p a c.params (λ us. unwind p a t us acts (past_all acts))))) (sym e)
+              (allows_goes false (AllFit p vs.0 (stack b.params)) _ vs.1 (unwind_goes p a t vs.0 acts)),
+        )
 
 -- ---- numbers
 
@@ -202,10 +204,10 @@ module _ (p : Program) (act : Activation) (acts : List Activation) where
   -- a step on numbers that are given by a name
   compute_answered : (b : Bool) (o : Op) (more : Code) → Answered b (λ a. compute p a act acts o more)
   compute_answered b o more = by_name (computed (info_of o).name)
-      where
-        by_name : (c : Option Places) → Answered b (λ a. found c (λ n. exchange p a act acts (numbers n.takes) (numbers n.gives) more))
-        by_name None = (trap, done_goes b stuck tt)
-        by_name (Some n) = (giving (zeros n.gives), exchange_gives b (zeros n.gives) (numbers n.takes) (numbers n.gives) more (zeros_fit p n.gives))
+    where
+      by_name : (c : Option Places) → Answered b (λ a. found c (λ n. exchange p a act acts (numbers n.takes) (numbers n.gives) more))
+      by_name None = (trap, done_goes b stuck tt)
+      by_name (Some n) = (giving (zeros n.gives), exchange_gives b (zeros n.gives) (numbers n.takes) (numbers n.gives) more (zeros_fit p n.gives))
 
   pub access_traps : (o : Op) (more : Code) → Goes true (access p trap act acts o more)
   access_traps o more = found_goes true (argument_of (immediates_of o)) _ (λ i e.
@@ -322,21 +324,21 @@ module _ (p : Program) (act : Activation) (acts : List Activation) where
   memory_answered g (memory.LocalSet x) more = (trap, pops_goes false act.innermost.values _ (λ v ws. set_goes false trap x v ws more))
   memory_answered g (memory.LocalTee x) more = (trap, pops_goes false act.innermost.values _ (λ v ws. set_goes false trap x v (v ∷ ws) more))
   memory_answered g (memory.GlobalGet x) more = global (slice_get p.«module».globals x) refl
-      where
-        global : (o : Option Global) → slice_get p.«module».globals x ≡ o → Answered false (λ a. found o (λ t. exchange p a act acts [] (t.content ∷ []) more))
-        global None e = (trap, done_goes false stuck tt)
-        global (Some t) e = let v = value_of p t.content (g x t e) in (giving (v.0 ∷ []), exchange_gives false (v.0 ∷ []) [] (t.content ∷ []) more (v.1, tt))
+    where
+      global : (o : Option Global) → slice_get p.«module».globals x ≡ o → Answered false (λ a. found o (λ t. exchange p a act acts [] (t.content ∷ []) more))
+      global None e = (trap, done_goes false stuck tt)
+      global (Some t) e = let v = value_of p t.content (g x t e) in (giving (v.0 ∷ []), exchange_gives false (v.0 ∷ []) [] (t.content ∷ []) more (v.1, tt))
   memory_answered g (memory.GlobalSet x) more = (giving [], found_goes false (slice_get p.«module».globals x) _ (λ t e. asks_goes false (IsTrue t.mutable) _ (exchange_gives false [] (t.content ∷ []) [] more tt)))
   memory_answered g (memory.MemorySize x) more = sized (slice_get p.«module».memories x)
-      where
-        sized : (o : Option MemoryType) → Answered false (λ a. found o (λ t. exchange p a act acts [] (address t.memory64 ∷ []) more))
-        sized None = (trap, done_goes false stuck tt)
-        sized (Some t) = (giving (zero_for t.memory64 ∷ []), exchange_gives false (zero_for t.memory64 ∷ []) [] (address t.memory64 ∷ []) more (zero_fits p t.memory64))
+    where
+      sized : (o : Option MemoryType) → Answered false (λ a. found o (λ t. exchange p a act acts [] (address t.memory64 ∷ []) more))
+      sized None = (trap, done_goes false stuck tt)
+      sized (Some t) = (giving (zero_for t.memory64 ∷ []), exchange_gives false (zero_for t.memory64 ∷ []) [] (address t.memory64 ∷ []) more (zero_fits p t.memory64))
   memory_answered g (memory.MemoryGrow x) more = grown (slice_get p.«module».memories x)
-      where
-        grown : (o : Option MemoryType) → Answered false (λ a. found o (λ t. exchange p a act acts (address t.memory64 ∷ []) (address t.memory64 ∷ []) more))
-        grown None = (trap, done_goes false stuck tt)
-        grown (Some t) = (giving (zero_for t.memory64 ∷ []), exchange_gives false (zero_for t.memory64 ∷ []) (address t.memory64 ∷ []) (address t.memory64 ∷ []) more (zero_fits p t.memory64))
+    where
+      grown : (o : Option MemoryType) → Answered false (λ a. found o (λ t. exchange p a act acts (address t.memory64 ∷ []) (address t.memory64 ∷ []) more))
+      grown None = (trap, done_goes false stuck tt)
+      grown (Some t) = (giving (zero_for t.memory64 ∷ []), exchange_gives false (zero_for t.memory64 ∷ []) (address t.memory64 ∷ []) (address t.memory64 ∷ []) more (zero_fits p t.memory64))
   memory_answered g o more = (trap, access_traps (op.Memory o) more)
 
   -- ---- references, tables and memories
@@ -346,28 +348,40 @@ module _ (p : Program) (act : Activation) (acts : List Activation) where
   bulk_answered bulk.RefIsNull more = (trap, pops_goes false act.innermost.values _ (λ v ws. asks_goes false (IsAReference v) _ (goes_on false trap (number_value i32 0 ∷ ws) more)))
   bulk_answered (bulk.RefFunc x) more = (trap, found_goes false (slice_get p.functions x) _ (λ f e. goes_on false trap (ref_function (Some x) f.type ∷ act.innermost.values) more))
   bulk_answered (bulk.TableSize x) more = sized (slice_get p.«module».tables x)
-      where
-        sized : (o : Option Table) → Answered false (λ a. found o (λ t. exchange p a act acts [] (address t.table64 ∷ []) more))
-        sized None = (trap, done_goes false stuck tt)
-        sized (Some t) = (giving (zero_for t.table64 ∷ []), exchange_gives false (zero_for t.table64 ∷ []) [] (address t.table64 ∷ []) more (zero_fits p t.table64))
+    where
+      sized : (o : Option Table) → Answered false (λ a. found o (λ t. exchange p a act acts [] (address t.table64 ∷ []) more))
+      sized None = (trap, done_goes false stuck tt)
+      sized (Some t) = (giving (zero_for t.table64 ∷ []), exchange_gives false (zero_for t.table64 ∷ []) [] (address t.table64 ∷ []) more (zero_fits p t.table64))
   bulk_answered (bulk.TableGrow x) more = grown (slice_get p.«module».tables x)
-      where
-        grown : (o : Option Table) → Answered false (λ a. found o (λ t. exchange p a act acts (t.element ∷ address t.table64 ∷ []) (address t.table64 ∷ []) more))
-        grown None = (trap, done_goes false stuck tt)
-        grown (Some t) = (giving (zero_for t.table64 ∷ []), exchange_gives false (zero_for t.table64 ∷ []) (t.element ∷ address t.table64 ∷ []) (address t.table64 ∷ []) more (zero_fits p t.table64))
+    where
+      grown : (o : Option Table) → Answered false (λ a. found o (λ t. exchange p a act acts (t.element ∷ address t.table64 ∷ []) (address t.table64 ∷ []) more))
+      grown None = (trap, done_goes false stuck tt)
+      grown (Some t) = (giving (zero_for t.table64 ∷ []), exchange_gives false (zero_for t.table64 ∷ []) (t.element ∷ address t.table64 ∷ []) (address t.table64 ∷ []) more (zero_fits p t.table64))
   bulk_answered (bulk.ElemDrop e) more = (trap, found_goes false (slice_get p.«module».elements e) _ (λ s f. goes_on false trap act.innermost.values more))
   bulk_answered (bulk.DataDrop d) more = (trap, asks_goes false (IsData p.«module».data_count d) _ (goes_on false trap act.innermost.values more))
-  bulk_answered (bulk.TableInit e x) more = (trap, found_goes true (slice_get p.«module».elements e) _ (λ s f. found_goes true (slice_get p.«module».tables x) _ (λ t g.
-      takes_goes p trap true (address t.table64 ∷ i32_type ∷ i32_type ∷ []) act.innermost.values _ (λ us ws. trap_goes))))
-  bulk_answered (bulk.TableCopy x y) more = (trap, found_goes true (slice_get p.«module».tables x) _ (λ t f. found_goes true (slice_get p.«module».tables y) _ (λ s g.
-      takes_goes p trap true (address t.table64 ∷ address s.table64 ∷ address (t.table64 && s.table64) ∷ []) act.innermost.values _ (λ us ws. trap_goes))))
+  bulk_answered (bulk.TableInit e x) more = (
+    trap,
+    found_goes true (slice_get p.«module».elements e) _ (λ s f. found_goes true (slice_get p.«module».tables x) _ (λ t g.
+        takes_goes p trap true (address t.table64 ∷ i32_type ∷ i32_type ∷ []) act.innermost.values _ (λ us ws. trap_goes))),
+  )
+  bulk_answered (bulk.TableCopy x y) more = (
+    trap,
+    found_goes true (slice_get p.«module».tables x) _ (λ t f. found_goes true (slice_get p.«module».tables y) _ (λ s g.
+        takes_goes p trap true (address t.table64 ∷ address s.table64 ∷ address (t.table64 && s.table64) ∷ []) act.innermost.values _ (λ us ws. trap_goes))),
+  )
   bulk_answered (bulk.TableGet x) more = (trap, found_goes true (slice_get p.«module».tables x) _ (λ t e. exchange_traps (address t.table64 ∷ []) (t.element ∷ []) more))
   bulk_answered (bulk.TableSet x) more = (trap, found_goes true (slice_get p.«module».tables x) _ (λ t e. exchange_traps (address t.table64 ∷ t.element ∷ []) [] more))
   bulk_answered (bulk.TableFill x) more = (trap, found_goes true (slice_get p.«module».tables x) _ (λ t e. exchange_traps (address t.table64 ∷ t.element ∷ address t.table64 ∷ []) [] more))
-  bulk_answered (bulk.MemoryInit d x) more = (trap, found_goes true (slice_get p.«module».memories x) _ (λ t e.
-      asks_goes true (IsData p.«module».data_count d) _ (exchange_traps (address t.memory64 ∷ i32_type ∷ i32_type ∷ []) [] more)))
-  bulk_answered (bulk.MemoryCopy x y) more = (trap, found_goes true (slice_get p.«module».memories x) _ (λ t e. found_goes true (slice_get p.«module».memories y) _ (λ s f.
-      exchange_traps (address t.memory64 ∷ address s.memory64 ∷ address (t.memory64 && s.memory64) ∷ []) [] more)))
+  bulk_answered (bulk.MemoryInit d x) more = (
+    trap,
+    found_goes true (slice_get p.«module».memories x) _ (λ t e.
+        asks_goes true (IsData p.«module».data_count d) _ (exchange_traps (address t.memory64 ∷ i32_type ∷ i32_type ∷ []) [] more)),
+  )
+  bulk_answered (bulk.MemoryCopy x y) more = (
+    trap,
+    found_goes true (slice_get p.«module».memories x) _ (λ t e. found_goes true (slice_get p.«module».memories y) _ (λ s f.
+        exchange_traps (address t.memory64 ∷ address s.memory64 ∷ address (t.memory64 && s.memory64) ∷ []) [] more)),
+  )
   bulk_answered (bulk.MemoryFill x) more = (trap, found_goes true (slice_get p.«module».memories x) _ (λ t e. exchange_traps (address t.memory64 ∷ i32_type ∷ address t.memory64 ∷ []) [] more))
   bulk_answered (bulk.MemoryDiscard x) more = (trap, found_goes true (slice_get p.«module».memories x) _ (λ t e. exchange_traps (address t.memory64 ∷ address t.memory64 ∷ []) [] more))
 
@@ -429,8 +443,11 @@ module _ (p : Program) (act : Activation) (acts : List Activation) where
   gc_answered (gc.ArrayNew x) more = (trap, makes false trap array_fields x (λ fs. operands_of fs ++ i32_type ∷ []) (λ fs m. m) more (λ fs m k. k))
   gc_answered (gc.ArrayNewDefault x) more = (trap, makes false trap array_fields x (λ fs. i32_type ∷ []) (λ fs m. asks (HaveDefaults fs) m) more (λ fs m k. asks_goes false (HaveDefaults fs) m k))
   gc_answered (gc.ArrayNewFixed x n) more = (trap, makes false trap array_fields x (λ fs. flat_map (λ (u : ValueType). replicate n u) (operands_of fs)) (λ fs m. m) more (λ fs m k. k))
-  gc_answered (gc.ArrayNewData x d) more = (trap, makes true trap array_fields x (λ fs. i32_type ∷ i32_type ∷ []) (λ fs m. asks (FromData p trap act acts d fs) (may_trap p trap m)) more
-      (λ fs m k. asks_goes true (FromData p trap act acts d fs) _ trap_goes))
+  gc_answered (gc.ArrayNewData x d) more = (
+    trap,
+    makes true trap array_fields x (λ fs. i32_type ∷ i32_type ∷ []) (λ fs m. asks (FromData p trap act acts d fs) (may_trap p trap m)) more
+        (λ fs m k. asks_goes true (FromData p trap act acts d fs) _ trap_goes),
+  )
   gc_answered (gc.ArrayNewElem x e) more = (trap, makes true trap array_fields x (λ fs. i32_type ∷ i32_type ∷ []) (λ fs m. may_trap p trap (stores_from p trap act acts e fs (λ f n. n) m)) more (λ fs m k. trap_goes))
   gc_answered (gc.ArrayGet x) more = (trap, reads IsWhole array_fields (i32_type ∷ []) x 0 more)
   gc_answered (gc.ArrayGetS x) more = (trap, reads IsPacked array_fields (i32_type ∷ []) x 0 more)
@@ -438,21 +455,36 @@ module _ (p : Program) (act : Activation) (acts : List Activation) where
   gc_answered (gc.ArraySet x) more = (trap, pops_goes true act.innermost.values _ (λ v ws. written array_fields (i32_type ∷ []) x 0 v ws more))
   gc_answered gc.ArrayLen more = (trap, number_traps array IsArray more)
   gc_answered (gc.ArrayFill x) more = (trap, pops_goes true act.innermost.values _ (λ n ws. asks_goes true (Fits p n i32_type) _ (pops_goes true ws _ (λ v us. written array_fields (i32_type ∷ []) x 0 v us more))))
-  gc_answered (gc.ArrayCopy x y) more = (trap, under_traps array_fields (i32_type ∷ i32_type ∷ []) y act.innermost.values (λ ss ws. object_under p trap act acts array_fields (i32_type ∷ []) x ws (λ fs us.
-      found (slice_get ss 0) (λ (s : FieldOf TypeTree). found (slice_get fs 0) (λ (f : FieldOf TypeTree). writes f (asks (AreStoredAlike s.storage f.storage)
-      (copies p trap (operand_of s.storage) (operand_of f.storage) (goes p trap act acts us more))))))))
-  gc_answered (gc.ArrayInitData x d) more = (trap, under_traps array_fields (i32_type ∷ i32_type ∷ i32_type ∷ []) x act.innermost.values
-      (λ fs ws. found (slice_get fs 0) (λ (f : FieldOf TypeTree). writes f (asks (FromData p trap act acts d fs) (goes p trap act acts ws more)))))
-  gc_answered (gc.ArrayInitElem x e) more = (trap, under_traps array_fields (i32_type ∷ i32_type ∷ i32_type ∷ []) x act.innermost.values
-      (λ fs ws. stores_from p trap act acts e fs writes (goes p trap act acts ws more)))
+  gc_answered (gc.ArrayCopy x y) more = (
+    trap,
+    under_traps array_fields (i32_type ∷ i32_type ∷ []) y act.innermost.values (λ ss ws. object_under p trap act acts array_fields (i32_type ∷ []) x ws (λ fs us.
+        found (slice_get ss 0) (λ (s : FieldOf TypeTree). found (slice_get fs 0) (λ (f : FieldOf TypeTree). writes f (asks (AreStoredAlike s.storage f.storage)
+        (copies p trap (operand_of s.storage) (operand_of f.storage) (goes p trap act acts us more))))))),
+  )
+  gc_answered (gc.ArrayInitData x d) more = (
+    trap,
+    under_traps array_fields (i32_type ∷ i32_type ∷ i32_type ∷ []) x act.innermost.values
+        (λ fs ws. found (slice_get fs 0) (λ (f : FieldOf TypeTree). writes f (asks (FromData p trap act acts d fs) (goes p trap act acts ws more)))),
+  )
+  gc_answered (gc.ArrayInitElem x e) more = (
+    trap,
+    under_traps array_fields (i32_type ∷ i32_type ∷ i32_type ∷ []) x act.innermost.values
+        (λ fs ws. stores_from p trap act acts e fs writes (goes p trap act acts ws more)),
+  )
   gc_answered (gc.RefTestNonNull h) more = (trap, cast_top_goes false false h _ (λ c v ws. goes_on false trap (number_value i32 0 ∷ ws) more))
   gc_answered (gc.RefTestNullable h) more = (trap, cast_top_goes false true h _ (λ c v ws. goes_on false trap (number_value i32 0 ∷ ws) more))
   gc_answered (gc.RefCastNonNull h) more = (trap, cast_top_goes true false h _ (λ c v ws. choose_goes true c _ _ (λ e. goes_on true trap (v ∷ ws) more) (λ e. trap_goes)))
   gc_answered (gc.RefCastNullable h) more = (trap, cast_top_goes true true h _ (λ c v ws. choose_goes true c _ _ (λ e. goes_on true trap (v ∷ ws) more) (λ e. trap_goes)))
-  gc_answered (gc.BrOnCast n from to) more = (trap, cast_from_goes false from to _ (λ c v ws.
-      choose_goes false c _ _ (λ e. branch_goes false trap n (v ∷ ws)) (λ e. goes_on false trap (v ∷ ws) more)))
-  gc_answered (gc.BrOnCastFail n from to) more = (trap, cast_from_goes false from to _ (λ c v ws.
-      choose_goes false c _ _ (λ e. goes_on false trap (v ∷ ws) more) (λ e. branch_goes false trap n (v ∷ ws))))
+  gc_answered (gc.BrOnCast n from to) more = (
+    trap,
+    cast_from_goes false from to _ (λ c v ws.
+        choose_goes false c _ _ (λ e. branch_goes false trap n (v ∷ ws)) (λ e. goes_on false trap (v ∷ ws) more)),
+  )
+  gc_answered (gc.BrOnCastFail n from to) more = (
+    trap,
+    cast_from_goes false from to _ (λ c v ws.
+        choose_goes false c _ _ (λ e. goes_on false trap (v ∷ ws) more) (λ e. branch_goes false trap n (v ∷ ws))),
+  )
   gc_answered gc.AnyConvertExtern more = (giving (ref_host 0 ∷ []), convert_goes extern any (ref_host 0) more (λ v s e f. ((tt, (tt, (external_whole p v s e f, same))), tt)))
   gc_answered gc.ExternConvertAny more = (giving (ref_extern 0 ∷ []), convert_goes any extern (ref_extern 0) more (λ v s e f. ((tt, (tt, (internal_whole p v s e f, same))), tt)))
   gc_answered gc.RefI31 more = (giving (ref_i31 0 ∷ []), exchange_gives false (ref_i31 0 ∷ []) (i32_type ∷ []) (ref false (abstract false i31) ∷ []) more ((tt, (tt, (refl, same))), tt))
@@ -502,9 +534,11 @@ module _ (p : Program) (valid : IsValidProgram p) (globals : GlobalsHaveValues p
 
   exception_answered : (o : ExceptionTree) (popped pushed rest : List Operand) → ExceptionRow (here p trap act acts) o popped pushed → AllBelow h.operands (reverse popped ++ rest)
       → Answered p act acts (exception_can_trap o) (λ a. operate_exception p a act acts o)
-  exception_answered (op.Throw x) popped pushed rest r b = let a : Answer = leaving [] (past_all (act ∷ acts)) in
-      (a, found_goes false (slice_get p.«module».tags x) _ (λ t e. found_goes false (function_type t) _ (λ s f.
-      takes_goes p a false s.params act.innermost.values _ (λ us ws. unwind_goes p a t us (act ∷ acts)))))
+  exception_answered (op.Throw x) popped pushed rest r b = let a : Answer = leaving [] (past_all (act ∷ acts)) in (
+    a,
+    found_goes false (slice_get p.«module».tags x) _ (λ t e. found_goes false (function_type t) _ (λ s f.
+        takes_goes p a false s.params act.innermost.values _ (λ us ws. unwind_goes p a t us (act ∷ acts)))),
+  )
   exception_answered op.ThrowRef popped pushed rest r b =
       thrown_answered p act acts act.innermost.values (reverse r.0 ++ rest) (values_under p valid final trap act acts h r.0 (exception true ∷ []) popped rest b r.1)
   exception_answered (op.Rethrow n) popped pushed rest r b = rethrow_answered n r

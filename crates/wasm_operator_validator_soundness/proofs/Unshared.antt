@@ -24,10 +24,10 @@ standard_valid t s = All-contains (IsValidType s.settings) s.types t (groups_val
 
 pub not_shared : (t : TypeTree) → IsStandardType t → is_shared t ≡ false
 not_shared t s = whole (is_shared t) refl
-    where
-      whole : (b : Bool) → is_shared t ≡ b → is_shared t ≡ false
-      whole true e = absurd (true≢false (sym ((standard_valid t s).composite.0 e) ∙ s.standard.sharing))
-      whole false e = e
+  where
+    whole : (b : Bool) → is_shared t ≡ b → is_shared t ≡ false
+    whole true e = absurd (true≢false (sym ((standard_valid t s).composite.0 e) ∙ s.standard.sharing))
+    whole false e = e
 
 -- no value but null is shared
 value_whole : (p : Program) (v : Value) (k : HeapOf TypeTree) → is_null v ≡ false → IsMade p v → IsAkin (least_type v) k → false ≡ heap_is_shared k

@@ -34,10 +34,10 @@ both (inr n) d = inr (λ r. n r.0)
 
 same_number : (m n : ℕ) → Decided (m ≡ n)
 same_number m n = at (eqb m n) refl
-    where
-      at : (b : Bool) → eqb m n ≡ b → Decided (m ≡ n)
-      at true e = inl (eqb-true m n e)
-      at false e = inr (λ d. true≢false (sym (eq-eqb m n d) ∙ e))
+  where
+    at : (b : Bool) → eqb m n ≡ b → Decided (m ≡ n)
+    at true e = inl (eqb-true m n e)
+    at false e = inr (λ d. true≢false (sym (eq-eqb m n d) ∙ e))
 
 same_bool : (b c : Bool) → Decided (b ≡ c)
 same_bool true true = inl refl

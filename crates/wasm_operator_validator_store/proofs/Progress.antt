@@ -280,10 +280,10 @@ module _ (p : Program) (valid : IsValidProgram p) (results : List ValueType) (ac
 
   table_made : (z i : ℕ) (w : Value) → slice_get (table_in s z) i ≡ Some w → IsMade p w
   table_made z i w e = each_get (IsMade p) (table_in s z) i w (held (slice_get s.tables (table_address s z)) refl) e
-      where
-        held : (o : Option TableInstance) → slice_get s.tables (table_address s z) ≡ o → Each (IsMade p) (elements_held o)
-        held None d = tt
-        held (Some t) d = each_map (Has p s t.type.element) (IsMade p) t.elements (λ w k. k.0.0) (each_get (TableFits p s) s.tables (table_address s z) t v.store.tables d)
+    where
+      held : (o : Option TableInstance) → slice_get s.tables (table_address s z) ≡ o → Each (IsMade p) (elements_held o)
+      held None d = tt
+      held (Some t) d = each_map (Has p s t.type.element) (IsMade p) t.elements (λ w k. k.0.0) (each_get (TableFits p s) s.tables (table_address s z) t v.store.tables d)
 
   indirect_traps : (tail : Bool) (y z : ℕ) (more : Code) (a : Answer) → a.traps ≡ true → (call_indirect p a act acts tail y z more).is_answer
   indirect_traps tail y z more a e = found_answer (slice_get p.«module».tables z) _ (λ (t : Table) d. found_answer (slice_get p.«module».types y) _ (λ (u : TypeTree) b. a_trap p a _ e))
@@ -414,26 +414,26 @@ module _ (p : Program) (valid : IsValidProgram p) (results : List ValueType) (ac
       → ((b : Answer) → execute p b act acts (plain o more) ≡ read p b act acts stored of ns y j more) → (w : Value) (k : ℕ) (t : TypeTree) → last_of (take (suc (length ns)) vs) ≡ w → w ≡ ref_object k t
       → ((z : InnerOf TypeTree) (fs : Fields) (f : FieldOf TypeTree) → of z ≡ Some fs → slice_get fs j ≡ Some f → field_at z i ≡ Some f) → (f : FieldOf TypeTree) × (field_at (expanded t) i ≡ Some f)
   field_there stored of ns y j i o more next e w k t l q at = found_there (field_at (expanded t) i) refl
-      where
-        found_there : (r : Option (FieldOf TypeTree)) → field_at (expanded t) i ≡ r → (f : FieldOf TypeTree) × (field_at (expanded t) i ≡ Some f)
-        found_there (Some f) d = (f, d)
-        found_there None d =
-            let below = drop (suc (length ns)) vs in
-            let answer : (read p still act acts stored of ns y j more).is_answer =
-            under_answer p valid results act acts s v more still s of ns y vs (reading stored j more) w k t refl l q
-            (λ fs c. found_answer (slice_get fs j) _ (λ (f : FieldOf TypeTree) b. absurd (none_some f (sym d ∙ at (expanded t) fs f c b)))) in
-            let m = told p valid results act acts s v still (plain o more) next (subst (λ (n : Move). n.is_answer) (sym (e still)) answer) in
-            let q1 = found_needs {A = TypeTree} p results (slice_get p.«module».types y)
-            (λ z. found (of (expanded z)) (λ own. takes p still (ref true (concrete z) ∷ ns) vs (λ us rest. may_trap p still (object p still act acts of (last_of us) (λ fs. reading stored j more fs rest)))))
-            (subst (λ (n : Move). n.needs) (e still) m.0) (subst (λ (n : Move). IsValidOutcome p results n.outcome) (e still) m.1) in
-            let q2 = found_needs {A = Fields} p results (of (expanded q1.0))
-            (λ own. takes p still (ref true (concrete q1.0) ∷ ns) vs (λ us rest. may_trap p still (object p still act acts of (last_of us) (λ fs. reading stored j more fs rest)))) q1.2 q1.3 in
-            let q3 = no_trap_needs p still results (object p still act acts of (last_of (take (suc (length ns)) vs)) (λ fs. reading stored j more fs below)) refl q2.2.1 q2.3 in
-            let q4 = found_needs {A = Fields} p results (of (expanded t)) (λ fs. reading stored j more fs below)
-            (subst (λ z. (object p still act acts of z (λ fs. reading stored j more fs below)).needs) (l ∙ q) q3.0) (subst (λ z. IsValidOutcome p results (object p still act acts of z (λ fs. reading stored j more fs below)).outcome) (l ∙ q) q3.1) in
-            let q5 = found_needs {A = FieldOf TypeTree} p results (slice_get q4.0 j)
-            (λ (f : FieldOf TypeTree). asks (stored f.storage) (gives p still (operand_of f.storage ∷ []) (λ rs. goes p still act acts (rs ++ below) more))) q4.2 q4.3 in
-            absurd (none_some q5.0 (sym d ∙ at (expanded t) q4.0 q5.0 q4.1 q5.1))
+    where
+      found_there : (r : Option (FieldOf TypeTree)) → field_at (expanded t) i ≡ r → (f : FieldOf TypeTree) × (field_at (expanded t) i ≡ Some f)
+      found_there (Some f) d = (f, d)
+      found_there None d =
+          let below = drop (suc (length ns)) vs in
+          let answer : (read p still act acts stored of ns y j more).is_answer =
+          under_answer p valid results act acts s v more still s of ns y vs (reading stored j more) w k t refl l q
+          (λ fs c. found_answer (slice_get fs j) _ (λ (f : FieldOf TypeTree) b. absurd (none_some f (sym d ∙ at (expanded t) fs f c b)))) in
+          let m = told p valid results act acts s v still (plain o more) next (subst (λ (n : Move). n.is_answer) (sym (e still)) answer) in
+          let q1 = found_needs {A = TypeTree} p results (slice_get p.«module».types y)
+          (λ z. found (of (expanded z)) (λ own. takes p still (ref true (concrete z) ∷ ns) vs (λ us rest. may_trap p still (object p still act acts of (last_of us) (λ fs. reading stored j more fs rest)))))
+          (subst (λ (n : Move). n.needs) (e still) m.0) (subst (λ (n : Move). IsValidOutcome p results n.outcome) (e still) m.1) in
+          let q2 = found_needs {A = Fields} p results (of (expanded q1.0))
+          (λ own. takes p still (ref true (concrete q1.0) ∷ ns) vs (λ us rest. may_trap p still (object p still act acts of (last_of us) (λ fs. reading stored j more fs rest)))) q1.2 q1.3 in
+          let q3 = no_trap_needs p still results (object p still act acts of (last_of (take (suc (length ns)) vs)) (λ fs. reading stored j more fs below)) refl q2.2.1 q2.3 in
+          let q4 = found_needs {A = Fields} p results (of (expanded t)) (λ fs. reading stored j more fs below)
+          (subst (λ z. (object p still act acts of z (λ fs. reading stored j more fs below)).needs) (l ∙ q) q3.0) (subst (λ z. IsValidOutcome p results (object p still act acts of z (λ fs. reading stored j more fs below)).outcome) (l ∙ q) q3.1) in
+          let q5 = found_needs {A = FieldOf TypeTree} p results (slice_get q4.0 j)
+          (λ (f : FieldOf TypeTree). asks (stored f.storage) (gives p still (operand_of f.storage ∷ []) (λ rs. goes p still act acts (rs ++ below) more))) q4.2 q4.3 in
+          absurd (none_some q5.0 (sym d ∙ at (expanded t) q4.0 q5.0 q4.1 q5.1))
 
   reads_given : (c : Bool) (w : Value) (i : ℕ) → Knows s w → ((k : ℕ) (t : TypeTree) → w ≡ ref_object k t → (f : FieldOf TypeTree) × (field_at (expanded t) i ≡ Some f))
       → Some_of p x s (λ a u. Reads p (act ∷ acts) s a u act c w i)
@@ -468,10 +468,10 @@ module _ (p : Program) (valid : IsValidProgram p) (results : List ValueType) (ac
   -- whether the value on top passes, by its own type
   passes_given : (h : HeapType) → (k : HeapOf TypeTree) × (meant_heap p.«module» h ≡ Some k) → (c : Bool) × ((n : ℕ) → Passes p (act ∷ acts) s (record (deciding c) { made = n }) s act h)
   passes_given h k = decided (fits_decided p (top 0) (top_made 0) k.0)
-      where
-        decided : Decided (Fits p (top 0) (ref false k.0)) → (c : Bool) × ((n : ℕ) → Passes p (act ∷ acts) s (record (deciding c) { made = n }) s act h)
-        decided (inl f) = (true, λ n. there_is p x s (meant_heap p.«module» h) k.0 (record (deciding true) { made = n }) s _ k.1 ((λ e. f), (λ g. refl)))
-        decided (inr m) = (false, λ n. there_is p x s (meant_heap p.«module» h) k.0 (record (deciding false) { made = n }) s _ k.1 ((λ e. absurd (true≢false (sym e))), (λ g. absurd (m g))))
+    where
+      decided : Decided (Fits p (top 0) (ref false k.0)) → (c : Bool) × ((n : ℕ) → Passes p (act ∷ acts) s (record (deciding c) { made = n }) s act h)
+      decided (inl f) = (true, λ n. there_is p x s (meant_heap p.«module» h) k.0 (record (deciding true) { made = n }) s _ k.1 ((λ e. f), (λ g. refl)))
+      decided (inr m) = (false, λ n. there_is p x s (meant_heap p.«module» h) k.0 (record (deciding false) { made = n }) s _ k.1 ((λ e. absurd (true≢false (sym e))), (λ g. absurd (m g))))
 
   converts : (o : GcOperator) (h k : Abstract) (more : Code) → Next (plain (op.Gc o) more) → ((b : Answer) → execute p b act acts (plain (op.Gc o) more) ≡ convert p b act acts h k more)
       → (b : Answer) → (execute p b act acts (plain (op.Gc o) more)).is_answer → (c : Bool) × Fits p (top 0) (ref true (abstract c h))

@@ -96,4 +96,5 @@ pub record RowsWorked : Type 0 where
       (record (throwing 0 1 0) { values = num 6 ∷ [] }) (thrown takes_i32 (num 6 ∷ []))
   -- past the end of an array a trap is given; what an external reference names is given, if something is there
   pub answered : IsAnsweredOver program (standing numbers (num 3 ∷ some_cells ∷ []) (gc_then (gc.ArrayGet 4) end)) store
-  pub unknown_extern : IsAnsweredOver program (standing numbers (ref_extern 9 ∷ []) (gc_then gc.AnyConvertExtern end)) store → ⊥
+  pub unknown_extern : IsAnsweredOver program
+      (standing numbers (ref_extern 9 ∷ []) (gc_then gc.AnyConvertExtern end)) store → ⊥
