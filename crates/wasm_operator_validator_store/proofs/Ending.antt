@@ -1,7 +1,7 @@
 -- A step under an answer without a trap does not trap, if its operator never does.
 use Rattle.std.proofs.Common.{◌≡◌, ℕ, zero, suc, Bool, true, false, List, [], ◌∷◌, ◌++◌, map, length, take, drop, Option, Some, None, is_some, if◌then◌else◌, IsTrue, slice_get, sym, subst, true≢false, not, ◌&&◌, replicate}
 use Rattle.std.specs.Prelude.{flat_map}
-use Rattle.wasm_types.specs.trees.Types.{i32, number, ref, any, extern, abstract, i31, Abstract, InnerOf, FieldOf}
+use Rattle.wasm_types.specs.trees.Types.{i32, ref, any, extern, abstract, i31, Abstract, InnerOf, FieldOf}
 use Rattle.wasm_types.specs.trees.Trees.{TypeTree}
 use Rattle.wasm_types.specs.trees.Below.{expanded}
 use Rattle.wasm_types.specs.values.Reference.{Reference}
@@ -20,17 +20,17 @@ use Rattle.wasm_operators_enums.specs.Table.{info_of}
 use Rattle.wasm_operators_enums.specs.Immediates.{immediates_of}
 use Rattle.wasm_operators_enums.specs.Op as op
 use Rattle.wasm_operators_enums.specs.Op.{Op, ExceptionTree}
-use Rattle.wasm_operators_encoding.specs.expressions.Code.{Code, close, plain, nested, turn}
+use Rattle.wasm_operators_encoding.specs.expressions.Code.{Code, close, nested, turn}
 use Rattle.wasm_operator_validator_rules.specs.Operands.{ValueType, stack, known}
 use Rattle.wasm_operator_validator_rules.specs.InstructionTypes.{i32_type}
 use Rattle.wasm_operator_validator_rules.specs.Numbers.{numbers}
 use Rattle.wasm_operator_validator_soundness.specs.runs.Values.{Program, Value, number_value, ref_function, ref_object, IsAReference, is_null, Fits, AllFit, null_of}
-use Rattle.wasm_operator_validator_soundness.specs.runs.States.{Handlers, no_handlers, table, clauses, Exception, Label, Activation, branch_type, Answer, Outcome, next, trapped, thrown, stuck, Move, done, refused, stop, asks, allows, choose, found, pops}
+use Rattle.wasm_operator_validator_soundness.specs.runs.States.{Handlers, no_handlers, table, clauses, Label, Activation, branch_type, Answer, Outcome, trapped, thrown, stuck, Move, done, refused, asks, allows, choose, found, pops}
 use Rattle.wasm_operator_validator_soundness.specs.runs.Names.{computed, argument_of}
-use Rattle.wasm_operator_validator_soundness.specs.runs.Machine.{address, meant_heap, HaveDefaults, IsData, Clause, clause_at, function_type, takes, is_for, caught_by, tag_values, hand_on, catch_by, turn_to, handle, leave_labels, unwind, throw_again, jump}
-use Rattle.wasm_operator_validator_soundness.specs.runs.Machine.{operands_of, struct_fields, array_fields, label_at, goes, exchange, compute, branch, caught_at, operate_exception, operate_memory, operate_bulk, operate_atomic, make, cast, cast_top, cast_from, IsOf, null_in, convert, operate_gc, operate_vector, operate, end, execute}
-use Rattle.wasm_operator_validator_soundness.specs.runs.Progress.{exception_can_trap, memory_can_trap, bulk_can_trap, gc_can_trap, atomic_can_trap, can_trap, code_can_trap}
-use Rattle.wasm_operator_validator_soundness.proofs.Progress.{NoTrap, no_trap, Goes, jump_goes, goes_on, branch_goes, enter_goes, control_any, parametric_goes, set_goes, end_goes}
+use Rattle.wasm_operator_validator_soundness.specs.runs.Machine.{address, meant_heap, HaveDefaults, IsData, Clause, clause_at, function_type, takes, is_for, caught_by, catch_by, turn_to, handle, leave_labels, unwind, throw_again}
+use Rattle.wasm_operator_validator_soundness.specs.runs.Machine.{operands_of, struct_fields, array_fields, label_at, goes, exchange, compute, branch, caught_at, operate_exception, operate_memory, operate_bulk, operate_atomic, make, cast_top, cast_from, IsOf, null_in, convert, operate_gc, operate_vector, operate, execute}
+use Rattle.wasm_operator_validator_soundness.specs.runs.Progress.{exception_can_trap, memory_can_trap, bulk_can_trap, gc_can_trap, atomic_can_trap, can_trap}
+use Rattle.wasm_operator_validator_soundness.proofs.Progress.{NoTrap, no_trap, Goes, jump_goes, branch_goes, enter_goes, control_any, parametric_goes, set_goes, end_goes}
 
 -- The step does not trap. It is a record, so that the parts of a step can be found from its type.
 pub record Ends (m : Move) : Type 0 where

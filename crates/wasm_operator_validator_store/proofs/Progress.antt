@@ -1,11 +1,10 @@
 -- A store gives something to each operator, in each state in which all fits.
-use Rattle.std.proofs.Common.{◌≡◌, ℕ, zero, suc, ◌%◌, ◌^◌, Bool, true, false, IsTrue, List, [], ◌∷◌, ◌++◌, length, reverse, take, drop, replicate, get_or, Option, Some, None, is_some, if◌then◌else◌, slice_get, refl, sym, ap, subst, ◌∙◌, inl, inr, true≢false}
-use Rattle.std.specs.Prelude.{◌↔◌, ◌⊎◌, flat_map}
+use Rattle.std.proofs.Common.{◌≡◌, ℕ, zero, suc, ◌%◌, ◌^◌, Bool, true, false, IsTrue, List, [], ◌∷◌, ◌++◌, length, take, drop, replicate, get_or, Option, Some, None, is_some, if◌then◌else◌, slice_get, refl, sym, ap, subst, ◌∙◌, inl, inr, true≢false}
+use Rattle.std.specs.Prelude.{◌↔◌, flat_map}
 use Rattle.wasm_types.specs.trees.Types.{Number, i32, i64, f32, f64, Abstract, any, none, nofunc, extern, noextern, ref, HeapOf, abstract, concrete, InnerOf, FieldOf, StorageOf, function, array_of, struct_of, continuation}
 use Rattle.wasm_types.specs.trees.Trees.{TypeTree}
 use Rattle.wasm_types.specs.trees.Below.{expanded, bottom_of}
 use Rattle.wasm_types.specs.trees.ValidGroup.{IsFunction}
-use Rattle.wasm_types.specs.values.Reference.{Reference}
 use Rattle.wasm_types.specs.values.declared.heap.HeapType.{HeapType}
 use Rattle.wasm_types.specs.externs.declared.memory.MemoryType.{MemoryType}
 use Rattle.wasm_operators_enums.specs.declared.control.ControlOperator.{ControlOperator}
@@ -31,24 +30,24 @@ use Rattle.wasm_operator_validator_rules.specs.Operands.{ValueType, Operand, bot
 use Rattle.wasm_operator_validator_rules.specs.InstructionTypes.{i32_type}
 use Rattle.wasm_operator_validator_rules.specs.Context.{Table}
 use Rattle.wasm_operator_validator_rules.specs.Numbers.{numbers}
-use Rattle.wasm_operator_validator_soundness.specs.runs.Values.{Body, Program, Value, number_value, ref_null, ref_function, ref_object, ref_i31, ref_host, ref_extern, ref_exn, is_null, IsNumberValue, IsMade, Fits, FitsOperand, AllFit}
-use Rattle.wasm_operator_validator_soundness.specs.runs.States.{Exception, Label, Activation, State, Answer, trapped, Move, done, asks, found}
+use Rattle.wasm_operator_validator_soundness.specs.runs.Values.{Body, Program, Value, number_value, ref_null, ref_function, ref_object, ref_i31, ref_host, ref_extern, ref_exn, is_null, IsNumberValue, IsMade, Fits, AllFit}
+use Rattle.wasm_operator_validator_soundness.specs.runs.States.{Exception, Activation, State, Answer, trapped, Move, asks, found}
 use Rattle.wasm_operator_validator_soundness.specs.runs.Names.{Places, computed, argument_of}
-use Rattle.wasm_operator_validator_soundness.specs.runs.Machine.{operand_of, operands_of, HaveDefaults, gives, call_indirect, make, stores_from, address, meant_heap, function_type_in, fields_in, struct_fields, array_fields, IsWhole, IsPacked, body_of, last_of, takes, may_trap, throw_again, object, object_under, read, caught_at, convert, goes, compute, access, operate, operate_vector, operate_exception, execute}
+use Rattle.wasm_operator_validator_soundness.specs.runs.Machine.{operand_of, operands_of, HaveDefaults, gives, call_indirect, make, address, meant_heap, function_type_in, struct_fields, array_fields, IsWhole, IsPacked, body_of, last_of, takes, may_trap, object, read, caught_at, convert, goes, compute, operate, operate_vector, execute}
 use Rattle.wasm_operator_validator_soundness.specs.runs.ValidStates.{IsValidOutcome}
 use Rattle.wasm_operator_validator_soundness.specs.runs.Soundness.{step, IsValidProgram}
 use Rattle.wasm_operator_validator_soundness.specs.runs.Progress.{gc_can_trap, can_trap, code_can_trap}
 use Rattle.wasm_operator_validator_soundness.proofs.Objects.{akin_value}
 use Rattle.wasm_operator_validator_soundness.proofs.Progress.{trap, giving, zero_each, zeros, zeros_fit, access_traps, calls, calls_reference, caught_whatever, gc_answered}
-use Rattle.wasm_operator_validator_store.specs.Stores.{TableInstance, table_address, elements_held, ObjectInstance, ExceptionInstance, Store, range, placed, nothing, bits_of, is_true, truth, integer_bits, extended, unpacked, sized, same, defaults, field_at, global_in, table_in, segment_in, with_global, with_table, without_segment, with_object, with_fields, with_exception, with_extern}
+use Rattle.wasm_operator_validator_store.specs.Stores.{TableInstance, table_address, elements_held, ObjectInstance, ExceptionInstance, Store, range, placed, nothing, bits_of, is_true, truth, integer_bits, extended, unpacked, sized, same, field_at, global_in, table_in, segment_in, with_global, with_table, without_segment, with_object, with_fields, with_exception, with_extern}
 use Rattle.wasm_operator_validator_store.specs.Handling.{Place, place_of}
-use Rattle.wasm_operator_validator_store.specs.ValidStores.{Each, Knows, Has, TableFits, StoreFits, Evolves}
-use Rattle.wasm_operator_validator_store.specs.Giving.{arity, is_wide, Either, Traps, Stays, Outside, OrTraps, There, OfObject, Makes, ThrowsAgain, Begins, Calls, Reads, Writes, WritesTo, MakesNamed, Passes, ThrowsReference, CallsIndirect, ConvertsToExtern, ConvertsToAny, Unboxes, GivesControl, GivesParametric, GivesException, GivesMemory, GivesBulk, GivesGc, GivesConstant, GivesOperator, GivesBlock, GivesCode}
-use Rattle.wasm_operator_validator_store.specs.Soundness.{AreValid, IsAnsweredOver, StoreAnswersExist}
+use Rattle.wasm_operator_validator_store.specs.ValidStores.{Each, Knows, Has, TableFits}
+use Rattle.wasm_operator_validator_store.specs.Giving.{arity, is_wide, Either, Stays, Outside, OrTraps, There, OfObject, ThrowsAgain, Begins, Calls, Reads, Writes, MakesNamed, Passes, ThrowsReference, CallsIndirect, ConvertsToExtern, ConvertsToAny, Unboxes, GivesOperator, GivesCode}
+use Rattle.wasm_operator_validator_store.specs.Soundness.{AreValid, StoreAnswersExist}
 use Rattle.wasm_operator_validator_store.proofs.Lists.{none_some, each_get, each_map, each_reverse, get_last}
 use Rattle.wasm_operator_validator_store.proofs.Storing.{stays}
 use Rattle.wasm_operator_validator_store.proofs.Answering.{found_needs, found_answer, a_trap, no_trap_needs, told, top_known}
-use Rattle.wasm_operator_validator_store.proofs.Accessing.{sized_fits, table_known}
+use Rattle.wasm_operator_validator_store.proofs.Accessing.{sized_fits}
 use Rattle.wasm_operator_validator_store.proofs.Objects.{Fields, Holding, struct_at, array_at, last_one, under_answer, element_under, pops_split}
 use Rattle.wasm_operator_validator_store.proofs.Rethrowing.{caught_known}
 use Rattle.wasm_operator_validator_store.proofs.Deciding.{Decided, fits_decided}
