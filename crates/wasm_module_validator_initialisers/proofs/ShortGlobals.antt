@@ -40,12 +40,11 @@ use Rattle.wasm_module_validator_state.specs.Items.{Items}
 use Rattle.wasm_module_validator_state.specs.invariant.Standing.{constants_of, IsAdded}
 use Rattle.wasm_module_validator_initialisers.specs.segments.Judged.{IsConstantText, IsGlobal}
 use Rattle.wasm_module_validator_initialisers.specs.segments.NumberLaws.{i32_text, i64_text}
-use Rattle.wasm_module_validator_initialisers.specs.elements.Short.{FitsGlobal}
-use Rattle.wasm_module_validator_initialisers.proofs.ShortConstants.{global_fits}
+use Rattle.wasm_module_validator_initialisers.proofs.ShortConstants.{FitsGlobal, global_fits}
 use Rattle.wasm_module_validator_initialisers.specs.adding.Short.{AddsGlobal, HoldsInteger, IsInteger, SpellsGlobal, integer, integer_byte, integer_global, integer_type}
 use Rattle.wasm_module_validator_initialisers.proofs.NewGlobals.{global_told, global_added}
 use Rattle.wasm_module_validator_initialisers.proofs.Parts.{global_is}
-use Rattle.wasm_module_validator_initialisers.proofs.ShortWalks.{refers_alone}
+use Rattle.wasm_module_validator_initialisers.proofs.ShortWalks.{refers_to}
 
 -- ---- what the code asks
 
@@ -89,19 +88,19 @@ module _ (z : Settings) (g : Module) (count : ℕ) (wide : Bool) where
   Told text = (c : Code) × SpelledExpression z c text × IsConstant z.features g count Own c × NamesMore z text [] []
 
   told : (o : Op) (text : List ℕ) → SpelledExpression z (alone o) text → IsConstant z.features g count Own (alone o) → referred_in (alone o) ≡ [] → Told text
-  told o text spelled fits none = (alone o, spelled, fits, refers_alone z o [] text [] [] spelled none refl)
+  told o text spelled fits none = (alone o, spelled, fits, refers_to z (alone o) [] text [] [] spelled none refl)
 
 pub integer_told : (z : Settings) (g : Module) (count : ℕ) (wide : Bool) (c : ShortConstant) (text : List ℕ) → SpellsShort c text → IsInteger (has Gc z.features) g wide c → Told z g count wide text
 integer_told z g count true short.I32 text h e = absurd cc
 integer_told z g count false short.I32 text h e =
     let (o, (n, is), spelled) = h z in
     let (c, again, fits) = i32_text z g count text h in
-    (c, again, fits, refers_alone z o [] text [] [] spelled (rw is refl) refl)
+    (c, again, fits, refers_to z (alone o) [] text [] [] spelled (rw is refl) refl)
 integer_told z g count false short.I64 text h e = absurd cc
 integer_told z g count true short.I64 text h e =
     let (o, (n, is), spelled) = h z in
     let (c, again, fits) = i64_text z g count text h in
-    (c, again, fits, refers_alone z o [] text [] [] spelled (rw is refl) refl)
+    (c, again, fits, refers_to z (alone o) [] text [] [] spelled (rw is refl) refl)
 integer_told z g count wide (short.Global x) text h e =
     let (o, is, spelled) = h z in
     told z g count wide (op.Memory (memory.GlobalGet x)) text (subst (λ (p : Op). SpelledExpression z (alone p) text) is spelled) (global_fits z.features g (Own z g count wide) x e.0 (fitting z g count wide x e.1) count) refl
