@@ -4,14 +4,17 @@ use Rattle.std.proofs.lemmas.List.{drop-drop, drop_more, map-append, reverse-app
 use Rattle.std.specs.Prelude.{option_map}
 use Rattle.wasm_types.specs.decoding.Decoder.{State}
 use Rattle.wasm_types.specs.decoding.Leb.{IsSigned, s32, s33, s64, u32}
+use Rattle.wasm_types.specs.decoding.Text.{word}
+use Rattle.wasm_types.specs.reader.declared.words.Ieee32.{Ieee32}
+use Rattle.wasm_types.specs.reader.declared.words.Ieee64.{Ieee64}
 use Rattle.wasm_types.specs.decoding.SignedLaws.{decides-s33}
 use Rattle.wasm_types.specs.decoding.Numbers.{behind, GivesAt}
 use Rattle.wasm_types.specs.settings.Settings.{Settings, no_features}
-use Rattle.wasm_types.specs.settings.Features.{Feature, has, mask, ExtendedConst, ReferenceTypes, Gc as gc_feature}
+use Rattle.wasm_types.specs.settings.Features.{Feature, has, mask, ExtendedConst, Floats, ReferenceTypes, Gc as gc_feature}
 use Rattle.wasm_types.specs.trees.Gates.{Has}
 use Rattle.wasm_types.specs.trees.Below.{Below}
 use Rattle.wasm_types.specs.trees.laws.Below.{below_reflexive}
-use Rattle.wasm_types.specs.trees.Types.{i32, i64, number, ref, abstract, concrete, HeapOf, i31}
+use Rattle.wasm_types.specs.trees.Types.{f32, f64, i32, i64, number, ref, abstract, concrete, HeapOf, i31}
 use Rattle.wasm_types.specs.trees.Trees.{TypeTree}
 use Rattle.wasm_types.specs.trees.ValidGroup.{type_at}
 use Rattle.wasm_types.specs.trees.declared.index.UnpackedIndex.TheVariants as index
@@ -27,7 +30,7 @@ use Rattle.wasm_types.specs.values.declared.value.ValType.{ValType}
 use Rattle.wasm_types.specs.values.declared.value.ValType.TheVariants as value
 use Rattle.wasm_operators_immediates.specs.Info.{features_of}
 use Rattle.wasm_operators_immediates.specs.Kinds as kind
-use Rattle.wasm_operators_immediates.specs.Immediates.{Index, I32Constant, I64Constant}
+use Rattle.wasm_operators_immediates.specs.Immediates.{F32Constant, F64Constant, Index, I32Constant, I64Constant}
 use Rattle.wasm_operators_immediates.specs.declared.frames.FrameKind.TheVariants.{Block}
 use Rattle.wasm_operators_immediates.specs.declared.proposal.Proposal.{Proposal}
 use Rattle.wasm_operators_immediates.specs.declared.proposal.Proposal.TheVariants as proposal
@@ -46,7 +49,7 @@ use Rattle.wasm_operators_encoding.specs.Operators.{coded_of, SpelledOperator}
 use Rattle.wasm_operators_encoding.specs.expressions.SpellingLaws.{read_spelled}
 use Rattle.wasm_operators_frequent.specs.Short.{Begins, BeginsPrefixed, IsTold}
 use Rattle.wasm_operators_frequent.proofs.ShortReading.{told_with, told_alone, is_told, prefixed_of, opcode_is, low_is_no_prefix}
-use Rattle.wasm_operators_frequent.proofs.Carried.{index_of, i32_of, i64_of}
+use Rattle.wasm_operators_frequent.proofs.Carried.{f32_of, f64_of, index_of, i32_of, i64_of}
 use Rattle.wasm_operator_validator_state.specs.laws.Entering.{nothing_asked}
 use Rattle.wasm_operator_validator_state.specs.laws.Operands.{all_below_refl}
 use Rattle.wasm_operator_validator_state.specs.resources.Meaning.{Meaning, global_in, heap_in, type_in}
@@ -126,6 +129,10 @@ unfolding type_in
 integer_is m true = refl
 integer_is m false = refl
 
+floats_are : (m : Meaning) → (type_in m value.F32 ≡ number f32) × (type_in m value.F64 ≡ number f64)
+unfolding type_in
+floats_are m = (refl, refl)
+
 global_type : (c : Context) (x : ℕ) (v : Global) → slice_get c.«module».globals x ≡ Some v → may_use c v.shared ≡ true
     → global_at c x (λ w. Some ([] ⟶ w.content ∷ [])) ≡ Some ([] ⟶ v.content ∷ [])
 global_type c x v there may = rw (there, may) refl
@@ -179,6 +186,22 @@ module _ (bits : ℕ) (m : Meaning) (text : List ℕ) (i j : ℕ) (before : List
       let told : ToldAt text i j o = λ features. told_with features text i 0x42 66 begins refl o refl refl _ refl refl refl (I64Constant v) j refl (λ limits. i64_of _ _ _ _ v read) in
       put_next o (number i64) before behind value.I64 [] told refl refl (λ count. tt) (first_release bits o refl refl)
       (λ t set. ([] ⟶ number i64 ∷ [], refl, (refl, refl))) (takes_none (tops m before)) (integer_is m true) put
+
+  pub f32_next : (v : Ieee32) (behind : List ValType) → Begins text i 0x43 → GivesAt (word 4) text (i + 1) v.0 j → Has bits Floats → behind ≡ before ++ value.F32 ∷ []
+      → Nexts bits m text i before j behind
+  f32_next v behind begins read allowed put =
+      let o = op.Const (constant.F32Const v) in
+      let told : ToldAt text i j o = λ features. told_with features text i 0x43 67 begins refl o refl refl _ refl refl refl (F32Constant v) j refl (λ limits. f32_of _ _ _ _ v read) in
+      put_next o (number f32) before behind value.F32 [] told refl refl (λ count. tt) (record { proposal = nothing_asked bits; floats = λ t. allowed })
+      (λ t set. ([] ⟶ number f32 ∷ [], refl, (refl, refl))) (takes_none (tops m before)) (floats_are m).0 put
+
+  pub f64_next : (v : Ieee64) (behind : List ValType) → Begins text i 0x44 → GivesAt (word 8) text (i + 1) v.0 j → Has bits Floats → behind ≡ before ++ value.F64 ∷ []
+      → Nexts bits m text i before j behind
+  f64_next v behind begins read allowed put =
+      let o = op.Const (constant.F64Const v) in
+      let told : ToldAt text i j o = λ features. told_with features text i 0x44 68 begins refl o refl refl _ refl refl refl (F64Constant v) j refl (λ limits. f64_of _ _ _ _ v read) in
+      put_next o (number f64) before behind value.F64 [] told refl refl (λ count. tt) (record { proposal = nothing_asked bits; floats = λ t. allowed })
+      (λ t set. ([] ⟶ number f64 ∷ [], refl, (refl, refl))) (takes_none (tops m before)) (floats_are m).1 put
 
   -- two integers are taken, one is put
   pub sum_next : (code : ℕ) (wide : Bool) (middle left behind : List ValType) → Begins text i code → IsSum code wide → Has bits ExtendedConst → j ≡ i + 1

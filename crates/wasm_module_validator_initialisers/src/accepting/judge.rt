@@ -6,7 +6,7 @@ ghost use Rattle.wasm_types.specs.values.declared.value.ValType.{ValType};
 ghost use Rattle.wasm_operator_validator_state.specs.resources.Meaning.{type_in};
 ghost use Rattle.wasm_module_validator_initialisers.specs.accepting.Steps.{IsShortConstant, Nexts};
 
-use crate::accepting::integers::{i32_const, i64_const, sum};
+use crate::accepting::numbers::{f32_const, f64_const, i32_const, i64_const, sum};
 use crate::accepting::objects::object;
 use crate::accepting::references::{global, null};
 use crate::segments::WasmModuleResources;
@@ -28,6 +28,8 @@ fn next<R: WasmModuleResources>(
     match code {
         0x41 => i32_const(bytes, at, stack),
         0x42 => i64_const(bytes, at, stack),
+        0x43 => f32_const(bytes, at, features, stack),
+        0x44 => f64_const(bytes, at, features, stack),
         0x23 => global(bytes, at, resources, features, stack),
         0xd0 => null(bytes, at, resources, features, stack),
         0xfb => object(bytes, at, resources, features, stack),

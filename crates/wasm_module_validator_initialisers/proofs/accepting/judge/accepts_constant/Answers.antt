@@ -1,4 +1,4 @@
-use Rattle.std.proofs.Common.{◌≡◌, ◌<◌, ◌∷◌, [], List, ℕ, suc, refl, ap, subst, length, get_or, arith, rules}
+use Rattle.std.proofs.Common.{◌≡◌, ◌∙◌, ◌<◌, ◌∷◌, [], List, ℕ, suc, refl, sym, ap, subst, length, get_or, arith, rules}
 use Rattle.wasm_types.specs.values.declared.value.ValType.{ValType}
 use Rattle.wasm_operator_validator_state.specs.resources.Meaning.{type_in}
 use Rattle.wasm_operator_validator_rules.specs.Operands.{ValueType}
@@ -28,7 +28,7 @@ returns-then-bytes-at-eq11 g c =
     let (behind_start, inside, n, goes) = c.loop-at.invariant in
     let (x, is, below) = c.is_of.ensures c.if-not-is_of.false in
     let one : Goes c.args.features.now.0 m.«module» text n c.args.start at (type_in m x ∷ [])
-    = subst (λ (s : List ValueType). Goes c.args.features.now.0 m.«module» text n c.args.start at s) (ap (tops m) is) goes in
+    = subst (λ (s : List ValueType). Goes c.args.features.now.0 m.«module» text n c.args.start at s) (ap (tops m) (sym c.as_slice.ensures.value ∙ is)) goes in
     let there : at < length text = search rules in
     let last : get_or text at 0 ≡ 0x0b = search rules in
     accepted c.args.features.now.0 m.«module» text c.args.start (type_in m c.args.ty.now) (type_in m x) n at one behind_start there last below

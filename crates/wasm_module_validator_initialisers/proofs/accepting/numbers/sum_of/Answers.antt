@@ -11,7 +11,7 @@ use Rattle.wasm_operator_validator_rules.specs.Numbers.{class_of, taken_by, give
 use Rattle.wasm_operator_validator_rules.specs.Row.{names_float}
 use Rattle.wasm_operator_validator_rules.specs.constants.Constants.{IsConstantNumber}
 use Rattle.wasm_module_validator_initialisers.specs.accepting.Steps.{integer, IsSum}
-use Rattle.wasm_module_validator_initialisers.proofs.accepting.integers.sum_of.Goals as goal
+use Rattle.wasm_module_validator_initialisers.proofs.accepting.numbers.sum_of.Goals as goal
 
 coded : (code n : ℕ) (wide : Bool) (o : NumericOperator) → code ≡ n → nat_lt n 0xfb ≡ true → (numeric_info o).code ≡ n → (numeric_info o).prefix ≡ None → (numeric_info o).proposal ≡ Mvp
     → names_float (op.Numeric o) ≡ false → ((bits : ℕ) → Has bits ExtendedConst → IsConstantNumber bits o)

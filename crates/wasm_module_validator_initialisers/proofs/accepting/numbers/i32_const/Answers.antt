@@ -1,5 +1,5 @@
 use Rattle.wasm_module_validator_initialisers.proofs.Passing.{i32_next}
-use Rattle.wasm_module_validator_initialisers.proofs.accepting.integers.i32_const.Goals as goal
+use Rattle.wasm_module_validator_initialisers.proofs.accepting.numbers.i32_const.Goals as goal
 
 pub returns : goal.returns
 returns c bits m =

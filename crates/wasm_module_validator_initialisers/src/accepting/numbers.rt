@@ -1,4 +1,4 @@
-//! Integers and their sums.
+//! Numbers, and sums of integers.
 
 ghost use Rattle.std.specs.Prelude.{ℕ, IfSome};
 ghost use Rattle.wasm_operators_frequent.specs.Short.{Begins};
@@ -6,6 +6,7 @@ ghost use Rattle.wasm_operator_validator_state.specs.resources.Meaning.{Meaning}
 ghost use Rattle.wasm_module_validator_initialisers.specs.accepting.Steps.{IsSum, Nexts};
 
 use crate::accepting::stack::{integer_of, put, take_integer};
+use wasm_operators_frequent::{f32_at, f64_at};
 use wasm_types::{ValType, WasmFeatures};
 use wasm_types_decoding::{short_i32_at, short_i64_at};
 
@@ -34,6 +35,52 @@ pub(crate) fn i64_const(bytes: &[u8], at: usize, stack: &mut Vec<ValType>) -> Op
         return None;
     };
     if !put(stack, ValType::I64) {
+        return None;
+    }
+    Some(end)
+}
+
+/// A float of 32 bits.
+#[inline(always)]
+pub(crate) fn f32_const(
+    bytes: &[u8],
+    at: usize,
+    features: &WasmFeatures,
+    stack: &mut Vec<ValType>,
+) -> Option<usize>
+    requires { Begins bytes.now at 0x43 }
+    ensures { IfSome result (λ j. (m : Meaning) → Nexts features.now.0 m bytes.now at stack.old.items j stack.new.items) }
+{
+    if !features.floats() {
+        return None;
+    }
+    let Some((_value, end)) = f32_at(bytes, at + 1) else {
+        return None;
+    };
+    if !put(stack, ValType::F32) {
+        return None;
+    }
+    Some(end)
+}
+
+/// A float of 64 bits.
+#[inline(always)]
+pub(crate) fn f64_const(
+    bytes: &[u8],
+    at: usize,
+    features: &WasmFeatures,
+    stack: &mut Vec<ValType>,
+) -> Option<usize>
+    requires { Begins bytes.now at 0x44 }
+    ensures { IfSome result (λ j. (m : Meaning) → Nexts features.now.0 m bytes.now at stack.old.items j stack.new.items) }
+{
+    if !features.floats() {
+        return None;
+    }
+    let Some((_value, end)) = f64_at(bytes, at + 1) else {
+        return None;
+    };
+    if !put(stack, ValType::F64) {
         return None;
     }
     Some(end)

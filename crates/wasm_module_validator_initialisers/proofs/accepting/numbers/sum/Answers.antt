@@ -3,7 +3,7 @@ use Rattle.wasm_types.specs.settings.Features.{ExtendedConst}
 use Rattle.wasm_types.specs.trees.Gates.{Has}
 use Rattle.wasm_types.specs.values.declared.value.ValType.{ValType}
 use Rattle.wasm_module_validator_initialisers.proofs.Passing.{sum_next}
-use Rattle.wasm_module_validator_initialisers.proofs.accepting.integers.sum.Goals as goal
+use Rattle.wasm_module_validator_initialisers.proofs.accepting.numbers.sum.Goals as goal
 
 pub returns : goal.returns
 returns c m =
