@@ -1,7 +1,8 @@
 -- A global whose value one pass over its bytes judges is valid, and is added.
-use Rattle.std.proofs.Common.{◌≡◌, ◌≤◌, ◌<◌, ◌∙◌, ℕ, ◌+◌, ◌-◌, List, [], ◌∷◌, ◌++◌, refl, sym, ap, subst, arith, length, take, drop}
+use Rattle.std.proofs.Common.{◌≡◌, ◌≤◌, ◌<◌, ◌∙◌, ℕ, ◌+◌, ◌-◌, List, [], ◌∷◌, ◌++◌, Result, Ok, refl, sym, ap, subst, arith, length, take, drop}
 use Rattle.std.proofs.lemmas.List.{drop-drop, length-append, length-drop}
 use Rattle.wasm_types.specs.decoding.Decoder.{State, Done}
+use Rattle.wasm_types.specs.decoding.ErrorValue.{ErrorValue}
 use Rattle.wasm_types.specs.settings.Settings.{Settings}
 use Rattle.wasm_types.specs.externs.declared.global.GlobalType.{GlobalType}
 use Rattle.wasm_types.specs.externs.Decode.{global_type}
@@ -26,7 +27,6 @@ use Rattle.wasm_module_validator_initialisers.specs.accepting.Steps.{IsShortCons
 use Rattle.wasm_module_validator_initialisers.specs.adding.Short.{AddsGlobal, IsTypedGlobal, SpellsGlobal}
 use Rattle.wasm_module_validator_initialisers.proofs.NewGlobals.{global_told, global_added}
 use Rattle.wasm_module_validator_initialisers.proofs.Parts.{global_is}
-use Rattle.wasm_module_validator_initialisers.proofs.ShortGlobals.{went_well}
 use Rattle.wasm_module_validator_initialisers.proofs.ShortWalks.{refers_to}
 
 -- ---- bytes
@@ -39,12 +39,12 @@ between_read P text i front rest inside whole such =
     let all = length-drop i text in
     let end : length text - length rest ≡ i + length front = omega (arith, some, all, inside) in
     let left : rest ≡ drop (length text - length rest) text
-    = sym (take-append_seam_rest front rest) ∙ ap (drop (length front)) (sym whole) ∙ drop-drop (length front) i text ∙ ap (λ (k : ℕ). drop k text) (sym end) in
+    = sym (past front) ∙ ap (drop (length front)) (sym whole) ∙ drop-drop (length front) i text ∙ ap (λ (k : ℕ). drop k text) (sym end) in
     record { front = front; whole = whole ∙ ap (λ (r : List ℕ). front ++ r) left; place = end; inside = omega (arith, some, all, inside); such = such }
   where
-    take-append_seam_rest : (front rest : List ℕ) → drop (length front) (front ++ rest) ≡ rest
-    take-append_seam_rest [] rest = refl
-    take-append_seam_rest (x ∷ front) rest = take-append_seam_rest front rest
+    past : (xs : List ℕ) → drop (length xs) (xs ++ rest) ≡ rest
+    past [] = refl
+    past (x ∷ xs) = past xs
 
 pub type_between : (text slice : List ℕ) (i : ℕ) (s t : State) (ty : GlobalType) → i ≤ length text → slice ≡ drop i text → s.rest ≡ slice → global_type s ≡ Done ty t
     → IsBetween (SpelledGlobal ty) text i (length text - length t.rest)
@@ -60,6 +60,10 @@ value_between text i j s =
     subst (λ (k : ℕ). IsBetween (λ r. r ≡ take (j - i) (drop i text)) text i k) n b
 
 -- ---- the global
+
+-- an answer that is no refusal
+went_well : Result (Unit {0}) ErrorValue
+went_well = Ok tt
 
 module _ (groups : List Group) (s : Items) (text : List ℕ) (i j e : ℕ) (ty named : GlobalType) (typed : IsBetween (SpelledGlobal ty) text i j)
     (h : IsTypedGlobal s.spaces.settings (constants_of groups s.spaces) ty named text j e) where

@@ -110,7 +110,7 @@ integer_told z g count wide (short.Null t) text h e = absurd e
 -- ---- the global
 
 -- an answer that is no refusal
-pub went_well : Result (Unit {0}) ErrorValue
+went_well : Result (Unit {0}) ErrorValue
 went_well = Ok tt
 
 valid_type : (z : Settings) (g : Module) (wide mutable : Bool) → IsValidGlobalType z g (integer_global wide mutable)

@@ -75,11 +75,11 @@ fn take_short_element<R: WasmModuleResources>(
         (type_in (R.meaning resources.now) ty.now) bytes.now at j names.old.items names.new.items) }
     ensures stays { IfNone result (names.new.items ≡ names.old.items) }
 {
-    if let Some(end) = accepts_constant(bytes, at, ty, resources, features, stack) {
-        return Some(end);
-    }
     let Some((index, end)) = short_function_at(bytes, at, ty, resources, features) else {
-        return None;
+        let Some(end) = accepts_constant(bytes, at, ty, resources, features, stack) else {
+            return None;
+        };
+        return Some(end);
     };
     match names.push(index) {
         Ok(()) => Some(end),

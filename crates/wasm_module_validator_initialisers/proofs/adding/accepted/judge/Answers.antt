@@ -10,5 +10,5 @@ returns g c =
       valid = c.in-Ok.ensures.answer;
       same = c.in-Ok.ensures.named;
       value =
-          subst (λ (f : ℕ). IsShortConstant f m.«module» (type_in m c.check_global_type.new.ty.content_type) c.args.bytes.now c.args.at c.in-Some.end []) c.features.ensures c.in-Some.ensures;
+          subst (λ (f : ℕ). IsShortConstant f m.«module» (type_in m c.check_global_type.new.ty.content_type) c.args.bytes.now c.args.at c.in-Some.end []) c.features-features.ensures c.in-Some.ensures;
     }

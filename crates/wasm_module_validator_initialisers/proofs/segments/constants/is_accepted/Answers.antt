@@ -16,5 +16,5 @@ returns g c h count =
     = take_all (c.in-Some.end - 0) text (omega (arith, whole)) ∙ c.bytes_of-bytes.ensures in (
       s.code,
       subst (λ (r : List ℕ). SpelledExpression z s.code r) all (s.spelled z),
-      subst (λ (f : ℕ). IsConstant f m.«module» count (type_in m c.args.ty.now) s.code) c.features.ensures (s.constant count),
+      subst (λ (f : ℕ). IsConstant f m.«module» count (type_in m c.args.ty.now) s.code) c.features-features.ensures (s.constant count),
     )
