@@ -11,16 +11,16 @@ use Rattle.wasm_operators_enums.specs.Op.{Op}
 use Rattle.wasm_operators_encoding.specs.Ends.{EndsOnce}
 use Rattle.wasm_operators_encoding.specs.Operators.{SpelledOperator}
 use Rattle.wasm_operators_encoding.specs.expressions.Code.{Code, plain, close, walk, IsIn}
-use Rattle.wasm_operators_encoding.specs.expressions.Spelling.{SpelledOperators, SpelledExpression}
-use Rattle.wasm_operator_validator_rules.specs.Operands.{ValueType, Operand, known, all_known}
-use Rattle.wasm_operator_validator_rules.specs.Context.{Context, Frame, Module, Initialised, initialised_at_first}
+use Rattle.wasm_operators_encoding.specs.expressions.Spelling.{SpelledOperators}
+use Rattle.wasm_operator_validator_rules.specs.Operands.{ValueType, all_known}
+use Rattle.wasm_operator_validator_rules.specs.Context.{Frame, Module, Initialised, initialised_at_first}
 use Rattle.wasm_operator_validator_rules.specs.Row.{after}
 use Rattle.wasm_operator_validator_rules.specs.Typed.{Typed}
-use Rattle.wasm_operator_validator_rules.specs.constants.Constants.{AreConstantOperators, IsConstant}
+use Rattle.wasm_operator_validator_rules.specs.constants.Constants.{AreConstantOperators}
 use Rattle.wasm_module_validator_resources.specs.rules_in_order.Between.{IsBetween}
 use Rattle.wasm_module_validator_resources.specs.rules_in_order.BetweenLaws.{InTurn, in_turn, between_so}
 use Rattle.wasm_module_validator_checks.specs.rules.Spaces.{referred_in}
-use Rattle.wasm_module_validator_initialisers.specs.accepting.Steps.{within_constant, IsNext, Goes, IsShortConstant}
+use Rattle.wasm_module_validator_initialisers.specs.accepting.Steps.{within_constant, Goes, IsShortConstant}
 
 -- what stands between two offsets are the bytes from the one to the other
 pub between_is : (P : List ℕ → Type 0) (text : List ℕ) (i j : ℕ) (b : IsBetween P text i j) → take (j - i) (drop i text) ≡ b.front

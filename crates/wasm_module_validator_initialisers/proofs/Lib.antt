@@ -23,5 +23,4 @@ mod ShortGlobals
 mod NewTables
 mod NewElements
 mod NewData
-mod AcceptedGlobals
 mod AddingShortData

@@ -1,5 +1,5 @@
 -- Structures and arrays that a constant makes, and operands for them.
-use Rattle.std.proofs.Common.{◌≡◌, ◌≤◌, ◌<◌, ◌∙◌, ℕ, suc, zero, ◌+◌, Bool, true, false, List, [], ◌∷◌, ◌++◌, Option, None, Some, refl, sym, ap, subst, arith, length, map, reverse, replicate, slice_get}
+use Rattle.std.proofs.Common.{◌≡◌, ◌∙◌, ℕ, suc, ◌+◌, Bool, true, false, List, [], ◌∷◌, ◌++◌, Option, None, Some, refl, sym, ap, subst, arith, length, map, reverse, replicate, slice_get}
 use Rattle.std.proofs.lemmas.List.{append_assoc, map-append, reverse-append}
 use Rattle.std.proofs.lemmas.Option.{get_or_from_slice_get}
 use Rattle.std.specs.Prelude.{◌&&◌, is_some, not, option_map, option_and_then, if◌then◌else◌}
@@ -13,7 +13,7 @@ use Rattle.wasm_types.specs.trees.Types.{EntryOf, FieldOf, concrete, i32, number
 use Rattle.wasm_types.specs.trees.Trees.{TypeTree, opened}
 use Rattle.wasm_types.specs.trees.declared.index.UnpackedIndex.{UnpackedIndex}
 use Rattle.wasm_types.specs.values.Reference.{Reference}
-use Rattle.wasm_types.specs.values.ValueKinds.{is_defaultable_type, unpacked_type}
+use Rattle.wasm_types.specs.values.ValueKinds.{is_defaultable_type}
 use Rattle.wasm_types.specs.values.declared.value.StorageType.{StorageType}
 use Rattle.wasm_types.specs.values.declared.value.StorageType.TheVariants as storage
 use Rattle.wasm_types.specs.values.declared.value.ValType.{ValType}
@@ -37,7 +37,7 @@ use Rattle.wasm_operator_validator_state.specs.resources.Meaning.{Meaning, entry
 use Rattle.wasm_operator_validator_rules.specs.Operands.{ValueType, Operand, known, all_known, AllBelow}
 use Rattle.wasm_operator_validator_rules.specs.Context.{Context, defaultable, may_use}
 use Rattle.wasm_operator_validator_rules.specs.Named.{used_type}
-use Rattle.wasm_operator_validator_rules.specs.Aggregates.{Array, Struct, array_named, as_array, as_struct, struct_named}
+use Rattle.wasm_operator_validator_rules.specs.Aggregates.{Array, Struct, as_array, as_struct}
 use Rattle.wasm_operator_validator_rules.specs.InstructionTypes.{◌⟶◌, allocated, element_of, i32_type, is_described, named, provided}
 use Rattle.wasm_operator_validator_rules.specs.Places.{has_default, have_defaults, operands_for, unpacked}
 use Rattle.wasm_module_validator_initialisers.specs.accepting.Fields.{

@@ -1,5 +1,5 @@
 -- Operators of constants by their bytes and by the rules.
-use Rattle.std.proofs.Common.{◌≡◌, ◌≤◌, ◌<◌, ◌∙◌, ℕ, ℤ, suc, zero, ◌+◌, ◌-◌, ◌^◌, pos, get_or, inr, append-nil, Bool, true, false, List, [], ◌∷◌, ◌++◌, None, Some, IsTrue, refl, sym, ap, subst, arith, length, map, reverse, drop, slice_get, eqb-true, bit_and}
+use Rattle.std.proofs.Common.{◌≡◌, ◌≤◌, ◌<◌, ◌∙◌, ℕ, ℤ, ◌+◌, ◌-◌, ◌^◌, pos, get_or, inr, append-nil, Bool, true, false, List, [], ◌∷◌, ◌++◌, Some, IsTrue, refl, sym, ap, subst, arith, length, map, reverse, drop, slice_get, eqb-true, bit_and}
 use Rattle.std.proofs.lemmas.List.{drop-drop, drop_more, map-append, reverse-append}
 use Rattle.std.specs.Prelude.{option_map}
 use Rattle.wasm_types.specs.decoding.Decoder.{State}
@@ -12,7 +12,6 @@ use Rattle.wasm_types.specs.decoding.Numbers.{behind, GivesAt}
 use Rattle.wasm_types.specs.settings.Settings.{Settings, no_features}
 use Rattle.wasm_types.specs.settings.Features.{Feature, has, mask, ExtendedConst, Floats, ReferenceTypes, Gc as gc_feature}
 use Rattle.wasm_types.specs.trees.Gates.{Has}
-use Rattle.wasm_types.specs.trees.Below.{Below}
 use Rattle.wasm_types.specs.trees.laws.Below.{below_reflexive}
 use Rattle.wasm_types.specs.trees.Types.{f32, f64, i32, i64, number, ref, abstract, concrete, HeapOf, i31}
 use Rattle.wasm_types.specs.trees.Trees.{TypeTree}
@@ -20,7 +19,6 @@ use Rattle.wasm_types.specs.trees.ValidGroup.{type_at}
 use Rattle.wasm_types.specs.trees.declared.index.UnpackedIndex.TheVariants as index
 use Rattle.wasm_types.specs.externs.declared.global.GlobalType.{GlobalType}
 use Rattle.wasm_types.specs.values.Reference.{Reference}
-use Rattle.wasm_types.specs.values.declared.heap.AbstractHeapType.TheVariants as kind_of_heap
 use Rattle.wasm_types.specs.values.declared.heap.AbstractHeapType.{AbstractHeapType}
 use Rattle.wasm_types.specs.values.declared.heap.HeapType.{HeapType}
 use Rattle.wasm_types.specs.values.declared.heap.HeapType.TheVariants.{Abstract, Concrete}
@@ -31,7 +29,6 @@ use Rattle.wasm_types.specs.values.declared.value.ValType.TheVariants as value
 use Rattle.wasm_operators_immediates.specs.Info.{features_of}
 use Rattle.wasm_operators_immediates.specs.Kinds as kind
 use Rattle.wasm_operators_immediates.specs.Immediates.{F32Constant, F64Constant, Index, I32Constant, I64Constant}
-use Rattle.wasm_operators_immediates.specs.declared.frames.FrameKind.TheVariants.{Block}
 use Rattle.wasm_operators_immediates.specs.declared.proposal.Proposal.{Proposal}
 use Rattle.wasm_operators_immediates.specs.declared.proposal.Proposal.TheVariants as proposal
 use Rattle.wasm_operators_enums.specs.declared.bulk.BulkOperator.TheVariants as bulk
@@ -53,11 +50,11 @@ use Rattle.wasm_operators_frequent.proofs.Carried.{f32_of, f64_of, index_of, i32
 use Rattle.wasm_operator_validator_state.specs.laws.Entering.{nothing_asked}
 use Rattle.wasm_operator_validator_state.specs.laws.Operands.{all_below_refl}
 use Rattle.wasm_operator_validator_state.specs.resources.Meaning.{Meaning, global_in, heap_in, type_in}
-use Rattle.wasm_operator_validator_rules.specs.Operands.{ValueType, Operand, known, all_known, AllBelow}
+use Rattle.wasm_operator_validator_rules.specs.Operands.{ValueType, all_known}
 use Rattle.wasm_operator_validator_rules.specs.Context.{Context, Module, Global, Initialised, IsType, may_use}
-use Rattle.wasm_operator_validator_rules.specs.InstructionTypes.{InstructionType, ◌⟶◌, instruction_type, global_at}
+use Rattle.wasm_operator_validator_rules.specs.InstructionTypes.{◌⟶◌, global_at}
 use Rattle.wasm_operator_validator_rules.specs.Numbers.{class_of, taken_by, given_by, numbers}
-use Rattle.wasm_operator_validator_rules.specs.Row.{IsEnabled, GroupRow, TableRow, names_float}
+use Rattle.wasm_operator_validator_rules.specs.Row.{IsEnabled, GroupRow, names_float}
 use Rattle.wasm_operator_validator_rules.specs.constants.Constants.{IsConstantOperator}
 use Rattle.wasm_module_validator_resources.specs.rules_in_order.Between.{IsBetween}
 use Rattle.wasm_module_validator_resources.specs.rules_in_order.BetweenLaws.{InTurn, in_turn, between_so}

@@ -1,31 +1,16 @@
 -- References to functions, and globals, are constants of the types that they fit.
-use Rattle.std.proofs.Common.{◌≡◌, ◌∙◌, ℕ, ℤ, pos, ◌+◌, ◌-◌, ◌≤◌, ◌<◌, ◌^◌, List, [], ◌∷◌, ◌++◌, length, take, drop, get_or, Bool, true, false, Some, slice_get, refl, sym, ap, subst, arith, bit_and, inr}
+use Rattle.std.proofs.Common.{◌≡◌, ◌∙◌, ℕ, ◌+◌, ◌-◌, ◌≤◌, List, [], ◌∷◌, length, take, drop, Bool, true, false, Some, slice_get, refl, sym, subst, arith, bit_and}
 use Rattle.std.proofs.lemmas.Bool.{eqb-true}
-use Rattle.std.proofs.lemmas.List.{append-nil, drop-drop, drop_more, length-drop}
-use Rattle.std.proofs.Math.Seq.{take-append_seam}
-use Rattle.std.specs.Prelude.{option_map}
-use Rattle.wasm_types.specs.decoding.Decoder.{State}
-use Rattle.wasm_types.specs.decoding.Leb.{IsSigned, s33}
-use Rattle.wasm_types.specs.decoding.SignedLaws.{decides-s33}
-use Rattle.wasm_types.specs.decoding.Numbers.{behind, GivesAt}
-use Rattle.wasm_types.specs.settings.Settings.{Settings, no_features}
+use Rattle.std.proofs.lemmas.List.{length-drop}
 use Rattle.wasm_types.specs.settings.Features.{Gc, has, mask, ReferenceTypes}
-use Rattle.wasm_types.specs.trees.Gates.{Has, HeapIsAllowed}
+use Rattle.wasm_types.specs.trees.Gates.{Has}
 use Rattle.wasm_types.specs.trees.Below.{Below}
-use Rattle.wasm_types.specs.trees.Types.{HeapOf, ref, abstract, concrete}
-use Rattle.wasm_types.specs.trees.ValidGroup.{type_at}
-use Rattle.wasm_types.specs.trees.Trees.{TypeTree}
+use Rattle.wasm_types.specs.trees.Types.{ref, concrete}
 use Rattle.wasm_types.specs.trees.declared.index.CoreTypeId.{CoreTypeId}
-use Rattle.wasm_types.specs.trees.declared.index.UnpackedIndex.{UnpackedIndex}
 use Rattle.wasm_types.specs.trees.declared.index.UnpackedIndex.TheVariants as index
-use Rattle.wasm_types.specs.values.declared.heap.AbstractHeapType.{AbstractHeapType}
-use Rattle.wasm_types.specs.externs.declared.global.GlobalType.{GlobalType}
-use Rattle.wasm_types.specs.values.declared.heap.HeapType.{HeapType}
-use Rattle.wasm_types.specs.values.declared.heap.HeapType.TheVariants.{Abstract, Concrete}
+use Rattle.wasm_types.specs.values.declared.heap.HeapType.TheVariants.{Concrete}
 use Rattle.wasm_types.specs.values.declared.value.ValType.TheVariants as value
 use Rattle.wasm_types.specs.values.Reference.{Reference}
-use Rattle.wasm_types.specs.values.Spells.{abstract_byte}
-use Rattle.wasm_types.specs.values.Trees.{abstract_of}
 use Rattle.wasm_operators_immediates.specs.declared.proposal.Proposal.TheVariants as proposal
 use Rattle.wasm_operators_enums.specs.declared.bulk.BulkOperator.TheVariants as bulk
 use Rattle.wasm_operators_enums.specs.declared.control.ControlOperator.TheVariants as control
@@ -36,14 +21,12 @@ use Rattle.wasm_operators_enums.specs.Table.{info_of}
 use Rattle.wasm_operators_encoding.specs.expressions.Spelling.{SpelledExpression}
 use Rattle.wasm_operators_bodies.specs.declared.short.ShortConstant.TheVariants as short
 use Rattle.wasm_operators_bodies.specs.Short.{alone, SpellsShort}
-use Rattle.wasm_operator_validator_state.specs.resources.Meaning.{Meaning, global_in, heap_in, type_in, type_of_id}
+use Rattle.wasm_operator_validator_state.specs.resources.Meaning.{Meaning, type_in, type_of_id}
 use Rattle.wasm_operator_validator_rules.specs.Operands.{ValueType, known}
 use Rattle.wasm_operator_validator_rules.specs.Context.{Context, Module, Global, may_use}
 use Rattle.wasm_operator_validator_rules.specs.InstructionTypes.{◌⟶◌, global_at}
 use Rattle.wasm_operator_validator_rules.specs.Row.{IsEnabled, IsOneOf, names_float, of_type}
 use Rattle.wasm_operator_validator_rules.specs.constants.Constants.{IsConstant, constant_context}
-use Rattle.wasm_module_validator_resources.specs.rules_in_order.Between.{IsBetween}
-use Rattle.wasm_module_validator_resources.specs.rules_in_order.BetweenLaws.{InTurn, in_turn}
 use Rattle.wasm_module_validator_initialisers.specs.segments.NumberLaws.{plainly}
 use Rattle.wasm_module_validator_initialisers.specs.accepting.Steps.{IsShortConstant}
 use Rattle.wasm_module_validator_initialisers.specs.elements.Short.{FitsFunction}

@@ -1,5 +1,5 @@
 -- A global that its bytes alone tell is valid, and is added.
-use Rattle.std.proofs.Common.{◌≡◌, ◌≤◌, ◌<◌, ◌∙◌, ℕ, ◌+◌, ◌-◌, List, [], ◌∷◌, ◌++◌, Bool, true, false, Result, Ok, Some, None, refl, sym, ap, subst, arith, length, take, drop, get_or, slice_get}
+use Rattle.std.proofs.Common.{◌≡◌, ◌≤◌, ◌<◌, ◌∙◌, ℕ, ◌+◌, ◌-◌, List, [], ◌∷◌, ◌++◌, Bool, true, false, Result, Ok, Some, refl, sym, ap, subst, arith, length, take, drop, get_or, slice_get}
 use Rattle.std.proofs.lemmas.List.{drop_more, length-drop}
 use Rattle.std.specs.Prelude.{option_map}
 use Rattle.wasm_types.specs.settings.Settings.{Settings}
@@ -11,8 +11,6 @@ use Rattle.wasm_types.specs.trees.laws.Below.{below_reflexive}
 use Rattle.wasm_types.specs.decoding.ErrorValue.{ErrorValue}
 use Rattle.wasm_types.specs.externs.declared.global.GlobalType.{GlobalType}
 use Rattle.wasm_types.specs.externs.Spells.{bit, SpelledGlobal}
-use Rattle.wasm_types.specs.values.declared.value.ValType.{ValType}
-use Rattle.wasm_types.specs.values.declared.value.ValType.TheVariants as value
 use Rattle.wasm_operators_enums.specs.declared.memory.MemoryOperator.TheVariants as memory
 use Rattle.wasm_operators_enums.specs.Op as op
 use Rattle.wasm_operators_enums.specs.Op.{Op}
@@ -20,9 +18,8 @@ use Rattle.wasm_operators_encoding.specs.expressions.Code.{Code}
 use Rattle.wasm_operators_encoding.specs.expressions.Spelling.{SpelledExpression}
 use Rattle.wasm_operators_bodies.specs.declared.short.ShortConstant.{ShortConstant}
 use Rattle.wasm_operators_bodies.specs.declared.short.ShortConstant.TheVariants as short
-use Rattle.wasm_operators_bodies.specs.Short.{alone, IsOf, SpellsShort}
+use Rattle.wasm_operators_bodies.specs.Short.{alone, SpellsShort}
 use Rattle.wasm_operators_bodies.specs.ShortLaws.{short_is_constant}
-use Rattle.wasm_operators_encoding.specs.ConstantDecoder.{ConstantText}
 use Rattle.wasm_operator_validator_state.specs.resources.Meaning.{Meaning, type_in, global_in}
 use Rattle.wasm_operator_validator_rules.specs.Context.{Module}
 use Rattle.wasm_operator_validator_rules.specs.Operands.{ValueType}
@@ -38,10 +35,10 @@ use Rattle.wasm_module_validator_resources.specs.referring.Naming.{NamesMore}
 use Rattle.wasm_module_validator_state.specs.Adding.{adding_global}
 use Rattle.wasm_module_validator_state.specs.Items.{Items}
 use Rattle.wasm_module_validator_state.specs.invariant.Standing.{constants_of, IsAdded}
-use Rattle.wasm_module_validator_initialisers.specs.segments.Judged.{IsConstantText, IsGlobal}
+use Rattle.wasm_module_validator_initialisers.specs.segments.Judged.{IsGlobal}
 use Rattle.wasm_module_validator_initialisers.specs.segments.NumberLaws.{i32_text, i64_text}
 use Rattle.wasm_module_validator_initialisers.proofs.ShortConstants.{FitsGlobal, global_fits}
-use Rattle.wasm_module_validator_initialisers.specs.adding.Short.{AddsGlobal, HoldsInteger, IsInteger, SpellsGlobal, integer, integer_byte, integer_global, integer_type}
+use Rattle.wasm_module_validator_initialisers.specs.adding.Short.{HoldsInteger, IsInteger, SpellsGlobal, integer, integer_byte, integer_global, integer_type}
 use Rattle.wasm_module_validator_initialisers.proofs.NewGlobals.{global_told, global_added}
 use Rattle.wasm_module_validator_initialisers.proofs.Parts.{global_is}
 use Rattle.wasm_module_validator_initialisers.proofs.ShortWalks.{refers_to}

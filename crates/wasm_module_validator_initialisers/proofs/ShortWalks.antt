@@ -1,5 +1,5 @@
 -- A walk goes past elements that their bytes alone tell.
-use Rattle.std.proofs.Common.{◌≡◌, ◌∙◌, ℕ, zero, suc, ◌+◌, ◌-◌, ◌≤◌, List, [], ◌∷◌, ◌++◌, length, take, drop, false, refl, sym, ap, subst, arith}
+use Rattle.std.proofs.Common.{◌≡◌, ◌∙◌, ℕ, zero, suc, ◌+◌, ◌-◌, ◌≤◌, List, ◌++◌, length, take, drop, refl, sym, ap, subst, arith}
 use Rattle.std.proofs.lemmas.List.{append_cancel_left, take-append-drop, length-take-le, length-append, length-drop, drop-drop}
 use Rattle.wasm_types.specs.settings.Settings.{Settings}
 use Rattle.wasm_types.specs.decoding.Decoder.{State, Done, Takes}

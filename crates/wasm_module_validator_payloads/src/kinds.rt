@@ -75,7 +75,6 @@ impl<'a> SectionItem<'a> for RecGroup {
     }
 
     fn add_short(
-        _alloc: Global,
         _state: &mut ModuleState,
         _types: &TypeList,
         _bytes: &[u8],
@@ -119,7 +118,6 @@ impl<'a> SectionItem<'a> for u32 {
     }
 
     fn add_short(
-        _alloc: Global,
         state: &mut ModuleState,
         types: &TypeList,
         bytes: &[u8],
@@ -187,7 +185,6 @@ impl<'a> SectionItem<'a> for TableOf<ConstExpr<'a>> {
     }
 
     fn add_short(
-        _alloc: Global,
         _state: &mut ModuleState,
         _types: &TypeList,
         _bytes: &[u8],
@@ -242,7 +239,6 @@ impl<'a> SectionItem<'a> for MemoryType {
     }
 
     fn add_short(
-        _alloc: Global,
         _state: &mut ModuleState,
         _types: &TypeList,
         _bytes: &[u8],
@@ -293,7 +289,6 @@ impl<'a> SectionItem<'a> for TagType {
     }
 
     fn add_short(
-        _alloc: Global,
         _state: &mut ModuleState,
         _types: &TypeList,
         _bytes: &[u8],
@@ -359,7 +354,6 @@ impl<'a> SectionItem<'a> for GlobalOf<ConstExpr<'a>> {
     }
 
     fn add_short(
-        alloc: Global,
         state: &mut ModuleState,
         types: &TypeList,
         bytes: &[u8],
@@ -377,7 +371,7 @@ impl<'a> SectionItem<'a> for GlobalOf<ConstExpr<'a>> {
         ensures grown { IfSome result (λ _. GrowsWith types.now.groups state.old.spaces types.now.groups
             state.new.spaces) }
     {
-        match add_short_global(alloc, state, types, bytes, at) {
+        match add_short_global(state, types, bytes, at) {
             Some(end) => Some(end),
             None => None,
         }
@@ -439,7 +433,6 @@ impl<'a> SectionItem<'a> for Export<'a> {
     }
 
     fn add_short(
-        _alloc: Global,
         state: &mut ModuleState,
         types: &TypeList,
         bytes: &[u8],
@@ -518,7 +511,6 @@ impl<'a> SectionItem<'a> for ElementOf<'a, ConstExpr<'a>> {
     }
 
     fn add_short(
-        _alloc: Global,
         _state: &mut ModuleState,
         _types: &TypeList,
         _bytes: &[u8],
@@ -595,7 +587,6 @@ impl<'a> SectionItem<'a> for DataOf<'a, ConstExpr<'a>> {
     }
 
     fn add_short(
-        _alloc: Global,
         state: &mut ModuleState,
         types: &TypeList,
         bytes: &[u8],

@@ -28,7 +28,7 @@ use Rattle.wasm_operators_encoding.specs.Opcodes.{prefixed}
 use Rattle.wasm_operators_encoding.specs.Operators.{opcode_of}
 use Rattle.wasm_operator_validator_rules.specs.Operands.{ValueType, Operand}
 use Rattle.wasm_operator_validator_rules.specs.Context.{Context}
-use Rattle.wasm_operator_validator_rules.specs.Aggregates.{Struct, Array, struct_named, array_named}
+use Rattle.wasm_operator_validator_rules.specs.Aggregates.{struct_named, array_named}
 use Rattle.wasm_operator_validator_rules.specs.InstructionTypes.{◌⟶◌, gc_type_of}
 use Rattle.wasm_operator_validator_rules.specs.Taken.{TableRow}
 use Rattle.wasm_operator_validator_rules.specs.Objects.{GcRow}

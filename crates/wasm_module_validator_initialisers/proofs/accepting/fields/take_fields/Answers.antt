@@ -1,5 +1,4 @@
-use Rattle.std.proofs.Common.{◌≡◌, [], List}
-use Rattle.wasm_types.specs.fields.declared.field.FieldType.{FieldType}
+use Rattle.std.proofs.Common.{◌≡◌, []}
 use Rattle.wasm_module_validator_initialisers.proofs.Making.{none_left, rest_more, rest_none}
 use Rattle.wasm_module_validator_initialisers.proofs.accepting.fields.take_fields.Goals as goal
 

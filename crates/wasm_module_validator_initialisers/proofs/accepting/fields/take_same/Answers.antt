@@ -1,4 +1,4 @@
-use Rattle.std.proofs.Common.{◌≡◌, ◌≤◌, ◌+◌, replicate, subst, arith, ℕ}
+use Rattle.std.proofs.Common.{◌≡◌, replicate, subst, arith, ℕ}
 use Rattle.wasm_operator_validator_state.specs.resources.Meaning.{type_in}
 use Rattle.wasm_module_validator_initialisers.specs.accepting.Steps.{MayTake, tops}
 use Rattle.wasm_module_validator_initialisers.proofs.Making.{same_more}

@@ -1,5 +1,4 @@
-use Rattle.std.proofs.Common.{◌≡◌, ◌∙◌, ◌<◌, ◌∷◌, [], List, ℕ, suc, refl, sym, ap, subst, length, get_or, arith, rules}
-use Rattle.wasm_types.specs.values.declared.value.ValType.{ValType}
+use Rattle.std.proofs.Common.{◌≡◌, ◌∙◌, ◌<◌, ◌∷◌, [], List, suc, refl, sym, ap, subst, length, get_or, arith, rules}
 use Rattle.wasm_operator_validator_state.specs.resources.Meaning.{type_in}
 use Rattle.wasm_operator_validator_rules.specs.Operands.{ValueType}
 use Rattle.wasm_module_validator_initialisers.specs.accepting.Steps.{tops, Goes}

@@ -1,4 +1,4 @@
-use Rattle.std.proofs.Common.{◌≡◌, ◌<◌, ℕ, Bool, nat_lt, true, false, None, List, [], ◌∷◌, sym, refl, subst, ltb-true}
+use Rattle.std.proofs.Common.{◌≡◌, ℕ, Bool, nat_lt, true, false, None, [], ◌∷◌, sym, refl, subst, ltb-true}
 use Rattle.wasm_types.specs.settings.Features.{ExtendedConst}
 use Rattle.wasm_types.specs.trees.Gates.{Has}
 use Rattle.wasm_types.specs.trees.Types.{number}

@@ -1,6 +1,5 @@
-use Rattle.std.proofs.Common.{◌∷◌, [], List, subst}
+use Rattle.std.proofs.Common.{◌∷◌, [], subst}
 use Rattle.wasm_types.specs.values.declared.value.ValType.{ValType}
-use Rattle.wasm_operator_validator_rules.specs.Operands.{ValueType}
 use Rattle.wasm_operator_validator_state.specs.resources.Meaning.{type_in}
 use Rattle.wasm_module_validator_initialisers.specs.accepting.Steps.{MayTake, tops}
 use Rattle.wasm_module_validator_initialisers.proofs.Making.{makes_array}

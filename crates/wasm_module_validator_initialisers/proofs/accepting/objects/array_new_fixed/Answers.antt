@@ -1,4 +1,4 @@
-use Rattle.std.proofs.Common.{List, subst, replicate}
+use Rattle.std.proofs.Common.{subst, replicate}
 use Rattle.wasm_types.specs.values.declared.value.ValType.{ValType}
 use Rattle.wasm_operator_validator_state.specs.resources.Meaning.{type_in}
 use Rattle.wasm_module_validator_initialisers.specs.accepting.Steps.{MayTake, tops}

@@ -1,4 +1,4 @@
-use Rattle.std.proofs.Common.{◌<◌, ◌+◌, length, refl, rules}
+use Rattle.std.proofs.Common.{refl, rules}
 use Rattle.wasm_types.specs.settings.Features.{ReferenceTypes}
 use Rattle.wasm_types.specs.trees.Gates.{Has}
 use Rattle.wasm_module_validator_initialisers.proofs.Passing.{abstract_null_next}

@@ -1,4 +1,4 @@
-use Rattle.std.proofs.Common.{◌≡◌, ◌+◌, ◌≤◌, ℕ, suc, subst, arith}
+use Rattle.std.proofs.Common.{◌≡◌, ◌+◌, ℕ, suc, subst, arith}
 use Rattle.wasm_operator_validator_state.specs.resources.Meaning.{type_in}
 use Rattle.wasm_module_validator_initialisers.specs.elements.Short.{NamesRun}
 use Rattle.wasm_module_validator_initialisers.proofs.elements.short.take_front.Goals as goal

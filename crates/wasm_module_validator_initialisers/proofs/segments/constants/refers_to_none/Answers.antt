@@ -1,4 +1,4 @@
-use Rattle.std.proofs.Common.{◌≡◌, ◌∙◌, ℕ, List, sym, subst}
+use Rattle.std.proofs.Common.{◌∙◌, ℕ, List, sym, subst}
 use Rattle.wasm_module_validator_resources.specs.referring.Naming.{NamesMore}
 use Rattle.wasm_module_validator_initialisers.proofs.Unnamed.{names_none}
 use Rattle.wasm_module_validator_initialisers.proofs.segments.constants.refers_to_none.Goals as goal
