@@ -28,6 +28,7 @@ pub mod Making
 pub mod Unshared
 pub mod Entering
 pub mod RunsSteps
+pub mod Placing
 pub mod Progress
 pub mod RunsWorkedRuns
 pub mod RunsWorkedStuck
