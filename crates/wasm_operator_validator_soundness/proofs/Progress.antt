@@ -54,7 +54,7 @@ use Rattle.wasm_operator_validator_soundness.proofs.RunsSteps.{here_of, plain_va
 
 -- ---- answers
 
--- a trap, where there may be one; and no trap, with these values
+-- a trap, if there may be one; and no trap, with these values
 abbrev pub trap : Answer
 trap = record { values = []; held = ref_null false any; condition = false; index = 0; traps = true; throws = None; leaves = 0; made = 0 }
 

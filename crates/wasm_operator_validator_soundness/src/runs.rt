@@ -24,7 +24,7 @@ pub fn programs_are_sound()
 {}
 
 /// A valid program has a derivation of each body. Whichever these are, what a label of a run awaits is what a derivation says at a place:
-/// behind the block of the label within it, and the outermost in the derivation of the whole code that runs.
+/// after the block of the label within it, and the outermost in the derivation of the whole code that runs.
 pub fn runs_stay_at_places()
     ensures given { DerivationsAreGiven }
     ensures stays { StaysAtPlaces }

@@ -31,7 +31,7 @@ module _ (Note : Type 0) (next within past turned missing : Note → Note)
   Layer n g f set (turn o more) s = (ts : List ValueType) × Turns g f.block o ts × AllBelow s (stack f.block.results)
       × T (turned n) (in_part o g) (other_part o f) f.before more (stack ts)
 
--- Notes: of the code behind an operator, in a block, behind the block, and behind the operator between two parts of a frame; of a second
+-- Notes: of the code after an operator, in a block, after the block, and after the operator between two parts of a frame; of a second
 -- part that is not written; of the body of each function; and when code is typed at a note. Then it is typed in layers.
 pub record Notes : Type 1 where
   pub Note : Type 0

@@ -69,7 +69,7 @@ module _ (N : Notes) (p : Program) where
 
 -- ---- places of derivations
 
--- from the beginning of a derivation: behind an operator, in a block, behind the block, in the next part of a frame, and in a second part
+-- from the beginning of a derivation: after an operator, in a block, after the block, in the next part of a frame, and in a second part
 -- that is not written
 pub data Path : Type 0 where
   start : Path
@@ -195,8 +195,8 @@ module _ (D : ℕ → Option Place) where
 abbrev pub DerivationsAreGiven : Type 0
 DerivationsAreGiven = (p : Program) → IsValidProgram p → (D : ℕ → Option Place) × IsValidBy (places D) p
 
--- In each state of a run of a program whose bodies have these derivations, each label stands at a place of one: what its values fit is
--- what that derivation says there. The place of a label is behind the block of the label within it, and the outermost is at a place of the
+-- In each state of a run of a program whose bodies have these derivations, each label is at a place of one: what its values fit is
+-- what that derivation says there. The place of a label is after the block of the label within it, and the outermost is at a place of the
 -- derivation of the activation's whole code.
 abbrev pub StaysAtPlaces : Type 0
 StaysAtPlaces = (D : ℕ → Option Place) (p : Program) (s : State) (results : List ValueType) → IsValidBy (places D) p

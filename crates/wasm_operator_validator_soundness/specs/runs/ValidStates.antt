@@ -96,12 +96,12 @@ module _ (N : Notes) (p : Program) (w : Around) (locals : List (Option Value)) w
       × N.Holds root (at p w (b.results ∷ map branch_type ls) (false ∷ map is_clause ls))
       (frame_of p w frames.LegacyTry b before) set c s
 
-  -- the place behind a block, whose instructions begin at this note, if there is one within
+  -- the place after a block, whose instructions begin at this note, if there is one within
   abbrev pub IsAround : Option N.Note → N.Note → Type 0
   IsAround None place = Unit {0}
   IsAround (Some root) place = (k : N.Note) × (root ≡ N.within k) × (place ≡ N.past k)
 
-  -- A label, with these around it, awaits values for these operands: at a place of the code of its block, which is behind the block
+  -- A label, with these around it, awaits values for these operands: at a place of the code of its block, which is after the block
   -- of the label within it, if there is one.
   pub record Awaits (l : Label) (ls : List Label) (given : List Operand) (inner : Option N.Note) : Type 0 where
     pub root : N.Note
