@@ -35,6 +35,7 @@ pub mod RunsWorkedStuck
 pub mod WorkedSums
 pub mod WorkedCaught
 pub mod RunsWorkedAnswered
+pub mod RunsWorkedPlaced
 pub mod WorkedObjects
 pub mod WorkedOlder
 pub mod WorkedBranching

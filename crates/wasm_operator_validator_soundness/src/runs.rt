@@ -12,8 +12,8 @@ ghost use Rattle.wasm_operator_validator_soundness.specs.runs.Soundness.{Ancesto
 
 pub use worked::{
     answers_are_worked, branching_is_worked, caught_is_worked, objects_are_worked, older_is_worked,
-    runs_are_worked, segments_are_worked, stuck_states_are_worked, sums_are_worked,
-    vectors_are_worked,
+    places_are_worked, runs_are_worked, segments_are_worked, stuck_states_are_worked,
+    sums_are_worked, vectors_are_worked,
 };
 
 /// A function of a valid program that is started with fitting arguments and answered by fitting values is never stuck, and what
