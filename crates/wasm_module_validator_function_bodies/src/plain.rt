@@ -130,6 +130,7 @@ fn nothing_known(alloc: Global) -> Known {
         fields: Vec::new(alloc),
         order: Order::new(Vec::new(alloc)),
         functions: Vec::new(alloc),
+        callees: Vec::new(alloc),
         referenced: Vec::new(alloc),
         globals: Vec::new(alloc),
         tags: Vec::new(alloc),
@@ -254,10 +255,8 @@ fn has_default(code: u32) -> bool
 fn put_times(locals: &mut Vec<u32>, count: u32, code: u32) -> bool
     ensures { result ≡ true → locals.new.items ≡ locals.old.items ++ replicate count code }
 {
-    for i in 0..count {
-        let Ok(()) = locals.push(code) else {
-            return false;
-        };
-    }
-    true
+    let held = locals.as_slice().len();
+    locals
+        .resize(held.saturating_add(count as usize), code)
+        .is_ok()
 }

@@ -6,3 +6,5 @@ pub mod Frames
 pub mod Coded
 pub mod Indexed
 mod Calling
+pub mod Throwing
+pub mod Unreaching

@@ -296,6 +296,14 @@ fn may_close(frame: &Open) -> bool
     }
 }
 
+// Whether a frame gives one number, whose code is the place at which it stands.
+#[inline(always)]
+fn is_of_number(sig: Sig) -> bool
+    ensures { result ≡ true → (sig.result_count ≡ 1) × (sig.results < 4) }
+{
+    sig.result_count == 1 && sig.results < 4
+}
+
 // The innermost frame's operands are its results alone, which lie on those under it then.
 #[inline(always)]
 fn leave(tables: &Tables, frame: &Open, stack: &mut Stack) -> bool
@@ -307,6 +315,10 @@ fn leave(tables: &Tables, frame: &Open, stack: &mut Stack) -> bool
     }
     if !may_close(frame) {
         return false;
+    }
+    if is_of_number(frame.sig) {
+        let number = frame.sig.results;
+        return stack.take(number) && stack.leave(frame.base) && stack.put(number);
     }
     let Some(results) = part(
         tables.known.flat.as_slice(),
