@@ -49,18 +49,42 @@ pub fn call(
 // The operands that a signature takes are taken off, and those that it gives are put on.
 #[inline(always)]
 fn pass(tables: &Tables, sig: Sig, stack: &mut Stack) -> bool
-    ensures { result ≡ true → (m : Values) × (sig.param_count ≤ length tables.now.known.flat.items)
+    ensures usable { result ≡ true → sig.param_count ≤ length tables.now.known.flat.items }
+    ensures passed { result ≡ true → (m : Values)
         × IsLowered tables.now.known.order stack.old (with_all (params_in tables.now.known.flat.items sig) m)
         × (stack.new ≡ with_all (results_in tables.now.known.flat.items sig) m) }
 {
-    let flat = tables.known.flat.as_slice();
-    let Some(params) = part(flat, sig.params, sig.param_count) else {
+    take_params(tables, sig, stack) && put_results(tables, sig, stack)
+}
+
+// The operands that a signature takes are taken off. Many take none, and nothing is looked up then.
+#[inline(always)]
+fn take_params(tables: &Tables, sig: Sig, stack: &mut Stack) -> bool
+    ensures usable { result ≡ true → sig.param_count ≤ length tables.now.known.flat.items }
+    ensures taken { result ≡ true → IsLowered tables.now.known.order stack.old
+        (with_all (params_in tables.now.known.flat.items sig) stack.new) }
+{
+    if sig.param_count == 0 {
+        return true;
+    }
+    let Some(params) = part(tables.known.flat.as_slice(), sig.params, sig.param_count) else {
         return false;
     };
-    let Some(results) = part(flat, sig.results, sig.result_count) else {
+    stack.take_all(&tables.known.order, params)
+}
+
+// Those that it gives are put on.
+#[inline(always)]
+fn put_results(tables: &Tables, sig: Sig, stack: &mut Stack) -> bool
+    ensures { result ≡ true → stack.new ≡ with_all (results_in tables.now.known.flat.items sig) stack.old }
+{
+    if sig.result_count == 0 {
+        return true;
+    }
+    let Some(results) = part(tables.known.flat.as_slice(), sig.results, sig.result_count) else {
         return false;
     };
-    stack.take_all(&tables.known.order, params) && stack.put_all(results)
+    stack.put_all(results)
 }
 
 // The index of a table, and the offset behind it. Linkers write 0 in five bytes, which the features may allow, and other indices.
@@ -135,15 +159,7 @@ pub fn call_indirect(
     if !calls_through(tables, table) || index >= types.len() {
         return None;
     }
-    let sig = types[index];
-    let flat = tables.known.flat.as_slice();
-    let Some(params) = part(flat, sig.params, sig.param_count) else {
-        return None;
-    };
-    let Some(results) = part(flat, sig.results, sig.result_count) else {
-        return None;
-    };
-    if !stack.take(0) || !stack.take_all(&tables.known.order, params) || !stack.put_all(results) {
+    if !stack.take(0) || !pass(tables, types[index], stack) {
         return None;
     }
     Some(end)
