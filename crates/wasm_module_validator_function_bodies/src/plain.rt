@@ -256,7 +256,8 @@ fn put_times(locals: &mut Vec<u32>, count: u32, code: u32) -> bool
     ensures { result ≡ true → locals.new.items ≡ locals.old.items ++ replicate count code }
 {
     let held = locals.as_slice().len();
-    locals
-        .resize(held.saturating_add(count as usize), code)
-        .is_ok()
+    let Ok(()) = locals.resize(held.saturating_add(count as usize), code) else {
+        return false;
+    };
+    true
 }

@@ -14,9 +14,7 @@ ghost use Rattle.wasm_operator_validator_fast_tables.specs.Loop.{Leads, all};
 use crate::indices::index_at;
 use crate::labels::same;
 use crate::unreached::unreached;
-use wasm_operator_validator_fast_tables::{
-    FUNC, NO_CODE, Opens, Sig, Stack, Tables, part,
-};
+use wasm_operator_validator_fast_tables::{FUNC, NO_CODE, Opens, Sig, Stack, Tables, part};
 use wasm_operators_frequent::zero_at;
 use wasm_types::WasmFeatures;
 
@@ -80,6 +78,14 @@ fn put_results(tables: &Tables, sig: Sig, stack: &mut Stack) -> bool
 {
     if sig.result_count == 0 {
         return true;
+    }
+    if sig.result_count == 1 {
+        let flat = tables.known.flat.as_slice();
+        let place = sig.results as usize;
+        if place >= flat.len() {
+            return false;
+        }
+        return stack.put(flat[place]);
     }
     let Some(results) = part(tables.known.flat.as_slice(), sig.results, sig.result_count) else {
         return false;
