@@ -52,7 +52,10 @@ fn pass(tables: &Tables, sig: Sig, stack: &mut Stack) -> bool
         × IsLowered tables.now.known.order stack.old (with_all (params_in tables.now.known.flat.items sig) m)
         × (stack.new ≡ with_all (results_in tables.now.known.flat.items sig) m) }
 {
-    take_params(tables, sig, stack) && put_results(tables, sig, stack)
+    if !take_params(tables, sig, stack) {
+        return false;
+    }
+    put_results(tables, sig, stack)
 }
 
 // The operands that a signature takes are taken off. Many take none, and nothing is looked up then.
