@@ -255,9 +255,10 @@ fn has_default(code: u32) -> bool
 fn put_times(locals: &mut Vec<u32>, count: u32, code: u32) -> bool
     ensures { result ≡ true → locals.new.items ≡ locals.old.items ++ replicate count code }
 {
-    let held = locals.as_slice().len();
-    let Ok(()) = locals.resize(held.saturating_add(count as usize), code) else {
-        return false;
-    };
+    for i in 0..count {
+        let Ok(()) = locals.push(code) else {
+            return false;
+        };
+    }
     true
 }
