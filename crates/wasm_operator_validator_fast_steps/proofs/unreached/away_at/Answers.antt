@@ -7,8 +7,8 @@ returns-in-0-clause-passed c =
     passed_unreachable c.args.tables.now c.args.bytes.now c.args.at (c.args.at + 1) c.args.opens.now.inner c.args.opens.now.outer
     (record { inside = c.requires; code_there = c.in-0.is })
 
-pub returns-in-10-clause-passed : goal.returns-in-10-clause-passed
-returns-in-10-clause-passed c =
+pub returns-else-not-tables-clause-passed : goal.returns-else-not-tables-clause-passed
+returns-else-not-tables-clause-passed c =
     passed_throw_ref c.args.tables.now c.args.bytes.now c.args.at (c.args.at + 1) c.args.opens.now.inner c.args.opens.now.outer c.if-not-tables.false
     (record { inside = c.requires; code_there = c.in-10.is })
 
