@@ -2,6 +2,8 @@ pub mod Bodies
 pub mod Unreadable
 pub mod Payloads
 pub mod Running
+pub mod Passing
+pub mod GoingBy
 pub mod WorkedReaders
 pub mod Waiting
 pub mod Judging

@@ -16,6 +16,7 @@
 //! `specs/HandedOver.antt` what it answers of pieces that are handed over.
 #![tactic(auto)]
 
+mod customs;
 mod functions;
 mod handing;
 mod judging;
