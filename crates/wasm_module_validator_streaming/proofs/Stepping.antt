@@ -113,13 +113,7 @@ asked_for q r rest eof n h =
     (k.0, k.1, subst (λ (p : Parser). ParsesPayload p rest false (Ok (chunks.NeedMoreData n)) r) (sym k.1) more, asks_some q r rest n more)
 
 module _ (first now after : Judging) (got : List ℕ) (eof : Bool) (rest : List ℕ) (s : StandsAt first got eof rest now) (idle : now.passing ≡ 0) where
-  z : Settings
-  z = first.validator.settings
-
-  id : ValidatorId
-  id = first.validator.id
-
-  g : Goes z id got eof now.parser.frames rest now.validator
+  g : Goes first.validator.settings first.validator.id got eof now.parser.frames rest now.validator
   g = goes_next first now got eof rest s idle
 
   -- a payload was taken
@@ -127,15 +121,15 @@ module _ (first now after : Judging) (got : List ℕ) (eof : Bool) (rest : List 
       → (result : Taken Learned) → StepsPayload x n now.validator result after.validator → HasItsJudge after → after.passing ≡ 0
       → Takes StandsAt ShownAt DeniedAt WaitsAt first got eof rest result after
   payload_takes n x (f, parses, is) room (taken.Item k) t judge still =
-      let item = item_taken z id got eof now.parser.frames rest now.validator g n f after.parser.frames parses x is after.validator k t in
+      let item = item_taken first.validator.settings first.validator.id got eof now.parser.frames rest now.validator g n f after.parser.frames parses x is after.validator k t in
       (item.0, item.1, record { goes = inl (still, item.2); judge = judge })
   payload_takes n x (f, parses, is) room (taken.Waits k) t judge still = absurd t
-  payload_takes n x (f, parses, is) room (taken.Ended l) t judge still = end_is_verdict z id got eof now.parser.frames rest now.validator g n f after.parser.frames parses x is after.validator l t room
-  payload_takes n x (f, parses, is) room (taken.Refused e) t judge still = refusal_denies z id got eof now.parser.frames rest now.validator g n f after.parser.frames parses x is after.validator e t
+  payload_takes n x (f, parses, is) room (taken.Ended l) t judge still = end_is_verdict first.validator.settings first.validator.id got eof now.parser.frames rest now.validator g n f after.parser.frames parses x is after.validator l t room
+  payload_takes n x (f, parses, is) room (taken.Refused e) t judge still = refusal_denies first.validator.settings first.validator.id got eof now.parser.frames rest now.validator g n f after.parser.frames parses x is after.validator e t
 
   -- the bytes are refused
   pub refusal_takes : (e : ErrorValue) (r : Parser) → ParsesPayload now.parser.frames rest eof (Err e) r → Takes StandsAt ShownAt DeniedAt WaitsAt first got eof rest (taken.Refused e) after
-  refusal_takes e r h = λ more last room. denies e.kind (AcceptsUnder z (got ++ more)) (λ a. bytes_refused z id got eof now.parser.frames rest now.validator e r g h more last room a)
+  refusal_takes e r h = λ more last room. denies e.kind (AcceptsUnder first.validator.settings (got ++ more)) (λ a. bytes_refused first.validator.settings first.validator.id got eof now.parser.frames rest now.validator e r g h more last room a)
 
   -- with a parser that is as it was it stands there too, where it is said that more may come
   pub stands_still : eof ≡ false → after.parser.frames ≡ now.parser.frames → after.validator ≡ now.validator → after.passing ≡ now.passing → HasItsJudge after
@@ -143,9 +137,9 @@ module _ (first now after : Judging) (got : List ℕ) (eof : Bool) (rest : List 
   stands_still may same_parser same_validator same_passing judge = record {
     goes = inl (
       same_passing ∙ idle,
-      subst (λ (b : Bool). Goes z id got b after.parser.frames rest after.validator) may
-          (subst (λ (q : Parser). Goes z id got eof q rest after.validator) (sym same_parser)
-          (subst (λ (v : Validator). Goes z id got eof now.parser.frames rest v) (sym same_validator) g)),
+      subst (λ (b : Bool). Goes first.validator.settings first.validator.id got b after.parser.frames rest after.validator) may
+          (subst (λ (q : Parser). Goes first.validator.settings first.validator.id got eof q rest after.validator) (sym same_parser)
+          (subst (λ (v : Validator). Goes first.validator.settings first.validator.id got eof now.parser.frames rest v) (sym same_validator) g)),
     );
     judge = judge;
   }
@@ -211,33 +205,27 @@ module _ (first now : Judging) (got : List ℕ) (eof : Bool) (rest : List ℕ) (
   contents_take n least there after same_parser same_validator same_passing same_contents judge =
       (omega (arith, least, there, some), omega (arith, least), record { goes = go (cases_order now.passing (length rest)); judge = judge })
     where
-      z : Settings
-      z = first.validator.settings
-
-      id : ValidatorId
-      id = first.validator.id
-
-      done : now.passing ≤ length rest → GoesAt z id got eof (drop n rest) after
+      done : now.passing ≤ length rest → GoesAt first.validator.settings first.validator.id got eof (drop n rest) after
       done enough =
           let all : n ≡ now.passing = omega (arith, least, enough) in
           inl (
             omega (arith, same_passing, all),
-            subst (λ (q : Payloads). Goes z id got eof q.frames (drop n rest) after.validator) (sym same_parser)
-                (subst (λ (v : Validator). Goes z id got eof now.parser.frames (drop n rest) v) (sym same_validator)
-                (subst (λ (k : ℕ). Goes z id got eof now.parser.frames (drop k rest) now.validator) (sym all)
-                (all_by z id got eof now.parser.frames now.validator now.passing now.contents rest underway enough))),
+            subst (λ (q : Payloads). Goes first.validator.settings first.validator.id got eof q.frames (drop n rest) after.validator) (sym same_parser)
+                (subst (λ (v : Validator). Goes first.validator.settings first.validator.id got eof now.parser.frames (drop n rest) v) (sym same_validator)
+                (subst (λ (k : ℕ). Goes first.validator.settings first.validator.id got eof now.parser.frames (drop k rest) now.validator) (sym all)
+                (all_by first.validator.settings first.validator.id got eof now.parser.frames now.validator now.passing now.contents rest underway enough))),
           )
 
-      more : length rest < now.passing → GoesAt z id got eof (drop n rest) after
+      more : length rest < now.passing → GoesAt first.validator.settings first.validator.id got eof (drop n rest) after
       more few =
           let all : n ≡ length rest = omega (arith, least, few) in
-          inr (subst (λ (q : Payloads). GoesBy z id got eof q.frames (drop n rest) after.validator after.passing after.contents) (sym same_parser)
-          (subst (λ (v : Validator). GoesBy z id got eof now.parser.frames (drop n rest) v after.passing after.contents) (sym same_validator)
-          (subst (λ (m : ℕ). GoesBy z id got eof now.parser.frames (drop n rest) now.validator m after.contents) (sym same_passing)
-          (subst (λ (c : ℕ). GoesBy z id got eof now.parser.frames (drop n rest) now.validator (now.passing - n) c) (sym same_contents)
-          (some_by z id got eof now.parser.frames now.validator now.passing now.contents rest underway n all few)))))
+          inr (subst (λ (q : Payloads). GoesBy first.validator.settings first.validator.id got eof q.frames (drop n rest) after.validator after.passing after.contents) (sym same_parser)
+          (subst (λ (v : Validator). GoesBy first.validator.settings first.validator.id got eof now.parser.frames (drop n rest) v after.passing after.contents) (sym same_validator)
+          (subst (λ (m : ℕ). GoesBy first.validator.settings first.validator.id got eof now.parser.frames (drop n rest) now.validator m after.contents) (sym same_passing)
+          (subst (λ (c : ℕ). GoesBy first.validator.settings first.validator.id got eof now.parser.frames (drop n rest) now.validator (now.passing - n) c) (sym same_contents)
+          (some_by first.validator.settings first.validator.id got eof now.parser.frames now.validator now.passing now.contents rest underway n all few)))))
 
-      go : (now.passing ≡ length rest) ⊎ ((now.passing < length rest) ⊎ (length rest < now.passing)) → GoesAt z id got eof (drop n rest) after
+      go : (now.passing ≡ length rest) ⊎ ((now.passing < length rest) ⊎ (length rest < now.passing)) → GoesAt first.validator.settings first.validator.id got eof (drop n rest) after
       go (inl e) = done (omega (arith, e))
       go (inr (inl l)) = done (omega (arith, l))
       go (inr (inr l)) = more l

@@ -5,6 +5,7 @@ pub mod Running
 pub mod Passing
 pub mod GoingBy
 pub mod WorkedReaders
+pub mod WorkedPassing
 pub mod Waiting
 pub mod Judging
 pub mod Statements

@@ -51,7 +51,8 @@ impl Judging {
                 let Some(_end) = end.checked_add(missing as u64) else {
                     return Taken::Waits(needed);
                 };
-                self.parser.pass_section(0, 0, there as u64 + missing as u64);
+                self.parser
+                    .pass_section(0, 0, there as u64 + missing as u64);
                 self.in_loop = None;
                 self.passing = missing;
                 self.contents = contents;

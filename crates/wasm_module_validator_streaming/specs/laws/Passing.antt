@@ -75,7 +75,7 @@ value_stays : {A : Type 0} (d : Decoder A) (s t : State) (x : A) (more : List �
 value_stays d s t x more g e = stays x t more (d s) (d (extended s more)) e g
 
 -- a byte at least is needed where bytes end
-some_short : {A : Type 0} → Outcome A → Type 0
+abbrev some_short : {A : Type 0} → Outcome A → Type 0
 some_short (Done x t) = Unit {0}
 some_short (Short p h) = 0 < h
 some_short (Fault k p) = Unit {0}
@@ -264,38 +264,30 @@ refused_is_none (Done y u) x t r e = r
 refused_is_none (Short p h) x t r e = cc
 refused_is_none (Fault k p) x t r e = cc
 
--- of no byte, or of one, there is no size
-pub no_front : (s : State) → IsRefused (byte s) → (later : List ℕ) (missing place : ℕ) → length later < 2 → IsHead (extended s later) missing place → ⊥
-no_front s none later missing place few h = go s.rest refl later refl few
-  where
-    no_size : (t u : State) (n : ℕ) → t.rest ≡ [] → u32 t ≡ Done n u → ⊥
-    unfolding unsigned
-    no_size t u n e f =
-        let g : u32 (record { rest = []; place = t.place; settings = t.settings; start = t.start }) ≡ Done n u =
-        subst (λ (l : List ℕ). u32 (record { rest = l; place = t.place; settings = t.settings; start = t.start }) ≡ Done n u) e f in
-        absurd cc
+no_bytes : (xs : List ℕ) → length xs ≡ 0 → xs ≡ []
+no_bytes [] e = refl
+no_bytes (x ∷ xs) e = absurd (omega (arith, e))
 
-    go : (rest : List ℕ) → s.rest ≡ rest → (more : List ℕ) → later ≡ more → length later < 2 → ⊥
-    go (b ∷ rest) e more f few =
-        refused_is_none (first_of_rest (b ∷ rest) s) b (record { rest = rest; place = s.place + 1; settings = s.settings; start = s.start })
-        (subst (λ (l : List ℕ). IsRefused (first_of_rest l s)) e none) refl
-    go [] e [] f few =
-        let t = byte_takes (extended s later) h.tagged 0 h.tag in
-        let n = ap length t.parts in
-        let all = length-append s.rest later in
-        let x = ap length e in
-        let y = ap length f in
-        omega (arith, n, all, x, y)
-    go [] e (b ∷ more) f few =
-        let t = byte_takes (extended s later) h.tagged 0 h.tag in
-        let n = ap length t.parts in
-        let all = length-append s.rest later in
-        let x = ap length e in
-        no_size h.tagged h.sized h.size (nothing h.tagged.rest (omega (arith, n, all, x, few))) h.count
-      where
-        nothing : (xs : List ℕ) → length xs ≡ 0 → xs ≡ []
-        nothing [] e = refl
-        nothing (x ∷ xs) e = absurd (omega (arith, e))
+abbrev reading : State → List ℕ → State
+reading t text = record { rest = text; place = t.place; settings = t.settings; start = t.start }
+
+-- of no byte there is no size
+no_size : (t u : State) (n : ℕ) → t.rest ≡ [] → u32 t ≡ Done n u → ⊥
+unfolding unsigned
+no_size t u n e f = let g : u32 (reading t []) ≡ Done n u = subst (λ (l : List ℕ). u32 (reading t l) ≡ Done n u) e f in cc
+
+byte_there : (s : State) (rest : List ℕ) → IsRefused (first_of_rest rest s) → length rest ≡ 0
+byte_there s [] none = refl
+byte_there s (b ∷ rest) none = absurd none
+
+-- so of no byte, or of one, there is no front
+pub no_front : (s : State) → IsRefused (byte s) → (later : List ℕ) (missing place : ℕ) → length later < 2 → IsHead (extended s later) missing place → ⊥
+no_front s none later missing place few h =
+    let t = byte_takes (extended s later) h.tagged 0 h.tag in
+    let n = ap length t.parts in
+    let all = length-append s.rest later in
+    let x = byte_there s s.rest none in
+    no_size h.tagged h.sized h.size (no_bytes h.tagged.rest (omega (arith, n, all, x, few))) h.count
 
 module _ (s tagged : State) (id : ℕ) (tag : byte s ≡ Done id tagged) where
   -- another section
@@ -326,13 +318,16 @@ module _ (s tagged : State) (id : ℕ) (tag : byte s ≡ Done id tagged) where
     sized_is later missing place h = only_state size h.size (extended sized later) h.sized (u32 h.tagged) (count_stays later missing place h) h.count
 
     -- as much is missing as is left of the size
-    missing_is : (later : List ℕ) (missing place : ℕ) → IsHead (extended s later) missing place → size ≡ length sized.rest + length later + missing
+    pub missing_is : (later : List ℕ) (missing place : ℕ) → IsHead (extended s later) missing place → size ≡ length sized.rest + length later + missing
     missing_is later missing place h =
         let n = size_is later missing place h in
         let t = ap (λ (u : State). length u.rest) (sized_is later missing place h) in
         let all = length-append sized.rest later in
         let cut = h.cut in
         omega (arith, n, t, all, cut)
+
+    pub there_is : (later : List ℕ) (missing place : ℕ) → IsHead (extended s later) missing place → place ≡ sized.place
+    there_is later missing place h = h.there ∙ sym (ap (λ (u : State). u.place) (sized_is later missing place h))
 
     -- a section that is all there
     pub no_missing : size ≤ length sized.rest → (later : List ℕ) (missing place : ℕ) → IsHead (extended s later) missing place → ⊥
@@ -401,9 +396,11 @@ module _ (p : Parser) (gone : List ℕ) (missing place : ℕ) (q : Parser) (h : 
         ((lawful-step p.settings p.progress).steady (reads p gone) text);
     whole = λ later enough.
         let n = h.whole (text ++ later) (let all = length-append text later in omega (arith, all, enough, few)) in
-        let count : length gone + missing ≡ length (gone ++ text) + (missing - length text) = let all = length-append gone text in omega (arith, all, few) in
-        (n.0, subst (λ (k : ℕ). IsNext p ((gone ++ text) ++ later) k (Custom n.0) q) count
-        (subst (λ (l : List ℕ). IsNext p l (length gone + missing) (Custom n.0) q) (sym (append_assoc gone text later)) n.1));
+        let count : length gone + missing ≡ length (gone ++ text) + (missing - length text) = let all = length-append gone text in omega (arith, all, few) in (
+          n.0,
+          subst (λ (k : ℕ). IsNext p ((gone ++ text) ++ later) k (Custom n.0) q) count
+              (subst (λ (l : List ℕ). IsNext p l (length gone + missing) (Custom n.0) q) (sym (append_assoc gone text later)) n.1),
+        );
   }
     where
       cut_further : (o after : Outcome Next) → o ≡ short place missing → GoesOn o text after → after ≡ short place (missing - length text)
