@@ -27,7 +27,7 @@ pub const fn pieces_are_judged()
     ensures refused_bytes { (z : Settings) (id : ValidatorId) → BytesRefuse z id }
 {}
 
-/// What is said of the bytes of a reader: a case where each of these holds, and one where it does not.
+/// What is said of the bytes of a reader, and of the front of a custom section: a case where each holds, and one where it does not.
 pub const fn readers_are_worked()
     ensures readers { ReaderRows }
     ensures steps { (e : ErrorValue) → StepRows e }
