@@ -32,8 +32,8 @@ impl Judging {
         }
     }
 
-    /// Takes bytes that are in no whole payload, if they are a custom section's front: what the contents are does not matter. Else so many more
-    /// bytes are needed, or of a front that is not whole as many as may bring it.
+    /// Takes bytes that are in no whole payload, if they are a custom section's front: what the contents are does not matter. Else so many
+    /// more bytes are needed, or of a front that is not whole as many as may bring it.
     fn take_front(&mut self, bytes: &[u8], needed: usize) -> Taken<Types>
         requires idle { self.old.passing ≡ 0 }
         requires room { self.old.parser.frames.offset + length bytes.now < 2 ^ 64 }

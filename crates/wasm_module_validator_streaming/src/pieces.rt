@@ -15,8 +15,9 @@ use wasm_module_validator::Types;
 use wasm_module_validator_index_spaces::view::ValidatorId;
 use wasm_types::{Error, ErrorKind, Limits, WasmFeatures};
 
-/// A module as far as its bytes were handed over. Each section, and each body, is judged as soon as it is whole, and is not kept; so what is
-/// held of the bytes is a part of one item. Contents of a custom section decide nothing: once its id, its size and its name came, they go by.
+/// A module as far as its bytes were handed over. Each section, and each body, is judged as soon as it is whole, and is not kept; so what
+/// is held of the bytes is a part of one item. Contents of a custom section decide nothing: once its id, its size and its name came, they
+/// go by.
 ///
 /// [`Came`] tells which bytes came: none at first, and with each piece that is taken those of the piece too.
 #[derive(Drop)]
