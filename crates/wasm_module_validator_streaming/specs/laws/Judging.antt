@@ -1,5 +1,5 @@
 -- What judges a module stands where its parser and its validator do: more bytes may come, and it may be known that none do.
-use Rattle.std.specs.Prelude.{ℕ, List, ◌++◌, true, false, inl, inr}
+use Rattle.std.proofs.Common.{ℕ, List, ◌++◌, true, false, inl, inr}
 use Rattle.wasm_module_validator_streaming.specs.declared.judging.Judging.{Judging}
 use Rattle.wasm_module_validator_streaming.specs.Verdicts.{GoesAt, StandsAt}
 use Rattle.wasm_module_validator_streaming.specs.laws.GoingBy.{by_read, by_last}

@@ -7,7 +7,7 @@ use Rattle.wasm_sections_parser.specs.Parsers.{Parser as Frames}
 use Rattle.wasm_module_validator_streaming.specs.Taking.{Takes}
 use Rattle.wasm_module_validator_streaming.specs.Verdicts.{StandsAt, ShownAt, DeniedAt, WaitsAt}
 use Rattle.wasm_module_validator_streaming.proofs.Stepping.{midst_room, asked_for, payload_takes, refusal_takes, stands_still}
-use Rattle.wasm_module_validator_streaming.proofs.modules.Judging.take_next.Goals as goal
+use Rattle.wasm_module_validator_streaming.proofs.judging.Judging.take_next.Goals as goal
 
 pub parse-requires : goal.parse-requires
 parse-requires c = midst_room c.args.eof c.args.bytes.now c.args.self.now c.requires.midst c.requires.idle

@@ -4,7 +4,7 @@ use Rattle.wasm_sections_parser.specs.Parsing.{between, reads}
 use Rattle.wasm_module_validator_streaming.specs.Passing.{IsHead}
 use Rattle.wasm_module_validator_streaming.specs.laws.Passing.{none_between, none_cut, none_other, none_far}
 use Rattle.wasm_module_validator_streaming.proofs.Stepping.{wait_takes, front_takes}
-use Rattle.wasm_module_validator_streaming.proofs.modules.Judging.take_front.Goals as goal
+use Rattle.wasm_module_validator_streaming.proofs.judging.Judging.take_front.Goals as goal
 
 pub returns-then-not-is_between : goal.returns-then-not-is_between
 returns-then-not-is_between c = λ first got s room.
