@@ -9,8 +9,8 @@
  * many there are, and in each row the names, the kind and the index that the module has, in its order; of any other bytes, that the names of
  * all rows that were written lie in the bytes, unless the answer is DURSKEYL_NO_MODULE. Of a module whose pieces are handed over:
  * durskeyl_take answers DURSKEYL_VALID only if each whole item that came was judged and none is refused; a kind that is a
- * verdict only if no module that begins with these bytes is valid; DURSKEYL_TOO_LONG only if a section or body of them has more bytes than
- * the cap, or there are 2^64 of them; and a refusal of bytes stays. durskeyl_end answers of all pieces that were taken what durskeyl_validate
+ * verdict only if no module that begins with these bytes is valid; DURSKEYL_TOO_LONG only if a section or body of them, without the contents of
+ * a custom section, has more bytes than the cap, or there are 2^64 of them; and a refusal of bytes stays. durskeyl_end answers of all pieces that were taken what durskeyl_validate
  * is proved to answer of whole bytes, or DURSKEYL_TOO_LONG, as durskeyl_take does. Between calls no more bytes are held than the cap says. All
  * calls end on all bytes, read only what they are given, and write only the fault, the rows or the handle. Except for the four calls on a handle
  * no call depends on an earlier one, keeps anything, or leaves anything to free.
