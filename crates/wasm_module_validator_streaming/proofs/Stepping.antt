@@ -178,6 +178,10 @@ module _ (first now : Judging) (got : List ℕ) (rest : List ℕ) (s : StandsAt 
 
 -- ---- contents that go by
 
+pub none_left : (xs : List ℕ) → length xs ≡ 0 → xs ≡ []
+none_left [] e = refl
+none_left (x ∷ xs) e = absurd (omega (arith, e))
+
 module _ (first now : Judging) (got : List ℕ) (eof : Bool) (rest : List ℕ) (s : StandsAt first got eof rest now) (some : 0 < now.passing) where
   underway : GoesBy first.validator.settings first.validator.id got eof now.parser.frames rest now.validator now.passing now.contents
   underway = goes_by first now got eof rest s some
@@ -192,11 +196,7 @@ module _ (first now : Judging) (got : List ℕ) (eof : Bool) (rest : List ℕ) (
 
   -- none is there, and some may come
   pub contents_wait : eof ≡ false → rest ≡ [] → Takes StandsAt ShownAt DeniedAt WaitsAt first got eof rest (taken.Waits 1) now
-  contents_wait may none = (may, s, (omega arith, λ more bytes few. inr (some, ap (λ (l : List ℕ). l ++ more) none ∙ nothing more few)))
-    where
-      nothing : (more : List ℕ) → length more < 1 → more ≡ []
-      nothing [] few = refl
-      nothing (x ∷ xs) few = absurd (omega (arith, few))
+  contents_wait may none = (may, s, (omega arith, λ more bytes few. inr (some, ap (λ (l : List ℕ). l ++ more) none ∙ none_left more (omega (arith, few)))))
 
   -- those that are there go by
   pub contents_take : (n : ℕ) → n ≡ min now.passing (length rest) → 0 < length rest → (after : Judging) → after.parser ≡ now.parser → after.validator ≡ now.validator
