@@ -131,18 +131,22 @@ module _ (first now after : Judging) (got : List ℕ) (eof : Bool) (rest : List 
   pub refusal_takes : (e : ErrorValue) (r : Parser) → ParsesPayload now.parser.frames rest eof (Err e) r → Takes StandsAt ShownAt DeniedAt WaitsAt first got eof rest (taken.Refused e) after
   refusal_takes e r h = λ more last room. denies e.kind (AcceptsUnder first.validator.settings (got ++ more)) (λ a. bytes_refused first.validator.settings first.validator.id got eof now.parser.frames rest now.validator e r g h more last room a)
 
-  -- with a parser that is as it was it stands there too, where it is said that more may come
-  pub stands_still : eof ≡ false → after.parser.frames ≡ now.parser.frames → after.validator ≡ now.validator → after.passing ≡ now.passing → HasItsJudge after
-      → StandsAt first got false rest after
-  stands_still may same_parser same_validator same_passing judge = record {
+  -- with a parser that is as it was it stands there too
+  pub stands_same : after.parser.frames ≡ now.parser.frames → after.validator ≡ now.validator → after.passing ≡ now.passing → HasItsJudge after → StandsAt first got eof rest after
+  stands_same same_parser same_validator same_passing judge = record {
     goes = inl (
       same_passing ∙ idle,
-      subst (λ (b : Bool). Goes first.validator.settings first.validator.id got b after.parser.frames rest after.validator) may
-          (subst (λ (q : Parser). Goes first.validator.settings first.validator.id got eof q rest after.validator) (sym same_parser)
-          (subst (λ (v : Validator). Goes first.validator.settings first.validator.id got eof now.parser.frames rest v) (sym same_validator) g)),
+      subst (λ (q : Parser). Goes first.validator.settings first.validator.id got eof q rest after.validator) (sym same_parser)
+          (subst (λ (v : Validator). Goes first.validator.settings first.validator.id got eof now.parser.frames rest v) (sym same_validator) g),
     );
     judge = judge;
   }
+
+  -- and where it is said that more may come
+  pub stands_still : eof ≡ false → after.parser.frames ≡ now.parser.frames → after.validator ≡ now.validator → after.passing ≡ now.passing → HasItsJudge after
+      → StandsAt first got false rest after
+  stands_still may same_parser same_validator same_passing judge =
+      subst (λ (b : Bool). StandsAt first got b rest after) may (stands_same same_parser same_validator same_passing judge)
 
 module _ (first now : Judging) (got : List ℕ) (rest : List ℕ) (s : StandsAt first got false rest now) (idle : now.passing ≡ 0)
     (n : ℕ) (asks : ParsesPayload now.parser.frames rest false (Ok (chunks.NeedMoreData n)) now.parser.frames) where

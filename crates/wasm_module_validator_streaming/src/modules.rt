@@ -25,6 +25,16 @@ impl Judging {
         if let Some((body, consumed)) = self.parser.next_body(bytes) {
             return self.take_body(consumed, body);
         }
+        self.take_other(bytes, eof)
+    }
+
+    /// The same of any payload.
+    #[inline(never)]
+    fn take_other(&mut self, bytes: &[u8], eof: bool) -> Taken<Types>
+        requires midst { IsMidst StandsAt eof bytes.now self.old }
+        requires idle { self.old.passing ≡ 0 }
+        ensures { TakesAt self.old eof bytes.now result self.new }
+    {
         match self.parser.parse(bytes, eof) {
             Ok(Chunk::NeedMoreData(needed)) => self.take_front(bytes, needed),
             Ok(Chunk::Parsed { consumed, payload }) => self.take_payload(consumed, payload),

@@ -1,47 +1,37 @@
--- By the laws of a step.
-use Rattle.std.proofs.Common.{◌<◌, ◌+◌, ◌^◌, Bool, Ok, refl, sym, subst, ◌∙◌, length}
+-- A body is a payload; and without one the parser is as it was.
+use Rattle.std.proofs.Common.{rules, ◌≡◌, ◌∙◌, Ok, refl, sym, subst}
+use Rattle.wasm_sections.specs.declared.payload.Payload.TheVariants.{CodeSectionEntry}
 use Rattle.wasm_sections.specs.declared.parser.Chunk.TheVariants as chunks
 use Rattle.wasm_sections.specs.declared.parser.Parser.{Parser}
 use Rattle.wasm_sections.specs.Parsing.{ParsesPayload}
-use Rattle.wasm_sections_parser.specs.Parsers.{Parser as Frames}
-use Rattle.wasm_module_validator_streaming.specs.Taking.{Takes}
-use Rattle.wasm_module_validator_streaming.specs.Verdicts.{StandsAt, ShownAt, DeniedAt, WaitsAt}
-use Rattle.wasm_module_validator_streaming.proofs.Stepping.{midst_room, asked_for, payload_takes, refusal_takes, stands_still}
+use Rattle.wasm_module_validator_streaming.proofs.Stepping.{midst_room, payload_takes, stands_same}
 use Rattle.wasm_module_validator_streaming.proofs.judging.Judging.take_next.Goals as goal
 
-pub parse-requires : goal.parse-requires
-parse-requires c = midst_room c.args.eof c.args.bytes.now c.args.self.now c.requires.midst c.requires.idle
+pub next_body-requires : goal.next_body-requires
+next_body-requires c = midst_room c.args.eof c.args.bytes.now c.args.self.now c.requires.midst c.requires.idle
 
-pub take_payload-requires : goal.take_payload-requires
-take_payload-requires c = c.requires.midst.there.judge
+pub take_body-requires : goal.take_body-requires
+take_body-requires c = c.requires.midst.there.judge
 
-pub take_front-requires-clause-room : goal.take_front-requires-clause-room
-take_front-requires-clause-room c =
-    let a = asked_for c.args.self.now.parser.frames c.parse.new.self.frames c.args.bytes.now c.args.eof c.in-Ok-NeedMoreData.needed (rw c.in-Ok-NeedMoreData.field-0-is at c.in-Ok-NeedMoreData.ensures.answer) in
-    subst (λ (q : Frames). q.offset + length c.args.bytes.now < 2 ^ 64) (sym a.1) (midst_room c.args.eof c.args.bytes.now c.args.self.now c.requires.midst c.requires.idle)
+pub returns-in-Some : goal.returns-in-Some
+returns-in-Some c = λ first got s room.
+    payload_takes first c.args.self.now c.take_body.new.self got c.args.eof c.args.bytes.now s c.requires.idle c.in-Some.consumed (CodeSectionEntry c.in-Some.body)
+    (subst (λ (p : Parser). ParsesPayload c.args.self.now.parser.frames c.args.bytes.now c.args.eof (Ok (chunks.Parsed c.in-Some.consumed (CodeSectionEntry c.in-Some.body))) p.frames)
+    (sym c.take_body.ensures.parser) (c.in-Some.ensures.body c.args.eof)) room c.take_body.result c.take_body.ensures.steps c.take_body.ensures.judge (c.take_body.ensures.idle ∙ c.requires.idle)
 
-pub take_front-requires-clause-asks : goal.take_front-requires-clause-asks
-take_front-requires-clause-asks c =
-    (asked_for c.args.self.now.parser.frames c.parse.new.self.frames c.args.bytes.now c.args.eof c.in-Ok-NeedMoreData.needed (rw c.in-Ok-NeedMoreData.field-0-is at c.in-Ok-NeedMoreData.ensures.answer)).2
+pub take_other-requires-clause-midst : goal.take_other-requires-clause-midst
+take_other-requires-clause-midst c =
+    let same : c.next_body.new.self.frames ≡ c.args.self.now.parser.frames = search rules in
+    let m = c.requires.midst in
+    record {
+      first = m.first;
+      got = m.got;
+      there = stands_same m.first c.args.self.now (record c.args.self.now { parser = c.next_body.new.self }) m.got c.args.eof c.args.bytes.now m.there c.requires.idle same refl refl m.there.judge;
+      room = m.room;
+    }
 
-pub take_front-requires-clause-some : goal.take_front-requires-clause-some
-take_front-requires-clause-some c =
-    (asked_for c.args.self.now.parser.frames c.parse.new.self.frames c.args.bytes.now c.args.eof c.in-Ok-NeedMoreData.needed (rw c.in-Ok-NeedMoreData.field-0-is at c.in-Ok-NeedMoreData.ensures.answer)).3
-
-pub returns-in-Ok-NeedMoreData : goal.returns-in-Ok-NeedMoreData
-returns-in-Ok-NeedMoreData c = λ first got s room.
-    let a = asked_for c.args.self.now.parser.frames c.parse.new.self.frames c.args.bytes.now c.args.eof c.in-Ok-NeedMoreData.needed (rw c.in-Ok-NeedMoreData.field-0-is at c.in-Ok-NeedMoreData.ensures.answer) in
-    subst (λ (b : Bool). Takes StandsAt ShownAt DeniedAt WaitsAt first got b c.args.bytes.now c.take_front.result c.take_front.new.self) (sym a.0)
-    (c.take_front.ensures first got (stands_still first c.args.self.now (record c.args.self.now { parser = c.parse.new.self }) got c.args.eof c.args.bytes.now s c.requires.idle a.0 a.1 refl refl s.judge) room)
-
-pub returns-in-Ok-Parsed : goal.returns-in-Ok-Parsed
-returns-in-Ok-Parsed c = λ first got s room.
-    let parsed = rw c.in-Ok-Parsed.field-0-is at c.in-Ok-Parsed.ensures.answer in
-    payload_takes first c.args.self.now c.take_payload.new.self got c.args.eof c.args.bytes.now s c.requires.idle c.in-Ok-Parsed.consumed c.in-Ok-Parsed.payload
-    (subst (λ (p : Parser). ParsesPayload c.args.self.now.parser.frames c.args.bytes.now c.args.eof (Ok (chunks.Parsed c.in-Ok-Parsed.consumed c.in-Ok-Parsed.payload)) p.frames)
-    (sym c.take_payload.ensures.parser) parsed) room c.take_payload.result c.take_payload.ensures.steps c.take_payload.ensures.judge (c.take_payload.ensures.idle ∙ c.requires.idle)
-
-pub returns-in-Err : goal.returns-in-Err
-returns-in-Err c = λ first got s room.
-    refusal_takes first c.args.self.now (record c.args.self.now { parser = c.parse.new.self }) got c.args.eof c.args.bytes.now s c.requires.idle c.in-Err.error c.parse.new.self.frames
-    (rw c.in-Err.error-is at c.in-Err.ensures.answer)
+pub returns : goal.returns
+returns c = λ first got s room.
+    let same : c.next_body.new.self.frames ≡ c.args.self.now.parser.frames = search rules in
+    c.take_other.ensures first got
+    (stands_same first c.args.self.now (record c.args.self.now { parser = c.next_body.new.self }) got c.args.eof c.args.bytes.now s c.requires.idle same refl refl s.judge) room
