@@ -31,8 +31,8 @@ returns-in_default c = λ first got s room.
     wait_takes first c.args.self.now got c.args.bytes.now s c.requires.idle c.args.needed c.requires.asks c.args.needed c.requires.some (omega arith)
     (λ more less. none_far c.args.self.now.parser.frames c.args.bytes.now c.in-Head.missing c.in-Head.contents head far more)
 
-pub returns-in-Head : goal.returns-in-Head
-returns-in-Head c = λ first got s room.
+pub returns-in-Some : goal.returns-in-Some
+returns-in-Some c = λ first got s room.
     let there : between c.args.self.now.parser.frames.progress.stage c.args.self.now.parser.frames.offset ≡ true = search rules in
     let head : IsHead (reads c.args.self.now.parser.frames c.args.bytes.now) c.in-Head.missing c.in-Head.contents = rw c.in-Head.is at c.read_front.ensures in
     front_takes first c.args.self.now got c.args.bytes.now s c.requires.idle c.args.needed c.requires.asks
