@@ -111,12 +111,11 @@ module _ (p : Program) (valid : IsValidProgram p) (final : List ValueType) (a : 
 
 -- ---- a step, and a run
 
-pub step_okay : (p : Program) (final : List ValueType) (s : State) (a : Answer) → IsValidProgram p → IsValidState p final s → IsOkay p final (step p s a)
-step_okay p final [] a v w = absurd w
-step_okay p final (act ∷ acts) a v w =
+-- what is known of the innermost activation of a state in which all fits
+abbrev pub here_of : (p : Program) (final : List ValueType) (act : Activation) (acts : List Activation) → IsValidState p final (act ∷ acts) → Here p final act acts
+here_of p final act acts w =
     let l = w.0.labels.0 in
-    execute_okay p v final a act acts
-    (record {
+    record {
       locals = w.0.locals;
       results = w.0.results;
       loops = l.loops;
@@ -130,7 +129,13 @@ step_okay p final (act ∷ acts) a v w =
       are_set = l.are_set;
       operands = l.operands;
       fit = l.fit;
-    }) act.innermost.code l.inside l.typed
+    }
+
+pub step_okay : (p : Program) (final : List ValueType) (s : State) (a : Answer) → IsValidProgram p → IsValidState p final s → IsOkay p final (step p s a)
+step_okay p final [] a v w = absurd w
+step_okay p final (act ∷ acts) a v w =
+    let l = w.0.labels.0 in
+    execute_okay p v final a act acts (here_of p final act acts w) act.innermost.code l.inside l.typed
 
 pub runs_stay_valid : (p : Program) (final : List ValueType) (s : State) (answers : List Answer) (t : State) → IsValidProgram p → IsValidState p final s → Runs p s answers t → IsValidState p final t
 runs_stay_valid p final s [] t v w r = subst (λ (u : State). IsValidState p final u) r w

@@ -18,7 +18,7 @@ use Rattle.wasm_operator_validator_soundness.specs.runs.States.{trapped, Move}
 use Rattle.wasm_operator_validator_soundness.specs.runs.Machine.{function_type, unwind, throw_again}
 use Rattle.wasm_operator_validator_soundness.specs.runs.Machine.{throw_reference, caught_at, operate_exception}
 use Rattle.wasm_operator_validator_soundness.specs.runs.Soundness.{IsValidProgram}
-use Rattle.wasm_operator_validator_soundness.specs.runs.ValidStates.{AreSet, IsCaught, IsThrown, Around, around_of}
+use Rattle.wasm_operator_validator_soundness.specs.runs.ValidStates.{AreSet, IsCaught, IsTagType, IsThrown, Around, around_of}
 use Rattle.wasm_operator_validator_soundness.proofs.RunsInvariant.{none_is_some, some_same}
 use Rattle.wasm_operator_validator_soundness.specs.runs.ValidStates.{LabelsAwait}
 use Rattle.wasm_operator_validator_soundness.proofs.RunsInvariant.{here, IsOkay}
@@ -27,6 +27,7 @@ use Rattle.wasm_operator_validator_soundness.proofs.Combining.{done_okay, asks_o
 use Rattle.wasm_operator_validator_soundness.proofs.RunsLeaving.{leave_okay, has_signature, signature_is, unwind_okay}
 use Rattle.wasm_operator_validator_soundness.proofs.Values.{constructor_apart, is_caught, under_exn}
 use Rattle.wasm_operator_validator_soundness.proofs.Standing.{values_under, Here}
+use Rattle.wasm_operator_validator_soundness.proofs.Thrown.{thrown_with}
 
 module _ (p : Program) (valid : IsValidProgram p) (final : List ValueType) (a : Answer) (act : Activation) (acts : List Activation) (h : Here p final act acts) where
   abbrev w : Around
@@ -68,7 +69,7 @@ module _ (p : Program) (valid : IsValidProgram p) (final : List ValueType) (a : 
 
   -- ---- exceptions
 
-  pub tag_is : (x : ℕ) (ts : List ValueType) → IsExceptionTag g x ts → (t : TypeTree) × (slice_get p.«module».tags x ≡ Some t) × IsThrown t × (function_type t ≡ Some (record { params = ts; results = [] }))
+  pub tag_is : (x : ℕ) (ts : List ValueType) → IsExceptionTag g x ts → (t : TypeTree) × (slice_get p.«module».tags x ≡ Some t) × IsTagType t × (function_type t ≡ Some (record { params = ts; results = [] }))
   tag_is x ts e = (e.0, e.1, valid.tags x e.0 e.1, signature_is e.0 (record { params = ts; results = [] }) e.2)
 
   -- an exception that is thrown here
@@ -105,7 +106,9 @@ module _ (p : Program) (valid : IsValidProgram p) (final : List ValueType) (a : 
       found_okay p final (slice_get p.«module».tags x) n.0 _ n.1
       (found_okay p final (function_type n.0) (record { params = r.0; results = [] }) _ n.3
       (takes_okay p final a r.0 vs (reverse r.1 ++ rest) _ (values_under p valid final a act acts h r.1 r.0 popped rest b r.3) (λ us ws i j.
-      thrown_okay n.0 us (record { params = r.0; results = [] }) n.2 (as_function_is (expanded n.0) _ n.3) i)))
+      let own : Signature = record { params = r.0; results = [] } in
+      let is = as_function_is (expanded n.0) own n.3 in
+      thrown_okay n.0 us own (thrown_with p n.0 own us n.2 is i) is i)))
   exception_okay op.ThrowRef more popped pushed rest m r b e t =
       pops_okay p final vs (known (exception true)) (reverse r.0 ++ rest) _ (values_under p valid final a act acts h r.0 (exception true ∷ []) popped rest b r.1) (λ v ws i j.
       asks_okay p final (Fits p v (exception true)) _ i (throw_reference_okay v i))

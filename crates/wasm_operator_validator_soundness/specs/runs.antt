@@ -5,5 +5,6 @@ pub mod Names
 pub mod Machine
 pub mod ValidStates
 pub mod Soundness
+pub mod Progress
 -- Worked runs, and states that are stuck.
 pub mod worked

@@ -11,7 +11,7 @@ use Rattle.wasm_operator_validator_rules.specs.Operands.{ValueType, Operand, sta
 use Rattle.wasm_operator_validator_rules.specs.Context.{Context, Initialised, Signature, Frame, IsFunctionType}
 use Rattle.wasm_operator_validator_rules.specs.Exceptions.{EachCatches}
 use Rattle.wasm_operator_validator_rules.specs.Typed.{Typed}
-use Rattle.wasm_operator_validator_soundness.specs.runs.Values.{Program, IsStandardType, Value, Fits, AllFit}
+use Rattle.wasm_operator_validator_soundness.specs.runs.Values.{Program, IsStandardType, Value, HasArguments, Fits, AllFit}
 use Rattle.wasm_operator_validator_soundness.specs.runs.States.{Continuation, behind, again, Handlers, no_handlers, table, clauses, Exception, Label, Activation, State, branch_type, is_clause}
 use Rattle.wasm_operator_validator_soundness.specs.runs.States.{Outcome, next, returned, trapped, thrown, stuck}
 
@@ -35,10 +35,14 @@ LocalsFit p (o ∷ os) (t ∷ ts) = LocalFits p o t × LocalsFit p os ts
 
 -- ---- labels
 
--- what a label caught, if anything, is an exception of a tag's type
-abbrev pub IsThrown : TypeTree → Type 0
-IsThrown t = IsStandardType t × IsFunction (expanded t)
+-- the type of a tag; and that of an exception, which was thrown with values
+abbrev pub IsTagType : TypeTree → Type 0
+IsTagType t = IsStandardType t × IsFunction (expanded t)
 
+abbrev pub IsThrown : TypeTree → Type 0
+IsThrown t = IsStandardType t × IsFunction (expanded t) × HasArguments (expanded t)
+
+-- what a label caught, if anything, is an exception
 abbrev pub IsCaught : Option Exception → Type 0
 IsCaught None = Unit {0}
 IsCaught (Some e) = IsThrown e.type

@@ -7,3 +7,4 @@ pub mod Older
 pub mod Branching
 pub mod Segments
 pub mod Vectors
+pub mod Answered
