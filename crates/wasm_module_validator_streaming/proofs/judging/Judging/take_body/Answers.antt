@@ -11,7 +11,7 @@ pub set_limits-requires : goal.set_limits-requires
 set_limits-requires c =
     let v = c.args.self.now.validator in
     let t = body_takes c.args.body v c.code_section_entry.new.self c.in-Ok.function c.in-Ok.ensures in
-    handed_within (CodeSectionEntry c.args.body) v c.code_section_entry.new.self c.in-Ok.function (set v.settings c.args.body) t
+    record { within = handed_within (CodeSectionEntry c.args.body) v c.code_section_entry.new.self c.in-Ok.function (set v.settings c.args.body) t }
 
 pub judge_next-requires : goal.judge_next-requires
 judge_next-requires c =
