@@ -28,12 +28,14 @@ pub mod Making
 pub mod Unshared
 pub mod Entering
 pub mod RunsSteps
+pub mod Placing
 pub mod Progress
 pub mod RunsWorkedRuns
 pub mod RunsWorkedStuck
 pub mod WorkedSums
 pub mod WorkedCaught
 pub mod RunsWorkedAnswered
+pub mod RunsWorkedPlaced
 pub mod WorkedObjects
 pub mod WorkedOlder
 pub mod WorkedBranching

@@ -39,6 +39,7 @@ use Rattle.wasm_operator_validator_soundness.specs.runs.Machine.{operand_of, ope
 use Rattle.wasm_operator_validator_soundness.specs.runs.Machine.{label_at, goes, exchange, compute, access, opens, enter, branch, branch_if, invoke, call, call_reference, call_indirect, operate_control}
 use Rattle.wasm_operator_validator_soundness.specs.runs.Machine.{throw_reference, caught_at, operate_exception, select, operate_parametric, set_local, operate_memory, operate_bulk, operate_atomic}
 use Rattle.wasm_operator_validator_soundness.specs.runs.Machine.{object_under, make, read, write, cast, cast_top, cast_from, IsOf, number_from, null_in, convert, operate_gc, operate_vector, operate, end, execute}
+use Rattle.wasm_operator_validator_soundness.specs.runs.Notes.{plainly}
 use Rattle.wasm_operator_validator_soundness.specs.runs.ValidStates.{IsThrown}
 use Rattle.wasm_operator_validator_soundness.specs.runs.Soundness.{IsValidProgram, evaluated}
 use Rattle.wasm_operator_validator_soundness.specs.runs.Progress.{control_can_trap, numeric_can_trap, exception_can_trap, memory_can_trap, bulk_can_trap, gc_can_trap, atomic_can_trap, can_trap, code_can_trap, GlobalsHaveValues, AnswersExist, StatesAreAnswered, ConstantsAreAnswered}
@@ -49,11 +50,11 @@ use Rattle.wasm_operator_validator_soundness.proofs.Thrown.{value_of, arguments_
 use Rattle.wasm_operator_validator_soundness.proofs.Unshared.{internal_whole, external_whole}
 use Rattle.wasm_operator_validator_soundness.proofs.Standing.{values_under, Here}
 use Rattle.wasm_operator_validator_soundness.proofs.Throwing.{caught_there}
-use Rattle.wasm_operator_validator_soundness.proofs.RunsSteps.{here_of, runs_stay_valid, starts_valid, constants_valid}
+use Rattle.wasm_operator_validator_soundness.proofs.RunsSteps.{here_of, plain_valid, runs_stay_valid, starts_valid, constants_valid}
 
 -- ---- answers
 
--- a trap, where there may be one; and no trap, with these values
+-- a trap, if there may be one; and no trap, with these values
 abbrev pub trap : Answer
 trap = record { values = []; held = ref_null false any; condition = false; index = 0; traps = true; throws = None; leaves = 0; made = 0 }
 
@@ -524,11 +525,11 @@ module _ (p : Program) (act : Activation) (acts : List Activation) where
   thrown_answered [] rest f = absurd f
   thrown_answered (v ∷ vs) rest f = let r = reference_answered v f.0 in (r.0, asks_goes true (Fits p v (exception true)) _ r.1)
 
-module _ (p : Program) (valid : IsValidProgram p) (globals : GlobalsHaveValues p) (final : List ValueType) (act : Activation) (acts : List Activation) (h : Here p final act acts) where
+module _ (p : Program) (valid : IsValidProgram p) (globals : GlobalsHaveValues p) (final : List ValueType) (act : Activation) (acts : List Activation) (h : Here plainly p final act acts) where
   rethrow_answered : (n : ℕ) → slice_get (is_clause act.innermost ∷ map is_clause act.around) n ≡ Some true → Answered p act acts false (λ a. operate_exception p a act acts (op.Rethrow n))
   rethrow_answered n r =
       let ls = act.innermost ∷ act.around in
-      let c = caught_there p valid final trap act acts h n act.innermost act.around (stack act.innermost.block.results) h.caught h.around r in
+      let c = caught_there plainly p (plain_valid p valid) final trap act acts h n act.innermost act.around (stack act.innermost.block.results) (Some h.root) h.caught h.around r in
       let k = again_goes p c.0.type (act ∷ acts) c.2 in
       (k.0, subst (λ (o : Option Exception). Goes false (found o (λ e. throw_again p k.0 e.type (act ∷ acts)))) (sym (caught_whatever p act acts k.0 trap n ls ∙ c.1)) k.1)
 
@@ -540,7 +541,7 @@ module _ (p : Program) (valid : IsValidProgram p) (globals : GlobalsHaveValues p
         takes_goes p a false s.params act.innermost.values _ (λ us ws. unwind_goes p a t us (act ∷ acts)))),
   )
   exception_answered op.ThrowRef popped pushed rest r b =
-      thrown_answered p act acts act.innermost.values (reverse r.0 ++ rest) (values_under p valid final trap act acts h r.0 (exception true ∷ []) popped rest b r.1)
+      thrown_answered p act acts act.innermost.values (reverse r.0 ++ rest) (values_under plainly p (plain_valid p valid) final trap act acts h r.0 (exception true ∷ []) popped rest b r.1)
   exception_answered (op.Rethrow n) popped pushed rest r b = rethrow_answered n r
   exception_answered o popped pushed rest r b = absurd r
 
@@ -570,7 +571,7 @@ module _ (p : Program) (valid : IsValidProgram p) (globals : GlobalsHaveValues p
 pub states_answered : StatesAreAnswered
 states_answered p final [] v g w = absurd w
 states_answered p final (act ∷ acts) v g w =
-    let r = execute_answered p v g final act acts (here_of p final act acts w) act.innermost.code w.0.labels.0.typed in
+    let r = execute_answered p v g final act acts (here_of plainly p final act acts w) act.innermost.code w.0.labels.0.typed in
     (r.0, r.1.is, r.1.ends)
 
 pub answers_exist : AnswersExist

@@ -457,7 +457,7 @@ module _ (p : Program) (valid : IsValidProgram p) (results : List ValueType) (ac
       let r = reads_given c (top 1) (index 0) (top_knows 1) (λ n q d. field_there stored array_fields (i32_type ∷ []) y 0 (index 0) (op.Gc o) more next e (top 1) n q under d (array_at (index 0))) in
       may (op.Gc o) more t (r.0, r.1, k r.0 r.1 r.2)
 
-  -- what is written, of which the answer has what is read elsewhere
+  -- the answer has what is read elsewhere of what is written
   writes_given : (w : Value) → Knows s w → (i : ℕ) (us given : List Value) → Some_of p x s (λ a u. Writes p (act ∷ acts) s a u act w i us given)
   writes_given w h i us given = of_known p x s w h _ (λ n t o e d.
       or_trapped p x s (placed o.fields i us) (λ a u zs. (a.values ≡ given) × (a.traps ≡ false) × (u ≡ with_fields s n o zs)) (λ zs b. (giving given, with_fields s n o zs, (refl, refl, refl))))

@@ -8,3 +8,4 @@ pub mod Branching
 pub mod Segments
 pub mod Vectors
 pub mod Answered
+pub mod Placed

@@ -7,6 +7,7 @@ ghost use Rattle.wasm_operator_validator_soundness.specs.runs.worked.Branching.{
 ghost use Rattle.wasm_operator_validator_soundness.specs.runs.worked.Caught.{CaughtWorked};
 ghost use Rattle.wasm_operator_validator_soundness.specs.runs.worked.Objects.{ObjectsWorked};
 ghost use Rattle.wasm_operator_validator_soundness.specs.runs.worked.Older.{OlderWorked};
+ghost use Rattle.wasm_operator_validator_soundness.specs.runs.worked.Placed.{PlacedWorked};
 ghost use Rattle.wasm_operator_validator_soundness.specs.runs.worked.Runs.{RunsWorked};
 ghost use Rattle.wasm_operator_validator_soundness.specs.runs.worked.Segments.{SegmentsWorked};
 ghost use Rattle.wasm_operator_validator_soundness.specs.runs.worked.Stuck.{PlacesWorked, StuckWorked};
@@ -27,6 +28,11 @@ pub fn stuck_states_are_worked()
 /// Types without values, operators that may trap, and states for which something is an answer, or nothing.
 pub fn answers_are_worked()
     ensures { (x : ℤ) → AnsweredWorked x }
+{}
+
+/// What a derivation has at its places, whichever it is, and that it has nothing at others.
+pub fn places_are_worked()
+    ensures { PlacedWorked }
 {}
 
 /// Runs of a program that is valid: it adds two numbers, calls an import, and calls that and a function of its own through a table.
