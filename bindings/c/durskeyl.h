@@ -167,7 +167,7 @@ typedef struct {
     char text[260];               /* for people, in UTF-8, with a 0 after it; no stable wording. It may hold a name of the module, with
                                    * any characters: escape it before it is printed to a terminal or a log */
     uint32_t limit;               /* if a limit refused the bytes, 1 more than its place in settings.limits (enum durskeyl_limit); else 0. In
-                                   * pieces a limit of one table or one memory is not told. A library of 0.2.0 writes 0 */
+                                   * pieces a limit of one table or one memory is not told. The release 0.2.0 writes 0 */
 } durskeyl_fault;
 
 /* A module whose pieces are handed over: what the library keeps of it, between durskeyl_begin and durskeyl_end or durskeyl_drop. */
