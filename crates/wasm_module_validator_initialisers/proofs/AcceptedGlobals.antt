@@ -3,26 +3,22 @@ use Rattle.std.proofs.Common.{◌≡◌, ◌≤◌, ◌<◌, ◌∙◌, ℕ, ◌
 use Rattle.std.proofs.lemmas.List.{drop-drop, length-append, length-drop}
 use Rattle.wasm_types.specs.decoding.Decoder.{State, Done}
 use Rattle.wasm_types.specs.decoding.ErrorValue.{ErrorValue}
-use Rattle.wasm_types.specs.settings.Settings.{Settings}
 use Rattle.wasm_types.specs.externs.declared.global.GlobalType.{GlobalType}
 use Rattle.wasm_types.specs.externs.Decode.{global_type}
 use Rattle.wasm_types.specs.externs.DecodeLaws.{decides-global_type}
 use Rattle.wasm_types.specs.externs.Spells.{SpelledGlobal}
-use Rattle.wasm_operators_encoding.specs.ConstantDecoder.{ConstantText}
-use Rattle.wasm_operators_encoding.specs.expressions.Spelling.{SpelledExpression}
 use Rattle.wasm_operator_validator_rules.specs.constants.Constants.{IsConstant}
 use Rattle.wasm_operator_validator_rules.specs.Operands.{ValueType}
 use Rattle.wasm_operator_validator_rules.specs.Context.{Global, Module}
-use Rattle.wasm_operator_validator_state.specs.resources.Meaning.{Meaning, global_in, type_in}
+use Rattle.wasm_operator_validator_state.specs.resources.Meaning.{Meaning, type_in}
 use Rattle.wasm_sections_items.specs.segments.Spells.{GlobalTree}
-use Rattle.wasm_module_validator_checks.specs.rules.Spaces.{global_in as global_written, value_in}
+use Rattle.wasm_module_validator_checks.specs.rules.Spaces.{value_in}
 use Rattle.wasm_module_validator_type_storage.specs.trees.Groups.{Group}
 use Rattle.wasm_module_validator_resources.specs.rules_in_order.Between.{IsBetween}
 use Rattle.wasm_module_validator_resources.specs.rules_in_order.BetweenLaws.{InTurn, in_turn, between_so, bytes_between}
-use Rattle.wasm_module_validator_resources.specs.rules_in_order.Sections as section
 use Rattle.wasm_module_validator_state.specs.Adding.{adding_global}
 use Rattle.wasm_module_validator_state.specs.Items.{Items}
-use Rattle.wasm_module_validator_state.specs.invariant.Standing.{constants_of, IsAdded}
+use Rattle.wasm_module_validator_state.specs.invariant.Standing.{constants_of}
 use Rattle.wasm_module_validator_initialisers.specs.accepting.Steps.{IsShortConstant}
 use Rattle.wasm_module_validator_initialisers.specs.adding.Short.{AddsGlobal, IsTypedGlobal, SpellsGlobal}
 use Rattle.wasm_module_validator_initialisers.proofs.NewGlobals.{global_told, global_added}

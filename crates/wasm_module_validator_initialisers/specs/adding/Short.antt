@@ -1,9 +1,7 @@
 -- Globals that their bytes alone tell (WebAssembly 3.0, binary format, modules, global section).
 use Rattle.std.specs.Prelude.{◌≡◌, ℕ, List, [], Bool, true, false, Some, slice_get}
 use Rattle.wasm_types.specs.settings.Settings.{Settings}
-use Rattle.wasm_types.specs.trees.Types.{Number, number, i32, i64}
-use Rattle.wasm_types.specs.values.declared.value.ValType.{ValType}
-use Rattle.wasm_types.specs.values.declared.value.ValType.TheVariants as value
+use Rattle.wasm_types.specs.trees.Types.{number}
 use Rattle.wasm_types.specs.externs.declared.global.GlobalType.{GlobalType}
 use Rattle.wasm_operators_bodies.specs.declared.short.ShortConstant.{ShortConstant}
 use Rattle.wasm_operators_bodies.specs.declared.short.ShortConstant.TheVariants as short

@@ -1,4 +1,4 @@
-use Rattle.std.proofs.Common.{◌≡◌, ◌∙◌, ap, subst}
+use Rattle.std.proofs.Common.{◌∙◌, ap, subst}
 use Rattle.std.specs.Prelude.{IfSome}
 use Rattle.wasm_types.specs.settings.Settings.{Settings}
 use Rattle.wasm_operator_validator_state.specs.resources.Meaning.{Meaning}
