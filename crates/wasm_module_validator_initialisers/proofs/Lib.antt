@@ -23,4 +23,5 @@ mod ShortGlobals
 mod NewTables
 mod NewElements
 mod NewData
+mod AcceptedGlobals
 mod AddingShortData

@@ -5,7 +5,7 @@ use Rattle.wasm_module_validator_state.specs.Adding.{adding_global}
 use Rattle.wasm_operators_bodies.specs.Short.{SpellsShort}
 use Rattle.wasm_module_validator_state.specs.invariant.Standing.{constants_of}
 use Rattle.wasm_module_validator_initialisers.proofs.ShortGlobals.{integer_told, integer_added, global_between}
-use Rattle.wasm_module_validator_initialisers.proofs.adding.short.add_short_global.Goals as goal
+use Rattle.wasm_module_validator_initialisers.proofs.adding.short.add_integer.Goals as goal
 
 pub returns-in-Ok-clause-added : goal.returns-in-Ok-clause-added
 returns-in-Ok-clause-added c =
