@@ -1,22 +1,24 @@
 //! The command line: its words, its files, its faults and its statuses.
-ghost use Rattle.std.specs.Prelude.{◌≡◌, ◌<◌, ◌≤◌, ◌⊎◌, ℕ, List, [], true, false, map, option_map, unwrap_or, Ok, IfOk, IfErr};
+ghost use Rattle.std.specs.Prelude.{◌≡◌, ◌≢◌, ◌<◌, ◌≤◌, ◌⊎◌, ℕ, IsTrue, List, [], true, false, OnOk, Some, map, option_map, unwrap_or, Ok, IfOk, IfErr};
 ghost use Rattle.std.specs.Io.KnownBytes.{Keeps};
 ghost use Rattle.wasm_check_command.specs.declared.judging.Status.TheVariants.{AllValid, SomeInvalid};
-ghost use Rattle.clap.specs.Words.{all_of, app_of, found_of, kind_of, rows_of, rule_of, FailsBy};
+ghost use Rattle.clap.specs.Words.{all_of, app_of, first_of, found_of, kind_of, rows_of, rule_of, FailsBy};
 ghost use Rattle.clap.specs.declared.error.kind.ErrorKind.TheVariants.{OutOfMemory};
 ghost use Rattle.wasm_check_command.specs.Words.{IsHelp, matches_on, refusals_of, file_rule, flag_rule, list_rule, option_rule, with_forms, with_stops};
-ghost use Rattle.wasm_check_command.specs.Words.{with_values, wasm_check, is_set, has_flag};
+ghost use Rattle.wasm_check_command.specs.Words.{files_of, list_file, with_list, with_needs, with_values, wasm_check, is_set, has_flag};
+ghost use Rattle.wasm_check_faults.specs.FaultTexts.{is_silent};
 ghost use Rattle.wasm_check_command.specs.Commands.{AreRead};
 ghost use Rattle.wasm_types.specs.settings.Limits.{IsWithinCeilings};
 ghost use Rattle.wasm_check_command.specs.Modes.{CanJudge, HasPieces, manner_of, ruling_of};
-ghost use Rattle.wasm_check_command.specs.Settings.{IsGiven, asked_by, features_by, form_by, limits_by, manner_by, mode_by, pieces_of, settings_of, with_vectors};
+ghost use Rattle.wasm_check_command.specs.Settings.{GoTogether, IsGiven, asked_by, features_by, form_by, limits_by, manner_by, mode_by, pieces_of, settings_of, with_vectors};
 ghost use Rattle.wasm_check_command.specs.Files.{texts, lists_in, code_of, code_of_ended, Reports, Grows, ShowsHelp, HasNoStatus, IsUnshown, EndsRun};
-ghost use Rattle.wasm_check_command.specs.Files.{asked_of, RefusesPieces, RefusesFeatures, RefusesLimits, StopsEarly, ReportsEnd, StopsBy};
+ghost use Rattle.wasm_check_command.specs.Files.{asked_of, NamesFiles, RefusesTogether, RefusesPieces, RefusesFeatures, RefusesLimits, StopsEarly, ReportsEnd, StopsBy};
 ghost use Rattle.wasm_check_command.specs.Files.{EndsBy, StopsFiles, StopsGoingBy};
 
 use crate::files::{Ended, judge_files, name_at};
 use crate::going::judge_going;
 use crate::judging::{Chosen, Judge, Mode, Status, write_text};
+use crate::listing::{borrowed, read_list};
 use crate::tables::table_asked;
 use crate::telling::report;
 use bitflags::Flags;
@@ -53,19 +55,20 @@ struct Options<'m, 'a> {
     form: Form,
     /// Whether `--explain` is there.
     explains: bool,
+    /// Whether `--needs` is there.
+    needs: bool,
     /// Whether `--keep-going` is there.
     goes_on: bool,
     /// Whether standard error is a person's terminal.
     at_terminal: bool,
 }
 
-/// The files, of which there is at least one.
+/// The files.
 fn files_argument<'a>(alloc: Global) -> Arg<'a>
     ensures { (rule_of result ≡ file_rule) × (result.global ≡ false) }
 {
     Arg::new(alloc, "FILE")
         .help("A file to judge")
-        .required(true)
         .num_args(1..)
         .action(ArgAction::Append)
 }
@@ -126,6 +129,20 @@ fn with_values<'a>(alloc: Global, command: Command<'a>) -> Result<Command<'a>, A
     Ok(command)
 }
 
+/// The command with the option that names a list of files.
+fn with_list<'a>(alloc: Global, command: Command<'a>) -> Result<Command<'a>, AllocError>
+    ensures { IfOk result (λ c. app_of c ≡ with_list (app_of command.entry)) }
+{
+    let list = option_argument(
+        alloc,
+        "files0-from",
+        "FILE",
+        "Judge the files that this one names, each name ended by the byte 0, as find -print0 writes them; - is standard input",
+    );
+    let command = command.arg(list)?;
+    Ok(command)
+}
+
 /// The command with the flags that say what is judged, and what is written of it.
 fn with_forms<'a>(alloc: Global, command: Command<'a>) -> Result<Command<'a>, AllocError>
     ensures { IfOk result (λ c. app_of c ≡ with_forms (app_of command.entry)) }
@@ -146,6 +163,19 @@ fn with_forms<'a>(alloc: Global, command: Command<'a>) -> Result<Command<'a>, Al
         "Say below each refusal where the fault is; not with --pieces",
     );
     let command = command.arg(vectors)?.arg(json)?.arg(explain)?;
+    Ok(command)
+}
+
+/// The command with the flag that asks which features a file needs.
+fn with_needs<'a>(alloc: Global, command: Command<'a>) -> Result<Command<'a>, AllocError>
+    ensures { IfOk result (λ c. app_of c ≡ with_needs (app_of command.entry)) }
+{
+    let needs = flag_argument(
+        alloc,
+        "needs",
+        "Tell of each valid file the least list of features that makes it valid; judges a file some 40 times",
+    );
+    let command = command.arg(needs)?;
     Ok(command)
 }
 
@@ -175,7 +205,9 @@ fn command<'a>(alloc: Global) -> Result<Command<'a>, AllocError>
         "Says of each file whether it is a valid WebAssembly module",
     );
     let command = with_values(alloc, command)?;
+    let command = with_list(alloc, command)?;
     let command = with_forms(alloc, command)?;
+    let command = with_needs(alloc, command)?;
     let command = with_stops(alloc, command)?.arg(files_argument(alloc))?;
     Ok(command)
 }
@@ -302,6 +334,34 @@ fn read_pieces<'a>(number: Option<&'a str>) -> Result<Mode, Fault<'a>>
     }
 }
 
+/// Whether there are lists.
+fn has_lists(lists: Option<&[&str]>) -> bool
+    ensures some { IsTrue result → lists_in lists.entry ≢ [] }
+    ensures none { result ≡ false → lists_in lists.entry ≡ [] }
+{
+    match lists {
+        Some(lists) => !lists.is_empty(),
+        None => false,
+    }
+}
+
+/// Refuses options that do not go together.
+fn check_together<'a>(options: &Options<'_, 'a>) -> Result<(), Fault<'a>>
+    ensures ok { OnOk result (GoTogether (asked_of options.now)) }
+    ensures err { IfErr result (RefusesTogether (asked_of options.now)) }
+{
+    if !options.needs {
+        return Ok(());
+    }
+    if has_lists(options.features) {
+        return Err(Fault::Clash("--needs", "--features <LIST>"));
+    }
+    if options.pieces.is_some() {
+        return Err(Fault::Clash("--needs", "--pieces <N>"));
+    }
+    Ok(())
+}
+
 /// What the options ask for: their values are read in this order.
 fn read_options<'a>(options: &Options<'_, 'a>) -> Result<Chosen, Fault<'a>>
     ensures ok { IfOk result (λ c. IsGiven (asked_of options.now) (settings_of c) c.mode) }
@@ -309,6 +369,7 @@ fn read_options<'a>(options: &Options<'_, 'a>) -> Result<Chosen, Fault<'a>>
     ensures within { IfOk result CanJudge }
     ensures err { IfErr result (StopsEarly (asked_of options.now)) }
 {
+    check_together(options)?;
     let mode = read_pieces(options.pieces)?;
     let features = read_features(options.features)?;
     let limits = read_limits(options.limits)?;
@@ -318,6 +379,7 @@ fn read_options<'a>(options: &Options<'_, 'a>) -> Result<Chosen, Fault<'a>>
         mode,
         form: options.form,
         explains: options.explains,
+        needs: options.needs,
         below: below_of(options.form, options.at_terminal),
     })
 }
@@ -458,26 +520,31 @@ fn show_text<W: Write, E: Write>(alloc: Global, text: &str, out: &mut W, err: &m
     ensures grows { Grows (W.contents out.old) (W.contents out.new) }
     ensures quiet { result < 2 → Keeps (E.contents err.old) (E.contents err.new) }
 {
-    if show_help(text, out).is_err() {
-        let fault = Fault::Stopped {
-            error: CheckError::Write,
-            name: "",
-            reason: Reason::Unknown,
-        };
-        return report(alloc, &fault, Below::Nothing, err);
+    match show_help(text, out) {
+        Ok(()) => 0,
+        Err(reason) => {
+            let fault = Fault::Stopped {
+                error: CheckError::Write,
+                name: "",
+                reason,
+            };
+            report(alloc, &fault, Below::Nothing, err)
+        }
     }
-    0
 }
 
-/// Writes the help.
-fn show_help<W: Write>(text: &str, out: &mut W) -> Result<(), CheckError>
+/// Writes the help, or says why it can't be written.
+fn show_help<W: Write>(text: &str, out: &mut W) -> Result<(), Reason>
     ensures { Grows (W.contents out.old) (W.contents out.new) }
 {
-    write_text(text.as_bytes(), out)?;
-    if out.flush().is_err() {
-        return Err(CheckError::Write);
+    match write_text(text.as_bytes(), out) {
+        Ok(()) => (),
+        Err(failure) => return Err(failure.reason),
     }
-    Ok(())
+    match out.flush() {
+        Ok(()) => Ok(()),
+        Err(error) => Err(Reason::of(&error)),
+    }
 }
 
 /// The status of files that ended so.
@@ -493,7 +560,7 @@ fn code_of_ended(ended: Ended) -> u8
     }
 }
 
-/// The exit status of what was judged, and a line for a fault.
+/// The exit status of what was judged, and a line for a fault, if it is told.
 fn conclude<E: Write>(
     alloc: Global,
     judged: &Result<Ended, Fault<'_>>,
@@ -502,6 +569,7 @@ fn conclude<E: Write>(
 ) -> u8
     ensures code { result ≡ code_of judged.now }
     ensures quiet { result < 2 → Keeps (E.contents err.old) (E.contents err.new) }
+    ensures silent { IfErr judged.now (λ f. is_silent f ≡ true → Keeps (E.contents err.old) (E.contents err.new)) }
 {
     match judged {
         Ok(ended) => code_of_ended(*ended),
@@ -535,6 +603,7 @@ fn options_of<'m, 'a>(matches: &'m ArgMatches<'a>, at_terminal: bool) -> Options
     let quiet = has_flag(matches, "quiet");
     let json = has_flag(matches, "json");
     let explains = has_flag(matches, "explain");
+    let needs = has_flag(matches, "needs");
     let goes_on = has_flag(matches, "keep-going");
     Options {
         features,
@@ -543,9 +612,81 @@ fn options_of<'m, 'a>(matches: &'m ArgMatches<'a>, at_terminal: bool) -> Options
         vectors,
         form: form_by(quiet, json),
         explains,
+        needs,
         goes_on,
         at_terminal,
     }
+}
+
+/// The value of an option that may be there once.
+fn value_of<'a>(matches: &ArgMatches<'a>, name: &str) -> Option<&'a str>
+    ensures { (words : List (List ℕ)) → rows_of (found_of matches.now) ≡ matches_on words
+        → option_map (λ v. v.now) result ≡ first_of name.now (matches_on words) }
+{
+    matches.get_str(name)
+}
+
+/// Judges the files of these names.
+fn run_names<'a, J, F, W, E>(
+    judge: &J,
+    rt: &F,
+    alloc: Global,
+    options: &Options<'_, 'a>,
+    names: &[&'a str],
+    out: &mut W,
+    err: &mut E,
+) -> u8
+where
+    J: Judge,
+    F: Files + Input,
+    W: Write,
+    E: Write,
+    ensures quiet { result < 2 → Keeps (E.contents err.old) (E.contents err.new) }
+    ensures ended { (words : List (List ℕ)) → asked_of options.now ≡ asked_by words → NamesFiles words (texts names.now)
+        → EndsRun J.accepts words (W.contents out.old) (W.contents out.new) result }
+{
+    let judged = judge_by_options(judge, alloc, rt, options, names, out, err);
+    conclude(
+        alloc,
+        &judged,
+        below_of(options.form, options.at_terminal),
+        err,
+    )
+}
+
+/// Judges the files that the list in a file names. No other files may be given.
+fn run_list<'a, J, F, W, E>(
+    judge: &J,
+    rt: &F,
+    alloc: Global,
+    options: &Options<'_, 'a>,
+    given: Option<&[&'a str]>,
+    file: &'a str,
+    out: &mut W,
+    err: &mut E,
+) -> u8
+where
+    J: Judge,
+    F: Files + Input,
+    W: Write,
+    E: Write,
+    ensures quiet { result < 2 → Keeps (E.contents err.old) (E.contents err.new) }
+    ensures ended { (words : List (List ℕ)) → asked_of options.now ≡ asked_by words → lists_in given.entry ≡ files_of words
+        → list_file words ≡ Some file.entry.now → EndsRun J.accepts words (W.contents out.old) (W.contents out.new) result }
+{
+    let below = below_of(options.form, options.at_terminal);
+    if has_lists(given) {
+        let fault = Fault::Clash("[FILE]...", "--files0-from <FILE>");
+        return report(alloc, &fault, below, err);
+    }
+    let list = match read_list(alloc, rt, file) {
+        Ok(list) => list,
+        Err(fault) => return report(alloc, &fault, below, err),
+    };
+    let Ok(names) = borrowed(alloc, list.as_slice()) else {
+        return report(alloc, &Fault::OutOfMemory, below, err);
+    };
+    run_names(judge, rt, alloc, options, names.as_slice(), out, err)
 }
 
 /// Runs the program on the words that `clap` read.
@@ -567,21 +708,24 @@ where
     ensures ended { (words : List (List ℕ)) → rows_of (found_of matches.now) ≡ matches_on words
         → EndsRun J.accepts words (W.contents out.old) (W.contents out.new) result }
 {
-    let Some(names) = matches.get_strs("FILE") else {
-        return 2;
+    let options = options_of(matches, at_terminal);
+    let given = lists_of(matches, "FILE");
+    if let Some(file) = value_of(matches, "files0-from") {
+        return run_list(judge, rt, alloc, &options, given, file, out, err);
+    }
+    let Some(names) = given else {
+        return report(alloc, &Fault::NoFiles, Below::Nothing, err);
     };
     if names.is_empty() {
-        return 2;
+        return report(alloc, &Fault::NoFiles, Below::Nothing, err);
     }
-    let options = options_of(matches, at_terminal);
-    let judged = judge_by_options(judge, alloc, rt, &options, names, out, err);
-    conclude(alloc, &judged, below_of(options.form, at_terminal), err)
+    run_names(judge, rt, alloc, &options, names, out, err)
 }
 
 /// Runs the program on these words, of which the first is its own name, and gives its exit status:
 /// 0 if all files are valid, or if the words ask for the help, the version or a table and it was shown; 1 if some file is invalid; 2 if
-/// the words name no files by `clap`'s reading or have a list that is refused, and then nothing is written to `out`, if a fault stopped the
-/// judging or the help, or if a file came to no verdict and the judging went on. The files are judged by the features and limits that the
+/// the words name no files by `clap`'s reading, or have options that do not go together or a list that is refused, and then nothing is written to `out`, if a fault stopped the
+/// judging or the help, or if a file came to no verdict and the judging went on. Files may be named by a list in a file. The files are judged by the features and limits that the
 /// words ask for. All files are opened before the first is judged, except with `--keep-going`; those past the first hundred are then closed,
 /// and opened again in their turn, and so are all if the system does not let so many be open. The file `-` is standard input. A fault has one
 /// line on `err`. If that is a person's terminal, as `at_terminal` says, a second line tells what may help; and with `--json` it is the fault as an

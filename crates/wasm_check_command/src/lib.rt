@@ -11,6 +11,9 @@ mod command;
 mod files;
 mod going;
 mod judging;
+mod listing;
+mod names;
+mod needs;
 mod pieces;
 mod steady;
 mod tables;
@@ -18,3 +21,4 @@ mod telling;
 
 pub use command::{VERSION, reads_worked_words, run_by};
 pub use judging::{Input, Judge, MAX_BYTES, Mode, Status, Unjudged, check_by};
+pub use names::word_text;

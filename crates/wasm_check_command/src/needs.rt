@@ -1,0 +1,133 @@
+//! The least list of features by which bytes are valid.
+//!
+//! Words are left out one after another, as long as the bytes stay valid. Nothing is asked of the judge for this: it may refuse by more features
+//! what it accepts by fewer. So each word that stays is tried once more, after the last one that was left out.
+ghost use Rattle.std.specs.Prelude.{◌≡◌, ◌<◌, ◌≤◌, ◌+◌, ℕ, IsTrue, false, None, IfOk, IfSome, length};
+ghost use Rattle.wasm_types.specs.settings.Limits.{IsWithinCeilings};
+ghost use Rattle.wasm_check_faults.specs.WordLists.{AreFeatures, IsLeast, Lacks, Suffices, without_word, words_in};
+ghost use Rattle.wasm_check_command.specs.Modes.{all_bits, by_features};
+
+use crate::judging::Judge;
+use bitflags::Flags;
+use std::alloc::{AllocError, Global};
+use wasm_check_faults::{FeatureWord, all_features, features_with};
+use wasm_types::{ErrorKind, Limits, WasmFeatures};
+
+/// How often words are gone through at most: each turn but the last leaves out one of 28 words, or begins again after one was left out.
+const TURNS: usize = 57;
+
+/// Whether bytes are valid by the list with these words, and with operators on vectors.
+fn suffices<J: Judge>(
+    judge: &J,
+    alloc: Global,
+    limits: Limits,
+    index: usize,
+    bytes: &[u8],
+    words: &[FeatureWord],
+) -> Result<bool, AllocError>
+    requires within { IsWithinCeilings limits }
+    requires known { AreFeatures words.now }
+    ensures yes { IfOk result (λ valid. IsTrue valid → Suffices (by_features J.accepts limits bytes.now) (words_in words.now)) }
+    ensures no { IfOk result (λ valid. valid ≡ false → Lacks (by_features J.accepts limits bytes.now) (words_in words.now)) }
+{
+    let features = features_with(words).union(WasmFeatures::VECTOR_OPERATORS);
+    match judge.judge(alloc, features, limits, index, bytes) {
+        Ok(()) => Ok(true),
+        Err(error) => {
+            if error.kind() == ErrorKind::OutOfMemory {
+                return Err(AllocError);
+            }
+            Ok(false)
+        }
+    }
+}
+
+/// These words, without the one at this place.
+fn without_word(
+    alloc: Global,
+    words: &[FeatureWord],
+    place: usize,
+) -> Result<Vec<FeatureWord>, AllocError>
+    requires known { AreFeatures words.now }
+    requires inside { place < length words.now }
+    ensures known { IfOk result (λ fewer. AreFeatures fewer.items) }
+    ensures words { IfOk result (λ fewer. words_in fewer.items ≡ without_word place (words_in words.now)) }
+    ensures fewer { IfOk result (λ fewer. length fewer.items + 1 ≡ length words.now) }
+{
+    let mut fewer = Vec::from_slice(alloc, words)?;
+    let _left_out = fewer.remove(place);
+    Ok(fewer)
+}
+
+/// The words that are left after one of them was left out, and its place.
+#[derive(Debug, Drop)]
+struct Fewer {
+    words: Vec<FeatureWord>,
+    place: usize,
+}
+
+/// Leaves out the first word, from this place on, without which bytes are still valid, if there is one.
+fn leave_out<J: Judge>(
+    judge: &J,
+    alloc: Global,
+    limits: Limits,
+    index: usize,
+    bytes: &[u8],
+    words: &[FeatureWord],
+    from: usize,
+) -> Result<Option<Fewer>, AllocError>
+    requires within { IsWithinCeilings limits }
+    requires known { AreFeatures words.now }
+    ensures known { IfOk result (λ r. IfSome r (λ f. AreFeatures f.words.items)) }
+    ensures enough { IfOk result (λ r. IfSome r (λ f. Suffices (by_features J.accepts limits bytes.now) (words_in f.words.items))) }
+    ensures fewer { IfOk result (λ r. IfSome r (λ f. length f.words.items + 1 ≡ length words.now)) }
+    ensures none { IfOk result (λ r. r ≡ None → (place : ℕ) → from ≤ place → place < length words.now
+        → Lacks (by_features J.accepts limits bytes.now) (without_word place (words_in words.now))) }
+{
+    for place in from..words.len() {
+        let fewer = without_word(alloc, words, place)?;
+        if suffices(judge, alloc, limits, index, bytes, fewer.as_slice())? {
+            return Ok(Some(Fewer {
+                words: fewer,
+                place,
+            }));
+        }
+    }
+    Ok(None)
+}
+
+/// The words of the least list of features by which these bytes are valid, with operators on vectors. They are valid by all features. Words are
+/// tried in the order of the features' bits.
+///
+/// # Errors
+///
+/// Memory ran out.
+pub(crate) fn least_list<J: Judge>(
+    judge: &J,
+    alloc: Global,
+    limits: Limits,
+    index: usize,
+    bytes: &[u8],
+) -> Result<Vec<FeatureWord>, AllocError>
+    requires within { IsWithinCeilings limits }
+    requires valid { by_features J.accepts limits bytes.now all_bits }
+    ensures { IfOk result (λ words. IsLeast (by_features J.accepts limits bytes.now) (words_in words.items)) }
+{
+    let mut words = all_features(alloc)?;
+    let mut from = 0;
+    for _turn in 0..TURNS {
+        match leave_out(judge, alloc, limits, index, bytes, words.as_slice(), from)? {
+            Some(fewer) => {
+                words = fewer.words;
+                from = fewer.place;
+            }
+            None => {
+                if from == 0 {
+                    return Ok(words);
+                }
+                from = 0;
+            }
+        }
+    }
+    unreachable!()
+}
