@@ -1,14 +1,15 @@
 -- On lists that begin with `mvp`.
 use Rattle.std.proofs.Common.{◌≡◌, ◌∙◌, ◌+◌, ◌<◌, ◌≤◌, ◌==◌, ℕ, Bool, true, false, not, List, [], ◌∷◌, ◌++◌, All, ap, sym, subst, refl, append-nil, append_assoc, codes, flat_map, length, map, drop, take, get_or, nat_le, arith, lit≤}
-use Rattle.std.specs.Prelude.{Contains, Option, Some, None, Ok, option_map}
+use Rattle.std.specs.Prelude.{Contains, IfOk, IfSome, Option, Some, None, Result, Ok, option_map}
 use Rattle.std.specs.Option.{ok_or}
-use Rattle.std.specs.Fmt.{digits}
+use Rattle.std.specs.Fmt.{◌++?◌, digits}
 use Rattle.std.specs.List.{list_all}
 use Rattle.std.specs.Str.{chars}
 use Rattle.std.specs.Int.RustNames.{bit_or}
 use Rattle.std.proofs.lemmas.Bool.{eqb-true}
 use Rattle.std.proofs.lemmas.List.{at_drop_more, at_drop_all, length-map, get_or-map}
 use Rattle.std.proofs.lemmas.List.Folds.{flat_map-map}
+use Rattle.std.proofs.lemmas.Result.{IfOk-weaker}
 use Rattle.std.proofs.lemmas.Simd.{map-map}
 use Rattle.std.proofs.lemmas.List.Elements.{All-append, All-cons, All-contains, All-head, All-map, All-tail, All-take, All-drop, All-weaker, Contains-get_or}
 use Rattle.std.proofs.lemmas.List.Splits.{slice_split_none, slice_split_at}
@@ -155,6 +156,17 @@ object_ends name words h =
 pub needs_end : NeedsEndOnce
 unfolding shown json_text listed chars digits lib.Utf8.encode
 needs_end = record { line = line_ends; object = object_ends; mvp = refl; two = refl; two_json = refl }
+
+-- ---- texts that were formatted of several parts
+module _ {S E : Type 0} (bytes : S → List ℕ) (r : Result S E) (a b d e : List ℕ) where
+  -- of four
+  pub text_of_4 : IfOk r (λ s. IfSome (Some a ++? Some b ++? Some d ++? Some e) (λ bs. bytes s ≡ bs)) → IfOk r (λ s. bytes s ≡ a ++ b ++ d ++ e)
+  text_of_4 k = IfOk-weaker r _ _ (λ s x. simp append_assoc x) k
+
+  -- of five
+  pub text_of_5 : (f : List ℕ) → IfOk r (λ s. IfSome (Some a ++? Some b ++? Some d ++? Some e ++? Some f) (λ bs. bytes s ≡ bs))
+      → IfOk r (λ s. bytes s ≡ a ++ b ++ d ++ e ++ f)
+  text_of_5 f k = IfOk-weaker r _ _ (λ s x. simp append_assoc x) k
 
 -- ---- places
 

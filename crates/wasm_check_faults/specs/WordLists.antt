@@ -37,6 +37,10 @@ AreFeatures words = All (λ w. Contains feature_words (row_of w)) words
 abbrev pub without_word : ℕ → List (List ℕ) → List (List ℕ)
 without_word place words = take place words ++ drop (place + 1) words
 
+-- these are the bits of the list with these words, with the switch for operators on vectors
+abbrev pub HasBits : List (List ℕ) → ℕ → Type 0
+HasBits words bits = (features : ℕ) × (features_of (listed words) ≡ Ok features) × (bits ≡ bit_or features vectors_bit)
+
 -- By the features of the list with these words and with operators on vectors it is valid: `accepts` says by which bits it is.
 pub record Suffices (accepts : ℕ → Type 0) (words : List (List ℕ)) : Type 0 where
   pub features : ℕ
