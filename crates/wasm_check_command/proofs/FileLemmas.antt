@@ -18,7 +18,7 @@ use Rattle.wasm_types.specs.settings.Settings.{Settings}
 use Rattle.wasm_check_command.specs.Settings.{Asked, IsGiven, asked_by, manner_by, settings_of}
 use Rattle.wasm_check_command.specs.Modes.{manner_of, ruled, ruling_of}
 use Rattle.wasm_check_command.specs.declared.judging.Chosen.{Chosen}
-use Rattle.wasm_check_command.specs.Files.{texts, lists_in, code_of, code_of_ended, ReportsBy, ReportsEnd, StopsBy, Reports, HasNoStatus, IsUnshown, EndsRun, FailsNaming, NamesFiles, EndsBy, GoesOn, StopsFiles, StopsGoingBy}
+use Rattle.wasm_check_command.specs.Files.{texts, lists_in, code_of, code_of_ended, ReportsBy, ReportsEnd, StopsBy, Reports, HasNoStatus, IsUnshown, EndsRun, AreGiven, FailsNaming, IsChosen, StopsEarly, HasNames, NamesFiles, EndsBy, GoesOn, StopsFiles, StopsGoingBy}
 use Rattle.wasm_check_command.specs.declared.files.Ended.{Ended}
 use Rattle.wasm_check_lines.specs.declared.forms.Form.{Form}
 use Rattle.wasm_check_faults.specs.declared.faults.Fault.TheVariants as faults
@@ -79,7 +79,7 @@ module _ (accepts : Settings → List ℕ → Type 0) (words : List (List ℕ)) 
 
   -- memory ran out
   no_memory : HasNoStatus accepts words old new
-  no_memory = inr (inr (inl (faults.OutOfMemory, inl (inr refl, kept))))
+  no_memory = inr (inr (inl (faults.OutOfMemory, inl (inr (inr (inr (inl refl))), kept))))
 
   -- clap refused the words
   refused_words : (e : Error) → HasKind (refusals_of words) e → HasNoStatus accepts words old new
@@ -127,6 +127,15 @@ module _ (accepts : Settings → List ℕ → Type 0) (words : List (List ℕ)) 
   ends_run (Ok e) n h f q = ends_by n e.status e.lost h q
   ends_run (Err f) n h g q = (omega (arith, q), λ z. absurd (omega (arith, q, z)), λ z. absurd (omega (arith, q, z)), λ z. stopped_as f g)
 
+-- the names that a list has, and those that are given one by one
+pub named_by_list : (words names listed : List (List ℕ)) (file : List ℕ) → list_file words ≡ Some file → files_of words ≡ [] → names ≡ listed → HasNames listed
+    → NamesFiles words names
+named_by_list words names listed file e none same h =
+    subst (λ (o : Option (List ℕ)). AreGiven o (files_of words) names) (sym e) (none, subst HasNames (sym same) h)
+
+pub named_one_by_one : (words names : List (List ℕ)) → list_file words ≡ None → names ≡ files_of words → 0 < length names → NamesFiles words names
+named_one_by_one words names e same some = subst (λ (o : Option (List ℕ)). AreGiven o (files_of words) names) (sym e) (same, some)
+
 -- a run with no status of files
 pub ends_without : (accepts : Settings → List ℕ → Type 0) (words : List (List ℕ)) (old new : Option (List ℕ)) (n : ℕ) → n ≡ 2 → HasNoStatus accepts words old new
     → EndsRun accepts words old new n
@@ -137,9 +146,9 @@ pub ends_nameless : (accepts : Settings → List ℕ → Type 0) (words : List (
     → files_of words ≡ [] → list_file words ≡ None → EndsRun accepts words old new n
 ends_nameless accepts words old new n e kept none no_list = ends_without accepts words old new n e (no_files accepts words old new kept none no_list)
 
--- it is not known which files they mean
+-- it is not known which files they mean, or an option is refused
 pub ends_unnamed : (accepts : Settings → List ℕ → Type 0) (words : List (List ℕ)) (old new : Option (List ℕ)) (n : ℕ) (f : Fault) → n ≡ 2 → Keeps old new
-    → FailsNaming words f → EndsRun accepts words old new n
+    → FailsNaming words f ⊎ StopsEarly (asked_by words) f → EndsRun accepts words old new n
 ends_unnamed accepts words old new n f e kept h = ends_without accepts words old new n e (inr (inr (inl (f, inl (h, kept)))))
 
 -- a run that was answered by the help, and by what a fault leaves
@@ -181,3 +190,17 @@ module _ (accepts : Settings → List ℕ → Type 0) (asked : Asked) (c : Chose
 pub err_weaker : {T E : Type 0} (r : Result T E) (P Q : E → Type 0) → ((e : E) → P e → Q e) → IfErr r P → IfErr r Q
 err_weaker (Ok x) P Q f h = tt
 err_weaker (Err e) P Q f h = f e h
+
+-- how a run over these files ends, if they were judged by what was chosen
+pub chosen_run : (accepts : Settings → List ℕ → Type 0) (words : List (List ℕ)) (c : Chosen) (goes_on : Bool) (names : List (List ℕ)) (old new : Option (List ℕ))
+    (r : Result Ended Fault) (n : ℕ) → IsChosen (asked_by words) c goes_on → NamesFiles words names
+    → IfOk r (λ e. EndsBy (ruling_of accepts c) names old new e × ((e.lost ≡ false) ⊎ (goes_on ≡ true)))
+    → IfErr r (λ f. StopsFiles (ruling_of accepts c) names old new f ⊎ ((goes_on ≡ true) × StopsGoingBy (ruling_of accepts c) names old new f))
+    → n ≡ code_of r → EndsRun accepts words old new n
+chosen_run accepts words c goes_on names old new r n chosen named ok err code =
+    let asked = asked_by words in
+    let ok_by = subst (λ (b : Bool). IfOk r (λ e. EndsBy (ruling_of accepts c) names old new e × ((e.lost ≡ false) ⊎ (b ≡ true)))) chosen.2 ok in
+    let err_by = subst (λ (b : Bool). IfErr r (λ f. StopsFiles (ruling_of accepts c) names old new f ⊎ ((b ≡ true) × StopsGoingBy (ruling_of accepts c) names old new f)))
+    chosen.2 err in
+    ends_run accepts words asked names old new refl named r n (judged_by accepts asked c names old new r chosen.0 chosen.1 ok_by)
+    (stopped_by accepts asked c names old new r chosen.0 chosen.1 err_by) code

@@ -202,7 +202,7 @@ select_all (suc n) (x ∷ all) h = ap (λ ns. x ∷ ns) (select_all n all (omega
 -- however inputs are read, lines are written in the manner that was chosen
 pub enough_by : (accepts : Settings → List ℕ → Type 0) (c : Chosen) (status : Status) (b : Bool) → b ≡ is_enough c.form status
     → is_enough (ruling_of accepts c).manner.form status ≡ b
-enough_by accepts c status b e = ap (λ (m : Manner). is_enough m.form status) (same c.mode (accepts (settings_by c.features.0 c.limits))) ∙ sym e
+enough_by accepts c status b e = ap (λ (m : Manner). is_enough m.form status) (same c.mode (settings_by c.features.0 c.limits)) ∙ sym e
   where
     same : (mode : Mode) (z : Settings) → (ruled (manner_of c) mode accepts z).manner ≡ manner_of c
     same Whole valid = refl

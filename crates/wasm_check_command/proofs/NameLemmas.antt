@@ -42,41 +42,50 @@ pub record AreSoFar (list : List ℕ) (start : ℕ) (texts : List (List ℕ)) : 
 pub none_so_far : (list : List ℕ) → AreSoFar list 0 []
 none_so_far list = record { names = []; split = refl; told = tt }
 
+-- all that is left is a name
+whole_name : (bs : List ℕ) (n : ℕ) → 0 < length bs → length bs ≤ n → HasNoEnd (take n bs) → names_in bs ≡ take n bs ∷ names_in (drop (n + 1) bs)
+unfolding names_in
+whole_name [] n s l h = absurd (omega (arith, s))
+whole_name (b ∷ bs) n s l h =
+    let all = take_all n (b ∷ bs) l in
+    last_name b bs (subst HasNoEnd all h)
+    ∙ ap (λ (name : List ℕ). name ∷ []) (sym all)
+    ∙ ap (λ (left : List ℕ). take n (b ∷ bs) ∷ names_in left) (sym (drop_all (n + 1) (b ∷ bs) (omega (arith, l))))
+
 -- what is left begins with a name
-next_name : (rest : List ℕ) (n : ℕ) → 0 < length rest → n ≤ length rest → HasNoEnd (take n rest) → (n < length rest → slice_get rest n ≡ Some 0)
+next_name : (rest : List ℕ) (n : ℕ) → 0 < length rest → HasNoEnd (take n rest) → (n < length rest → slice_get rest n ≡ Some 0)
     → names_in rest ≡ take n rest ∷ names_in (drop (n + 1) rest)
-next_name rest n some within before ended = by (cases_lt n (length rest))
+next_name rest n some before ended = by (cases_lt n (length rest))
   where
-    whole : (bs : List ℕ) → 0 < length bs → length bs ≤ n → HasNoEnd (take n bs) → names_in bs ≡ take n bs ∷ names_in (drop (n + 1) bs)
-    unfolding names_in
-    whole [] s l h = absurd (omega (arith, s))
-    whole (b ∷ bs) s l h =
-        let all = take_all n (b ∷ bs) l in
-        last_name b bs (subst HasNoEnd all h)
-        ∙ ap (λ (name : List ℕ). name ∷ []) (sym all)
-        ∙ ap (λ (left : List ℕ). take n (b ∷ bs) ∷ names_in left) (sym (drop_all (n + 1) (b ∷ bs) (omega (arith, l))))
     by : (n < length rest) ⊎ (length rest ≤ n) → names_in rest ≡ take n rest ∷ names_in (drop (n + 1) rest)
     by (inl l) =
         let zero_there : get_or rest n 0 ≡ 0 = get_or_from_slice_get rest n 0 0 (ended l) in
         ap names_in (sym (take-append-drop n rest)
         ∙ ap (λ (back : List ℕ). take n rest ++ back) (drop_more rest n 0 l ∙ ap (λ (b : ℕ). b ∷ drop (n + 1) rest) zero_there))
         ∙ ended_name (take n rest) (drop (n + 1) rest) before
-    by (inr l) = whole rest some l before
+    by (inr l) = whole_name rest n some l before
 
 -- one more
 pub name_more : (list : List ℕ) (texts : List (List ℕ)) (start n : ℕ) (text : List ℕ) → start < length list → AreSoFar list start texts
-    → n ≤ length (drop start list) → HasNoEnd (take n (drop start list)) → (n < length (drop start list) → slice_get (drop start list) n ≡ Some 0)
+    → HasNoEnd (take n (drop start list)) → (n < length (drop start list) → slice_get (drop start list) n ≡ Some 0)
     → IsWordText (take n (drop start list)) text → AreSoFar list (start + n + 1) (texts ++ text ∷ [])
-name_more list texts start n text left s within before ended told =
+name_more list texts start n text left s before ended told =
     let rest = drop start list in
     record {
       names = s.names ++ take n rest ∷ [];
       split = s.split
-          ∙ ap (λ (names : List (List ℕ)). s.names ++ names) (next_name rest n (omega (arith, left, length-drop start list)) within before ended)
+          ∙ ap (λ (names : List (List ℕ)). s.names ++ names) (next_name rest n (omega (arith, left, length-drop start list)) before ended)
           ∙ sym (append_assoc s.names (take n rest ∷ []) (names_in (drop (n + 1) rest)))
           ∙ ap (λ (back : List ℕ). (s.names ++ take n rest ∷ []) ++ names_in back) (drop-drop (n + 1) start list ∙ ap (λ (k : ℕ). drop k list) (omega arith));
       told = AllZip-push IsWordText s.names texts (take n rest) text s.told told;
     }
+
+-- the same of what is left, by another form
+pub name_more_by : (list : List ℕ) (texts : List (List ℕ)) (start n : ℕ) (rest text : List ℕ) → rest ≡ drop start list → start < length list → AreSoFar list start texts
+    → HasNoEnd (take n rest) → (n < length rest → slice_get rest n ≡ Some 0) → IsWordText (take n rest) text → AreSoFar list (start + n + 1) (texts ++ text ∷ [])
+name_more_by list texts start n rest text e left s before ended told =
+    name_more list texts start n text left s (subst (λ (r : List ℕ). HasNoEnd (take n r)) e before)
+    (subst (λ (r : List ℕ). n < length r → slice_get r n ≡ Some 0) e ended) (subst (λ (r : List ℕ). IsWordText (take n r) text) e told)
 
 -- none is left
 pub all_named : (list : List ℕ) (texts : List (List ℕ)) (start : ℕ) → length list ≤ start → AreSoFar list start texts → AreNames list texts

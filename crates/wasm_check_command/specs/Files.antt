@@ -5,6 +5,7 @@ use Rattle.std.specs.Io.KnownBytes.{Appends, Keeps}
 use Rattle.clap.specs.declared.error.kind.ErrorKind.{ErrorKind}
 use Rattle.wasm_check_faults.specs.declared.error.CheckError.{CheckError}
 use Rattle.wasm_check_faults.specs.declared.error.CheckError.TheVariants.{Read, TooLong, OutOfMemory, Write}
+use Rattle.wasm_check_command.specs.declared.judging.Chosen.{Chosen}
 use Rattle.wasm_check_command.specs.declared.judging.Mode.{Mode}
 use Rattle.wasm_check_command.specs.declared.judging.Status.{Status}
 use Rattle.wasm_check_command.specs.declared.judging.Status.TheVariants.{AllValid, SomeInvalid}
@@ -14,11 +15,11 @@ use Rattle.wasm_check_command.specs.declared.files.Ended.{Ended}
 use Rattle.wasm_check_faults.specs.declared.faults.Fault.TheVariants as faults
 use Rattle.wasm_types.specs.settings.Settings.{Settings}
 use Rattle.wasm_check_command.specs.Words.{files_of, list_file, IsHelp, AsksForHelp, NamesNoFiles}
-use Rattle.wasm_check_command.specs.Settings.{Asked, IsGiven, IsUnknownIn, IsWrongIn, asked_by, manner_by, features_by, mode_by}
+use Rattle.wasm_check_command.specs.Settings.{Asked, IsGiven, IsUnknownIn, IsWrongIn, asked_by, manner_by, features_by, mode_by, settings_of}
 use Rattle.wasm_check_command.specs.Lines.{BeginsLineOf}
 use Rattle.wasm_check_lines.specs.declared.forms.Form.{Form}
 use Rattle.wasm_check_lines.specs.declared.forms.Form.TheVariants.{Lines, Json, Quiet}
-use Rattle.wasm_check_command.specs.Modes.{Ruling, ruled}
+use Rattle.wasm_check_command.specs.Modes.{Ruling, manner_of, ruled}
 use Rattle.wasm_check_command.specs.Opened.{kept_open}
 use Rattle.wasm_check_command.specs.Names.{AreNames}
 use Rattle.wasm_check_command.specs.Verdict.{IsJudged, FailsAt}
@@ -334,6 +335,10 @@ asked_of o = record {
   goes_on = o.goes_on;
 }
 
+-- these settings, this mode and this manner are asked for, and whether the judging goes on
+abbrev pub IsChosen : Asked → Chosen → Bool → Type 0
+IsChosen asked c goes_on = IsGiven asked (settings_of c) c.mode × (manner_of c ≡ manner_by asked) × (goes_on ≡ asked.goes_on)
+
 -- What is asked for was done: these files were judged by the settings that the options give, each with a line; or, if `lost` says so, some of
 -- them came to no verdict, which only `--keep-going` allows.
 pub record ReportsBy (accepts : Settings → List ℕ → Type 0) (asked : Asked) (names : List (List ℕ)) (old new : Option (List ℕ))
@@ -364,13 +369,13 @@ IsListFault file given faults.OutOfMemory = Unit {0}
 IsListFault file given (faults.CannotHold reason) = ⊥
 IsListFault file given (faults.UnknownFeature word) = ⊥
 IsListFault file given (faults.WrongPieces word) = ⊥
-IsListFault file given (faults.Clash first second) = (given ≢ []) × (first.now ≡ codes "[FILE]...") × (second.now ≡ codes "--files0-from <FILE>")
+IsListFault file given (faults.Clash first second) = given ≢ []
 IsListFault file given faults.NoFiles = ⊥
 IsListFault file given (faults.WrongLimit wrong word) = ⊥
 
--- it is not known which files are meant: the list that the words name cannot be read, or files are named too; or memory ran out
+-- it is not known which files are meant: the list that the words name cannot be read, or files are named too
 abbrev pub FailsNaming : List (List ℕ) → Fault → Type 0
-FailsNaming words fault = ((file : List ℕ) × (list_file words ≡ Some file) × IsListFault file (files_of words) fault) ⊎ (fault ≡ faults.OutOfMemory)
+FailsNaming words fault = (file : List ℕ) × (list_file words ≡ Some file) × IsListFault file (files_of words) fault
 
 -- what an ending says
 abbrev pub ReportsEnd : (Settings → List ℕ → Type 0) → Asked → List (List ℕ) → Option (List ℕ) → Option (List ℕ) → Ended → Type 0
@@ -391,7 +396,7 @@ LosesSome accepts words old new = (status : Status) × (names : List (List ℕ))
 
 -- some fault stopped the run on these words, and left this
 abbrev pub IsStopped : (Settings → List ℕ → Type 0) → List (List ℕ) → Option (List ℕ) → Option (List ℕ) → Type 0
-IsStopped accepts words old new = (fault : Fault) × ((FailsNaming words fault × Keeps old new)
+IsStopped accepts words old new = (fault : Fault) × (((FailsNaming words fault ⊎ StopsEarly (asked_by words) fault) × Keeps old new)
     ⊎ ((names : List (List ℕ)) × NamesFiles words names × StopsBy accepts (asked_by words) names old new fault))
 
 -- The files of these words were judged by the settings that the words ask for: a line was written for each, and the status

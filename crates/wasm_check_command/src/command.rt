@@ -1,20 +1,21 @@
 //! The command line: its words, its files, its faults and its statuses.
-ghost use Rattle.std.specs.Prelude.{◌≡◌, ◌≢◌, ◌<◌, ◌≤◌, ◌⊎◌, ℕ, IsTrue, List, [], true, false, OnOk, Some, map, option_map, unwrap_or, Ok, IfOk, IfErr};
+ghost use Rattle.std.specs.Prelude.{◌≡◌, ◌≢◌, ◌<◌, ◌≤◌, ◌⊎◌, ℕ, IsTrue, List, [], true, false, OnOk, Some, map, option_map, unwrap_or, Ok, IfOk, IfErr, string_bytes};
 ghost use Rattle.std.specs.Io.KnownBytes.{Keeps};
 ghost use Rattle.wasm_check_command.specs.declared.judging.Status.TheVariants.{AllValid, SomeInvalid};
-ghost use Rattle.clap.specs.Words.{all_of, app_of, first_of, found_of, kind_of, rows_of, rule_of, FailsBy};
+ghost use Rattle.clap.specs.Words.{all_of, first_of, found_of, kind_of, rows_of};
 ghost use Rattle.clap.specs.declared.error.kind.ErrorKind.TheVariants.{OutOfMemory};
-ghost use Rattle.wasm_check_command.specs.Words.{IsHelp, matches_on, refusals_of, file_rule, flag_rule, list_rule, option_rule, with_forms, with_stops};
-ghost use Rattle.wasm_check_command.specs.Words.{files_of, list_file, with_list, with_needs, with_values, wasm_check, is_set, has_flag};
+ghost use Rattle.wasm_check_command.specs.Words.{IsHelp, matches_on};
+ghost use Rattle.wasm_check_command.specs.Words.{files_of, list_file, is_set, has_flag};
 ghost use Rattle.wasm_check_faults.specs.FaultTexts.{is_silent};
 ghost use Rattle.wasm_check_command.specs.Commands.{AreRead};
 ghost use Rattle.wasm_types.specs.settings.Limits.{IsWithinCeilings};
 ghost use Rattle.wasm_check_command.specs.Modes.{CanJudge, HasPieces, manner_of, ruling_of};
 ghost use Rattle.wasm_check_command.specs.Settings.{GoTogether, IsGiven, asked_by, features_by, form_by, limits_by, manner_by, mode_by, pieces_of, settings_of, with_vectors};
 ghost use Rattle.wasm_check_command.specs.Files.{texts, lists_in, code_of, code_of_ended, Reports, Grows, ShowsHelp, HasNoStatus, IsUnshown, EndsRun};
-ghost use Rattle.wasm_check_command.specs.Files.{asked_of, NamesFiles, RefusesTogether, RefusesPieces, RefusesFeatures, RefusesLimits, StopsEarly, ReportsEnd, StopsBy};
+ghost use Rattle.wasm_check_command.specs.Files.{asked_of, IsChosen, NamesFiles, RefusesTogether, RefusesPieces, RefusesFeatures, RefusesLimits, StopsEarly, ReportsEnd, StopsBy};
 ghost use Rattle.wasm_check_command.specs.Files.{EndsBy, StopsFiles, StopsGoingBy};
 
+use crate::arguments::parse;
 use crate::files::{Ended, judge_files, name_at};
 use crate::going::judge_going;
 use crate::judging::{Chosen, Judge, Mode, Status, write_text};
@@ -22,8 +23,8 @@ use crate::listing::{borrowed, read_list};
 use crate::tables::table_asked;
 use crate::telling::report;
 use bitflags::Flags;
+use clap::ArgMatches;
 use clap::error::ErrorKind;
-use clap::{Arg, ArgAction, ArgMatches, Command};
 use std::alloc::{AllocError, Global};
 use std::convert::AsStr;
 use std::io::{Input, Write};
@@ -61,163 +62,6 @@ struct Options<'m, 'a> {
     goes_on: bool,
     /// Whether standard error is a person's terminal.
     at_terminal: bool,
-}
-
-/// The files.
-fn files_argument<'a>(alloc: Global) -> Arg<'a>
-    ensures { (rule_of result ≡ file_rule) × (result.global ≡ false) }
-{
-    Arg::new(alloc, "FILE")
-        .help("A file to judge")
-        .num_args(1..)
-        .action(ArgAction::Append)
-}
-
-/// An option of this name, with a value that is called so in the help.
-fn option_argument<'a>(alloc: Global, name: &'a str, value: &'a str, help: &'a str) -> Arg<'a>
-    ensures { (rule_of result ≡ option_rule name.entry.now) × (result.global ≡ false) }
-{
-    Arg::new(alloc, name)
-        .long(name)
-        .help(help)
-        .value_name(value)
-        .action(ArgAction::Set)
-}
-
-/// An option of this name with a list, which may be there several times.
-fn list_argument<'a>(alloc: Global, name: &'a str, help: &'a str) -> Arg<'a>
-    ensures { (rule_of result ≡ list_rule name.entry.now) × (result.global ≡ false) }
-{
-    Arg::new(alloc, name)
-        .long(name)
-        .help(help)
-        .value_name("LIST")
-        .action(ArgAction::Append)
-}
-
-/// A flag of this name.
-fn flag_argument<'a>(alloc: Global, name: &'a str, help: &'a str) -> Arg<'a>
-    ensures { (rule_of result ≡ flag_rule name.entry.now) × (result.global ≡ false) }
-{
-    Arg::new(alloc, name)
-        .long(name)
-        .help(help)
-        .action(ArgAction::SetTrue)
-}
-
-/// The command with its options that have a value.
-fn with_values<'a>(alloc: Global, command: Command<'a>) -> Result<Command<'a>, AllocError>
-    ensures { IfOk result (λ c. app_of c ≡ with_values (app_of command.entry)) }
-{
-    let features = list_argument(
-        alloc,
-        "features",
-        "The features that are allowed: words between commas, from left to right, as mvp,gc or no-simd; --features help lists them",
-    );
-    let limits = list_argument(
-        alloc,
-        "limits",
-        "The limits that hold: words name=N between commas, as locals=10,tables=3; --limits help lists them",
-    );
-    let pieces = option_argument(
-        alloc,
-        "pieces",
-        "N",
-        "Judge files as they come, in pieces of at most N bytes, from 1 to 1048576; without it they are read whole",
-    );
-    let command = command.arg(features)?.arg(limits)?.arg(pieces)?;
-    Ok(command)
-}
-
-/// The command with the option that names a list of files.
-fn with_list<'a>(alloc: Global, command: Command<'a>) -> Result<Command<'a>, AllocError>
-    ensures { IfOk result (λ c. app_of c ≡ with_list (app_of command.entry)) }
-{
-    let list = option_argument(
-        alloc,
-        "files0-from",
-        "FILE",
-        "Judge the files that this one names, each name ended by the byte 0, as find -print0 writes them; - is standard input",
-    );
-    let command = command.arg(list)?;
-    Ok(command)
-}
-
-/// The command with the flags that say what is judged, and what is written of it.
-fn with_forms<'a>(alloc: Global, command: Command<'a>) -> Result<Command<'a>, AllocError>
-    ensures { IfOk result (λ c. app_of c ≡ with_forms (app_of command.entry)) }
-{
-    let vectors = flag_argument(
-        alloc,
-        "vectors",
-        "Judge operators on vectors, which are refused without it",
-    );
-    let json = flag_argument(
-        alloc,
-        "json",
-        "Write an object of JSON on a line for each file",
-    );
-    let explain = flag_argument(
-        alloc,
-        "explain",
-        "Say below each refusal where the fault is; not with --pieces",
-    );
-    let command = command.arg(vectors)?.arg(json)?.arg(explain)?;
-    Ok(command)
-}
-
-/// The command with the flag that asks which features a file needs.
-fn with_needs<'a>(alloc: Global, command: Command<'a>) -> Result<Command<'a>, AllocError>
-    ensures { IfOk result (λ c. app_of c ≡ with_needs (app_of command.entry)) }
-{
-    let needs = flag_argument(
-        alloc,
-        "needs",
-        "Tell of each valid file the least list of features that makes it valid; judges a file some 40 times",
-    );
-    let command = command.arg(needs)?;
-    Ok(command)
-}
-
-/// The command with the flags that say when to stop.
-fn with_stops<'a>(alloc: Global, command: Command<'a>) -> Result<Command<'a>, AllocError>
-    ensures { IfOk result (λ c. app_of c ≡ with_stops (app_of command.entry)) }
-{
-    let quiet = flag_argument(
-        alloc,
-        "quiet",
-        "Write no verdict, and stop at the first file that is invalid: the status tells",
-    );
-    let going = flag_argument(
-        alloc,
-        "keep-going",
-        "Judge the other files if one cannot be opened or read, is too long, or memory runs out for it",
-    );
-    let command = command.arg(quiet)?.arg(going)?;
-    Ok(command)
-}
-
-/// The command, with its arguments.
-fn command<'a>(alloc: Global) -> Result<Command<'a>, AllocError>
-    ensures { IfOk result (λ c. app_of c ≡ wasm_check) }
-{
-    let command = Command::new(alloc, "wasm-check").version(VERSION).about(
-        "Says of each file whether it is a valid WebAssembly module",
-    );
-    let command = with_values(alloc, command)?;
-    let command = with_list(alloc, command)?;
-    let command = with_forms(alloc, command)?;
-    let command = with_needs(alloc, command)?;
-    let command = with_stops(alloc, command)?.arg(files_argument(alloc))?;
-    Ok(command)
-}
-
-/// The words, read as a command line.
-fn parse<'a, S: AsStr>(alloc: Global, words: &'a [S]) -> Result<ArgMatches<'a>, clap::Error>
-    ensures ok { IfOk result (λ m. rows_of (found_of m) ≡ matches_on (map S.text words.now)) }
-    ensures kinds { FailsBy (refusals_of (map S.text words.now)) result }
-{
-    command(alloc)?.try_get_matches_from(words)
 }
 
 /// The features by these lists, which are applied in order to those by default.
@@ -654,6 +498,67 @@ where
     )
 }
 
+/// Judges the files of these names by what was chosen.
+fn run_chosen<J, F, W, E>(
+    judge: &J,
+    rt: &F,
+    alloc: Global,
+    goes_on: bool,
+    chosen: Chosen,
+    names: &[&str],
+    out: &mut W,
+    err: &mut E,
+) -> u8
+where
+    J: Judge,
+    F: Files + Input,
+    W: Write,
+    E: Write,
+    requires within { CanJudge chosen }
+    ensures quiet { result < 2 → Keeps (E.contents err.old) (E.contents err.new) }
+    ensures ended { (words : List (List ℕ)) → IsChosen (asked_by words) chosen goes_on → NamesFiles words (texts names.now)
+        → EndsRun J.accepts words (W.contents out.old) (W.contents out.new) result }
+{
+    let judged = judge_chosen(judge, alloc, rt, goes_on, chosen, names, out, err);
+    conclude(alloc, &judged, chosen.below, err)
+}
+
+/// Judges the files of this list by what was chosen.
+fn run_listed<J, F, W, E>(
+    judge: &J,
+    rt: &F,
+    alloc: Global,
+    goes_on: bool,
+    chosen: Chosen,
+    list: &[String],
+    out: &mut W,
+    err: &mut E,
+) -> u8
+where
+    J: Judge,
+    F: Files + Input,
+    W: Write,
+    E: Write,
+    requires within { CanJudge chosen }
+    ensures quiet { result < 2 → Keeps (E.contents err.old) (E.contents err.new) }
+    ensures ended { (words : List (List ℕ)) → IsChosen (asked_by words) chosen goes_on → NamesFiles words (map string_bytes list.now)
+        → EndsRun J.accepts words (W.contents out.old) (W.contents out.new) result }
+{
+    let Ok(names) = borrowed(alloc, list) else {
+        return report(alloc, &Fault::OutOfMemory, chosen.below, err);
+    };
+    run_chosen(
+        judge,
+        rt,
+        alloc,
+        goes_on,
+        chosen,
+        names.as_slice(),
+        out,
+        err,
+    )
+}
+
 /// Judges the files that the list in a file names. No other files may be given.
 fn run_list<'a, J, F, W, E>(
     judge: &J,
@@ -679,14 +584,24 @@ where
         let fault = Fault::Clash("[FILE]...", "--files0-from <FILE>");
         return report(alloc, &fault, below, err);
     }
+    let chosen = match read_options(options) {
+        Ok(chosen) => chosen,
+        Err(fault) => return report(alloc, &fault, below, err),
+    };
     let list = match read_list(alloc, rt, file) {
         Ok(list) => list,
         Err(fault) => return report(alloc, &fault, below, err),
     };
-    let Ok(names) = borrowed(alloc, list.as_slice()) else {
-        return report(alloc, &Fault::OutOfMemory, below, err);
-    };
-    run_names(judge, rt, alloc, options, names.as_slice(), out, err)
+    run_listed(
+        judge,
+        rt,
+        alloc,
+        options.goes_on,
+        chosen,
+        list.as_slice(),
+        out,
+        err,
+    )
 }
 
 /// Runs the program on the words that `clap` read.

@@ -222,7 +222,6 @@ fn explanation<J: Judge>(
     judge: &J,
     alloc: Global,
     chosen: Chosen,
-    features: WasmFeatures,
     bytes: &[u8],
     error: &Error,
 ) -> Result<Option<Explanation>, AllocError>
@@ -232,7 +231,7 @@ fn explanation<J: Judge>(
     if !chosen.explains {
         return Ok(None);
     }
-    judge.explain(alloc, features, chosen.limits, bytes, error)
+    judge.explain(alloc, judged_features(chosen), chosen.limits, bytes, error)
 }
 
 /// The features by which whole inputs are judged: if it is to be told which of them are needed, all.
@@ -243,6 +242,20 @@ fn judged_features(chosen: Chosen) -> WasmFeatures
         return every_feature().union(WasmFeatures::VECTOR_OPERATORS);
     }
     chosen.features
+}
+
+/// Judges these bytes by what was chosen.
+fn judge_by<J: Judge>(
+    judge: &J,
+    alloc: Global,
+    chosen: Chosen,
+    index: usize,
+    bytes: &[u8],
+) -> Result<(), Error>
+    requires within { IsWithinCeilings chosen.limits }
+    ensures { Tells result (J.accepts (judged_by chosen.needs (settings_of chosen)) bytes.now) }
+{
+    judge.judge(alloc, judged_features(chosen), chosen.limits, index, bytes)
 }
 
 /// The text of these bytes, which are valid by the features by which they are judged.
@@ -279,8 +292,7 @@ fn verdict_line<J: Judge>(
     ensures { IfOk result (λ r. IsVerdict (ruled (manner_of chosen) whole J.accepts (settings_of chosen)) name.now bytes.now r.0
         (string_bytes r.1)) }
 {
-    let features = judged_features(chosen);
-    match judge.judge(alloc, features, chosen.limits, index, bytes) {
+    match judge_by(judge, alloc, chosen, index, bytes) {
         Ok(()) => {
             let line = accepted_text(judge, alloc, chosen, index, name, bytes)?;
             Ok((true, line))
@@ -289,7 +301,7 @@ fn verdict_line<J: Judge>(
             if error.kind() == ErrorKind::OutOfMemory {
                 return Err(AllocError);
             }
-            let explained = explanation(judge, alloc, chosen, features, bytes, &error)?;
+            let explained = explanation(judge, alloc, chosen, bytes, &error)?;
             let refusal = Refusal {
                 error: &error,
                 limits: chosen.limits,

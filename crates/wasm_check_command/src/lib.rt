@@ -7,6 +7,7 @@
 //! those of `wasm_check_lines`; lists of features and limits, and what is told of faults, are in `wasm_check_faults`.
 #![tactic(auto)]
 
+mod arguments;
 mod command;
 mod files;
 mod going;

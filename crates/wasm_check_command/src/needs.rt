@@ -4,7 +4,7 @@
 //! what it accepts by fewer. So each word that stays is tried once more, after the last one that was left out.
 ghost use Rattle.std.specs.Prelude.{◌≡◌, ◌<◌, ◌≤◌, ◌+◌, ℕ, IsTrue, false, None, IfOk, IfSome, length};
 ghost use Rattle.wasm_types.specs.settings.Limits.{IsWithinCeilings};
-ghost use Rattle.wasm_check_faults.specs.WordLists.{AreFeatures, IsLeast, Lacks, Suffices, without_word, words_in};
+ghost use Rattle.wasm_check_faults.specs.WordLists.{AreFeatures, HasBits, IsLeast, Lacks, Suffices, without_word, words_in};
 ghost use Rattle.wasm_check_command.specs.Modes.{all_bits, by_features};
 
 use crate::judging::Judge;
@@ -13,8 +13,40 @@ use std::alloc::{AllocError, Global};
 use wasm_check_faults::{FeatureWord, all_features, features_with};
 use wasm_types::{ErrorKind, Limits, WasmFeatures};
 
-/// How often words are gone through at most: each turn but the last leaves out one of 28 words, or begins again after one was left out.
-const TURNS: usize = 57;
+/// How many features there are.
+const FEATURES: usize = 28;
+
+/// The features of the list with these words, with operators on vectors.
+fn bits_with(words: &[FeatureWord]) -> WasmFeatures
+    requires known { AreFeatures words.now }
+    ensures { HasBits (words_in words.now) result.0 }
+{
+    features_with(words).union(WasmFeatures::VECTOR_OPERATORS)
+}
+
+/// Whether bytes are valid by these features.
+fn accepts<J: Judge>(
+    judge: &J,
+    alloc: Global,
+    features: WasmFeatures,
+    limits: Limits,
+    index: usize,
+    bytes: &[u8],
+) -> Result<bool, AllocError>
+    requires within { IsWithinCeilings limits }
+    ensures yes { IfOk result (λ valid. IsTrue valid → by_features J.accepts limits bytes.now features.0) }
+    ensures no { IfOk result (λ valid. valid ≡ false → ¬ by_features J.accepts limits bytes.now features.0) }
+{
+    match judge.judge(alloc, features, limits, index, bytes) {
+        Ok(()) => Ok(true),
+        Err(error) => {
+            if error.kind() == ErrorKind::OutOfMemory {
+                return Err(AllocError);
+            }
+            Ok(false)
+        }
+    }
+}
 
 /// Whether bytes are valid by the list with these words, and with operators on vectors.
 fn suffices<J: Judge>(
@@ -30,16 +62,8 @@ fn suffices<J: Judge>(
     ensures yes { IfOk result (λ valid. IsTrue valid → Suffices (by_features J.accepts limits bytes.now) (words_in words.now)) }
     ensures no { IfOk result (λ valid. valid ≡ false → Lacks (by_features J.accepts limits bytes.now) (words_in words.now)) }
 {
-    let features = features_with(words).union(WasmFeatures::VECTOR_OPERATORS);
-    match judge.judge(alloc, features, limits, index, bytes) {
-        Ok(()) => Ok(true),
-        Err(error) => {
-            if error.kind() == ErrorKind::OutOfMemory {
-                return Err(AllocError);
-            }
-            Ok(false)
-        }
-    }
+    let features = bits_with(words);
+    accepts(judge, alloc, features, limits, index, bytes)
 }
 
 /// These words, without the one at this place.
@@ -86,7 +110,8 @@ fn leave_out<J: Judge>(
 {
     for place in from..words.len() {
         let fewer = without_word(alloc, words, place)?;
-        if suffices(judge, alloc, limits, index, bytes, fewer.as_slice())? {
+        let valid = suffices(judge, alloc, limits, index, bytes, fewer.as_slice())?;
+        if valid {
             return Ok(Some(Fewer {
                 words: fewer,
                 place,
@@ -94,6 +119,37 @@ fn leave_out<J: Judge>(
         }
     }
     Ok(None)
+}
+
+/// Goes through these words once, and leaves out each without which bytes are still valid.
+fn go_through<J: Judge>(
+    judge: &J,
+    alloc: Global,
+    limits: Limits,
+    index: usize,
+    bytes: &[u8],
+    all: Vec<FeatureWord>,
+) -> Result<Vec<FeatureWord>, AllocError>
+    requires within { IsWithinCeilings limits }
+    requires known { AreFeatures all.items }
+    requires enough { Suffices (by_features J.accepts limits bytes.now) (words_in all.items) }
+    requires count { length all.items ≤ 28 }
+    ensures known { IfOk result (λ left. AreFeatures left.items) }
+    ensures enough { IfOk result (λ left. Suffices (by_features J.accepts limits bytes.now) (words_in left.items)) }
+    ensures count { IfOk result (λ left. length left.items ≤ 28) }
+{
+    let mut words = all;
+    let mut place = 0;
+    for _turn in 0..FEATURES {
+        match leave_out(judge, alloc, limits, index, bytes, words.as_slice(), place)? {
+            Some(fewer) => {
+                words = fewer.words;
+                place = fewer.place;
+            }
+            None => return Ok(words),
+        }
+    }
+    Ok(words)
 }
 
 /// The words of the least list of features by which these bytes are valid, with operators on vectors. They are valid by all features. Words are
@@ -113,20 +169,12 @@ pub(crate) fn least_list<J: Judge>(
     requires valid { by_features J.accepts limits bytes.now all_bits }
     ensures { IfOk result (λ words. IsLeast (by_features J.accepts limits bytes.now) (words_in words.items)) }
 {
-    let mut words = all_features(alloc)?;
-    let mut from = 0;
-    for _turn in 0..TURNS {
-        match leave_out(judge, alloc, limits, index, bytes, words.as_slice(), from)? {
-            Some(fewer) => {
-                words = fewer.words;
-                from = fewer.place;
-            }
-            None => {
-                if from == 0 {
-                    return Ok(words);
-                }
-                from = 0;
-            }
+    let all = all_features(alloc)?;
+    let mut words = go_through(judge, alloc, limits, index, bytes, all)?;
+    for _turn in 0..=FEATURES {
+        match leave_out(judge, alloc, limits, index, bytes, words.as_slice(), 0)? {
+            Some(fewer) => words = fewer.words,
+            None => return Ok(words),
         }
     }
     unreachable!()

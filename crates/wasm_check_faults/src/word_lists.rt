@@ -2,7 +2,7 @@
 //!
 //! So a list may be made shorter word by word, until no word of it can be left out.
 ghost use Rattle.std.specs.Fmt.{WritesOnOk};
-ghost use Rattle.std.specs.Prelude.{◌≡◌, Ok, IfOk, flat_map, string_bytes};
+ghost use Rattle.std.specs.Prelude.{◌≡◌, Ok, IfOk, flat_map, length, string_bytes};
 ghost use Rattle.wasm_types.specs.settings.Sets.{bits_of};
 ghost use Rattle.wasm_check_faults.specs.FeatureLists.{all_features, features_of};
 ghost use Rattle.wasm_check_faults.specs.WordLists.{AreFeatures, NeedsEndOnce, listed, needs_line, needs_object, needs_text, next_word, words_in};
@@ -145,6 +145,7 @@ const FEATURES: [FeatureWord; 28] = [
 /// Memory ran out.
 pub fn all_features(alloc: Global) -> Result<Vec<FeatureWord>, AllocError>
     ensures known { IfOk result (λ ws. AreFeatures ws.items) }
+    ensures count { IfOk result (λ ws. length ws.items ≡ 28) }
     ensures all { IfOk result (λ ws. features_of (listed (words_in ws.items)) ≡ Ok (bits_of all_features)) }
 {
     match Vec::from_array(alloc, FEATURES) {

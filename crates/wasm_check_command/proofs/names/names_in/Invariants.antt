@@ -3,5 +3,5 @@ use Rattle.std.proofs.Common.{◌≤◌, map, string_bytes}
 use Rattle.wasm_check_command.proofs.NameLemmas.{AreSoFar}
 use Rattle.wasm_check_command.proofs.names.names_in.Given as goal
 
-abbrev pub invariant-loop-_turn : goal.invariant-loop-_turn
-invariant-loop-_turn l = AreSoFar l.list l.start (map string_bytes l.names.items) × (l._turn ≤ l.start)
+abbrev pub invariant-loop-turn : goal.invariant-loop-turn
+invariant-loop-turn l = AreSoFar l.list l.start (map string_bytes l.names.items) × (l._turn ≤ l.start)
