@@ -36,6 +36,33 @@ def lose_file(program, room, names, header, told="cannot open", most_open=None):
     return compare("a file that goes", got, [*valid, "--", f"wasm-check: later.wasm: {told}", "2"])
 
 
+def name_by_list(room, want):
+    """Files that a list names: each name ends with the byte 0, which the last one may lack."""
+    def listed(names):
+        with open(f"{room}/names", "wb") as it:
+            it.write(names)
+        return ["--files0-from=names"]
+
+    usage = ["", "For more information, try '--help'.", "2"]
+    want("names in a list", listed(b"0.wasm\0001.wasm\000"), ["0.wasm: valid", "1.wasm: valid", "--", "0"], cwd=room)
+    want("the last name without the byte 0", listed(b"1.wasm\0000.wasm"), ["1.wasm: valid", "0.wasm: valid", "--", "0"], cwd=room)
+    want("names from standard input", ["--files0-from", "-"], ["2.wasm: valid", "--", "0"], given=b"2.wasm\000", cwd=room)
+    want("an empty list", listed(b""), ["--", "0"], cwd=room)
+    want("the list for a file", listed(b"names"), ["names: invalid at 0x0: magic header not detected: bad magic number", "--", "1"], cwd=room)
+    want("an empty name", listed(b"0.wasm\000\0001.wasm\000"), ["--", "wasm-check: : cannot open", "2"], cwd=room)
+    want("an empty name, going on", ["--keep-going", *listed(b"0.wasm\000\0001.wasm\000")],
+         ["0.wasm: valid", "1.wasm: valid", "--", "wasm-check: : cannot open", "2"], cwd=room)
+    want("a name that is no UTF-8 in a list", ["--keep-going", *listed(b"\xe9\000-x.wasm\000")],
+         ["--", "wasm-check: \\u{0}e9: cannot open", "wasm-check: -x.wasm: cannot open", "2"], cwd=room)
+    many = "\0".join(f"{number}.wasm" for number in range(1100)).encode()
+    want("1,100 names in a list", listed(many), [*(f"{number}.wasm: valid" for number in range(1100)), "--", "0"], cwd=room, most_open=64)
+    want("a list that is gone", ["--files0-from=gone"], ["--", "wasm-check: gone: cannot open", "2"], cwd=room)
+    want("a directory for a list", ["--files0-from=."], ["--", "wasm-check: .: cannot read", "2"], cwd=room)
+    want("a list and a file", ["--files0-from=names", "0.wasm"],
+         ["--", "error: the argument '[FILE]...' cannot be used with '--files0-from <FILE>'", *usage], cwd=room)
+    want("no files", [], ["--", "error: FILE or --files0-from is required", *usage])
+
+
 def run(program):
     """Files as the system gives them: standard input, more than may be open at once, and why one cannot be opened or read."""
     header, empty = bytes.fromhex("0061736d01000000"), "invalid at 0x0: unexpected end-of-file"
@@ -68,6 +95,7 @@ def run(program):
         want("a link to itself", ["around"], ["--", "wasm-check: around: cannot open", "2"], cwd=room)
         with open(f"{room}/long.wasm", "wb") as it:
             it.truncate(2**30 + 1)
+        name_by_list(room, want)
         differ += lose_file(program, room, names[:100], header)
         differ += lose_file(program, room, names[:70], header, told="cannot read", most_open=64)
         # The byte e9 is no UTF-8. A file with that name is there, and so is one whose name is what is written for it.

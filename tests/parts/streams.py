@@ -1,7 +1,25 @@
-"""Standard streams that are closed."""
+"""Standard streams that are closed, and such as take nothing."""
+import os
+import subprocess
 import tempfile
 
 from common import answered, compare, kinds
+
+
+def unread(program, words, cwd):
+    """What `wasm-check` writes to standard error, and its status, if its standard output is a pipe that nobody reads any more."""
+    ours, theirs = os.pipe()
+    os.close(ours)
+    ran = subprocess.run([program, "run", *words], stdout=theirs, stderr=subprocess.PIPE, cwd=cwd)
+    os.close(theirs)
+    return [*ran.stderr.decode().splitlines(), str(ran.returncode)]
+
+
+def full(program, words, cwd):
+    """The same, if standard output is a device that is full."""
+    with open("/dev/full", "wb") as out:
+        ran = subprocess.run([program, "run", *words], stdout=out, stderr=subprocess.PIPE, cwd=cwd)
+    return [*ran.stderr.decode().splitlines(), str(ran.returncode)]
 
 
 def run(program):
@@ -26,6 +44,11 @@ def run(program):
         want("standard input and output closed", [0, 1], ["a.wasm", "-"], unwritten)
         want("standard error closed", [2], ["a.wasm"], ["a.wasm: valid", "--", "0"])
         want("standard error closed, a file gone", [2], ["a.wasm", "gone.wasm"], ["--", "2"])
+        for words in (["a.wasm"], ["--json", "a.wasm"], ["--keep-going", "a.wasm"], ["--pieces=4", "a.wasm"], ["--needs", "a.wasm"], ["--help"]):
+            differ += compare(f"a pipe that nobody reads, {words}", unread(program, words, room), ["2"])
+        differ += compare("a full device", full(program, ["a.wasm"], room), ["wasm-check: cannot write", "2"])
+        told = ["wasm-check: cannot write", '{"fault":"cannot write","hint":"no space left"}', "2"]
+        differ += compare("a full device, as JSON", full(program, ["--json", "a.wasm"], room), told)
         # Three files hold the standard streams: if the system lets fewer be open beside these, another may be read in the place of `-`.
         differ += compare("streams that can be held", answered(program, ["-"], given=header, most_open=6), ["-: valid", "--", "0"])
         for words in (["-"], ["--keep-going", "-"], ["--quiet", "-"]):

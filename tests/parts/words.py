@@ -30,7 +30,7 @@ def show_words(program):
     differ += compare("a name that does not", answered(program, [kept]), ["--", f"wasm-check: {kept}: cannot open", "2"])
     for name, told in (("x\ny: valid", r"x\u{a}y: valid"), ("x\u2029y", r"x\u{2029}y"), ("wasm-check", "wasm-check")):
         got = answered(program, ["--help"], own_name=name)[2:4]
-        differ += compare("the program's own name", got, [f"Usage: {told} [OPTIONS] <FILE>...", ""])
+        differ += compare("the program's own name", got, [f"Usage: {told} [OPTIONS] [FILE]...", ""])
     return differ
 
 

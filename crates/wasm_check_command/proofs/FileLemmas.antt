@@ -10,7 +10,7 @@ use Rattle.clap.specs.Walk.{all_of, first_of, rows_of}
 use Rattle.clap.specs.Matches.{found_of, matched_of, raw_values, first_value}
 use Rattle.clap.proofs.WalkLemmas.{raw_values-rows, first_value-rows}
 use Rattle.clap.specs.declared.parser.matches.ArgMatches.{ArgMatches}
-use Rattle.wasm_check_command.specs.Words.{wasm_check, IsHelp, AsksForHelp, AsksForTable, files_of, matches_on, refusals_of}
+use Rattle.wasm_check_command.specs.Words.{wasm_check, IsHelp, AsksForHelp, AsksForTable, files_of, list_file, matches_on, refusals_of}
 use Rattle.wasm_check_faults.specs.declared.faults.Fault.{Fault}
 use Rattle.wasm_check_command.specs.declared.judging.Status.{Status}
 use Rattle.wasm_check_command.specs.declared.judging.Status.TheVariants.{AllValid, SomeInvalid}
@@ -18,7 +18,7 @@ use Rattle.wasm_types.specs.settings.Settings.{Settings}
 use Rattle.wasm_check_command.specs.Settings.{Asked, IsGiven, asked_by, manner_by, settings_of}
 use Rattle.wasm_check_command.specs.Modes.{manner_of, ruled, ruling_of}
 use Rattle.wasm_check_command.specs.declared.judging.Chosen.{Chosen}
-use Rattle.wasm_check_command.specs.Files.{texts, lists_in, code_of, code_of_ended, ReportsBy, ReportsEnd, StopsBy, Reports, HasNoStatus, IsUnshown, EndsRun, EndsBy, GoesOn, StopsFiles, StopsGoingBy}
+use Rattle.wasm_check_command.specs.Files.{texts, lists_in, code_of, code_of_ended, ReportsBy, ReportsEnd, StopsBy, Reports, HasNoStatus, IsUnshown, EndsRun, AreGiven, FailsNaming, IsChosen, StopsEarly, HasNames, NamesFiles, EndsBy, GoesOn, StopsFiles, StopsGoingBy}
 use Rattle.wasm_check_command.specs.declared.files.Ended.{Ended}
 use Rattle.wasm_check_lines.specs.declared.forms.Form.{Form}
 use Rattle.wasm_check_faults.specs.declared.faults.Fault.TheVariants as faults
@@ -42,13 +42,7 @@ pub some_is : {A : Type 0} (o : Option A) (x : A) → IsSomeAnd o (λ y. y ≡ x
 some_is (Some y) x e = ap Some e
 some_is None x e = absurd e
 
--- the names that the matches have, as the files of the words
-pub named_by : (words : List (List ℕ)) (m : ArgMatches) (o : Option (Bor (List (Bor (List ℕ))))) (names : Bor (List (Bor (List ℕ)))) → rows_of (found_of m) ≡ matches_on words
-    → option_map (λ s. map (λ v. v.now) s.now) o ≡ option_map raw_values (matched_of (found_of m) (codes "FILE")) → o ≡ Some names → texts names.now ≡ files_of words
-named_by words m o names r g e = ap (λ (x : Option (List (List ℕ))). unwrap_or x [])
-    (ap (option_map (λ (s : Bor (List (Bor (List ℕ)))). map (λ v. v.now) s.now)) (sym e) ∙ g ∙ raw_values-rows (found_of m) (codes "FILE") ∙ ap (all_of (codes "FILE")) r)
-
--- where some names are there, some texts are
+-- some names are there
 pub some_texts : (names : List (Bor (List ℕ))) → false ≡ (length names == 0) → 0 < length (texts names)
 some_texts [] e = absurd cc
 some_texts (n ∷ names) e = omega arith
@@ -66,34 +60,26 @@ lists_by name words m None r g = ap (λ (x : Option (List (List ℕ))). unwrap_o
 lists_by name words m (Some lists) r g = ap (λ (x : Option (List (List ℕ))). unwrap_or x []) (g ∙ raw_values-rows (found_of m) name ∙ ap (all_of name) r)
 
 -- what the options ask for, part by part
-pub asks_alike : {f g l k : List (List ℕ)} {n o : Option (List ℕ)} {v w : Bool} {m p : Form} {x y : Bool} {q r : Bool}
-    → f ≡ g → l ≡ k → n ≡ o → v ≡ w → m ≡ p → x ≡ y → q ≡ r
-    → ◌≡◌ {A = Asked} (record { features = f; limits = l; pieces = n; vectors = v; form = m; explains = x; goes_on = q })
-    (record { features = g; limits = k; pieces = o; vectors = w; form = p; explains = y; goes_on = r })
-asks_alike a b c d e f g = rw (a, b, c, d, e, f, g) refl
+pub asks_alike : {f g l k : List (List ℕ)} {n o : Option (List ℕ)} {v w : Bool} {m p : Form} {x y : Bool} {s t : Bool} {q r : Bool}
+    → f ≡ g → l ≡ k → n ≡ o → v ≡ w → m ≡ p → x ≡ y → s ≡ t → q ≡ r
+    → ◌≡◌ {A = Asked} (record { features = f; limits = l; pieces = n; vectors = v; form = m; explains = x; needs = s; goes_on = q })
+    (record { features = g; limits = k; pieces = o; vectors = w; form = p; explains = y; needs = t; goes_on = r })
+asks_alike a b c d e f g h = rw (a, b, c, d, e, f, g, h) refl
 
--- the matches have no file
-pub no_names : (words : List (List ℕ)) (m : ArgMatches) (o : Option (Bor (List (Bor (List ℕ))))) → rows_of (found_of m) ≡ matches_on words
-    → option_map (λ s. map (λ v. v.now) s.now) o ≡ option_map raw_values (matched_of (found_of m) (codes "FILE")) → o ≡ None → files_of words ≡ []
-no_names words m o r g e = sym (ap (λ (x : Option (List (List ℕ))). unwrap_or x [])
-    (ap (option_map (λ (s : Bor (List (Bor (List ℕ)))). map (λ v. v.now) s.now)) (sym e) ∙ g ∙ raw_values-rows (found_of m) (codes "FILE") ∙ ap (all_of (codes "FILE")) r))
-
-no_texts : (names : List (Bor (List ℕ))) → (length names == 0) ≡ true → texts names ≡ []
+-- no name is there
+pub no_texts : (names : List (Bor (List ℕ))) → (length names == 0) ≡ true → texts names ≡ []
 no_texts [] e = refl
 no_texts (n ∷ names) e = let none : length (n ∷ names) ≡ 0 = eqb-true _ _ e in absurd (omega (arith, none))
-
-pub empty_names : (words : List (List ℕ)) (names : List (Bor (List ℕ))) → texts names ≡ files_of words → (length names == 0) ≡ true → files_of words ≡ []
-empty_names words names named e = sym named ∙ no_texts names e
 
 -- ---- over any judge of bytes
 module _ (accepts : Settings → List ℕ → Type 0) (words : List (List ℕ)) (old new : Option (List ℕ)) (kept : Keeps old new) where
   -- the words name no files
-  pub no_files : files_of words ≡ [] → HasNoStatus accepts words old new
-  no_files e = inl (inr e, kept)
+  pub no_files : files_of words ≡ [] → list_file words ≡ None → HasNoStatus accepts words old new
+  no_files e n = inl (inr (e, n), kept)
 
   -- memory ran out
   no_memory : HasNoStatus accepts words old new
-  no_memory = inr (inr (inl (faults.OutOfMemory, inl (inr (inr refl), kept))))
+  no_memory = inr (inr (inl (faults.OutOfMemory, inl (inr (inr (inr (inl refl))), kept))))
 
   -- clap refused the words
   refused_words : (e : Error) → HasKind (refusals_of words) e → HasNoStatus accepts words old new
@@ -114,41 +100,56 @@ unshown accepts words old new e h (inl kept) = refused_words accepts words old n
 unshown accepts words old new e h (inr p) = inr (inl (asked_for words e h p.0, p.1))
 
 module _ (accepts : Settings → List ℕ → Type 0) (words : List (List ℕ)) (asked : Asked) (names : List (List ℕ)) (old new : Option (List ℕ))
-    (asks : asked ≡ asked_by words) (named : names ≡ files_of words) where
+    (asks : asked ≡ asked_by words) (named : NamesFiles words names) where
   -- what was judged is what the words ask for
-  judged_as : (status : Status) (lost : Bool) → ReportsBy accepts asked names old new status lost → ReportsBy accepts (asked_by words) (files_of words) old new status lost
-  judged_as status lost reported =
-      subst (λ a. ReportsBy accepts a (files_of words) old new status lost) asks (subst (λ ns. ReportsBy accepts asked ns old new status lost) named reported)
+  judged_as : (status : Status) (lost : Bool) → ReportsBy accepts asked names old new status lost → ReportsBy accepts (asked_by words) names old new status lost
+  judged_as status lost reported = subst (λ a. ReportsBy accepts a names old new status lost) asks reported
 
-  reports_as : (status : Status) → 0 < length names → ReportsBy accepts asked names old new status false → Reports accepts words old new status
-  reports_as status some reported = record {
-    some = subst (λ (ns : List (List ℕ)). 0 < length ns) named some;
-    reported = judged_as status false reported;
-  }
+  reports_as : (status : Status) → ReportsBy accepts asked names old new status false → Reports accepts words old new status
+  reports_as status reported = record { names = names; named = named; reported = judged_as status false reported }
 
   -- a fault stopped the run
   stopped_as : (f : Fault) → StopsBy accepts asked names old new f → HasNoStatus accepts words old new
-  stopped_as f h = inr (inr (inl (f, subst (λ a. StopsBy accepts a (files_of words) old new f) asks (subst (λ ns. StopsBy accepts asked ns old new f) named h))))
+  stopped_as f h = inr (inr (inl (f, inr (names, named, subst (λ a. StopsBy accepts a names old new f) asks h))))
 
   -- how a run that judged ends
-  ends_by : (n : ℕ) (status : Status) (lost : Bool) → 0 < length names → ReportsBy accepts asked names old new status lost → n ≡ code_of_ended lost status
+  ends_by : (n : ℕ) (status : Status) (lost : Bool) → ReportsBy accepts asked names old new status lost → n ≡ code_of_ended lost status
       → EndsRun accepts words old new n
-  ends_by n status true some h e =
-      (omega (arith, e), λ z. absurd (omega (arith, e, z)), λ z. absurd (omega (arith, e, z)), λ z. inr (inr (inr (status, judged_as status true h))))
-  ends_by n AllValid false some h e =
-      (omega (arith, e), λ z. reports_as AllValid some h, λ z. absurd (omega (arith, e, z)), λ z. absurd (omega (arith, e, z)))
-  ends_by n SomeInvalid false some h e =
-      (omega (arith, e), λ z. absurd (omega (arith, e, z)), λ z. reports_as SomeInvalid some h, λ z. absurd (omega (arith, e, z)))
+  ends_by n status true h e =
+      (omega (arith, e), λ z. absurd (omega (arith, e, z)), λ z. absurd (omega (arith, e, z)), λ z. inr (inr (inr (status, names, named, judged_as status true h))))
+  ends_by n AllValid false h e =
+      (omega (arith, e), λ z. reports_as AllValid h, λ z. absurd (omega (arith, e, z)), λ z. absurd (omega (arith, e, z)))
+  ends_by n SomeInvalid false h e =
+      (omega (arith, e), λ z. absurd (omega (arith, e, z)), λ z. reports_as SomeInvalid h, λ z. absurd (omega (arith, e, z)))
 
-  pub ends_run : (r : Result Ended Fault) (n : ℕ) → 0 < length names → IfOk r (ReportsEnd accepts asked names old new) → IfErr r (StopsBy accepts asked names old new)
+  pub ends_run : (r : Result Ended Fault) (n : ℕ) → IfOk r (ReportsEnd accepts asked names old new) → IfErr r (StopsBy accepts asked names old new)
       → n ≡ code_of r → EndsRun accepts words old new n
-  ends_run (Ok e) n some h f q = ends_by n e.status e.lost some h q
-  ends_run (Err f) n some h g q = (omega (arith, q), λ z. absurd (omega (arith, q, z)), λ z. absurd (omega (arith, q, z)), λ z. stopped_as f g)
+  ends_run (Ok e) n h f q = ends_by n e.status e.lost h q
+  ends_run (Err f) n h g q = (omega (arith, q), λ z. absurd (omega (arith, q, z)), λ z. absurd (omega (arith, q, z)), λ z. stopped_as f g)
 
--- the words name no files: status 2
-pub ends_nameless : (accepts : Settings → List ℕ → Type 0) (words : List (List ℕ)) (old new : Option (List ℕ)) → Keeps old new → files_of words ≡ []
-    → EndsRun accepts words old new 2
-ends_nameless accepts words old new kept none = (lit≤ tt, λ z. absurd (omega (arith, z)), λ z. absurd (omega (arith, z)), λ z. no_files accepts words old new kept none)
+-- the names that a list has, and those that are given one by one
+pub named_by_list : (words names listed : List (List ℕ)) (file : List ℕ) → list_file words ≡ Some file → files_of words ≡ [] → names ≡ listed → HasNames listed
+    → NamesFiles words names
+named_by_list words names listed file e none same h =
+    subst (λ (o : Option (List ℕ)). AreGiven o (files_of words) names) (sym e) (none, subst HasNames (sym same) h)
+
+pub named_one_by_one : (words names : List (List ℕ)) → list_file words ≡ None → names ≡ files_of words → 0 < length names → NamesFiles words names
+named_one_by_one words names e same some = subst (λ (o : Option (List ℕ)). AreGiven o (files_of words) names) (sym e) (same, some)
+
+-- a run with no status of files
+pub ends_without : (accepts : Settings → List ℕ → Type 0) (words : List (List ℕ)) (old new : Option (List ℕ)) (n : ℕ) → n ≡ 2 → HasNoStatus accepts words old new
+    → EndsRun accepts words old new n
+ends_without accepts words old new n e h = (omega (arith, e), λ z. absurd (omega (arith, e, z)), λ z. absurd (omega (arith, e, z)), λ z. h)
+
+-- the words name no files
+pub ends_nameless : (accepts : Settings → List ℕ → Type 0) (words : List (List ℕ)) (old new : Option (List ℕ)) (n : ℕ) → n ≡ 2 → Keeps old new
+    → files_of words ≡ [] → list_file words ≡ None → EndsRun accepts words old new n
+ends_nameless accepts words old new n e kept none no_list = ends_without accepts words old new n e (no_files accepts words old new kept none no_list)
+
+-- it is not known which files they mean, or an option is refused
+pub ends_unnamed : (accepts : Settings → List ℕ → Type 0) (words : List (List ℕ)) (old new : Option (List ℕ)) (n : ℕ) (f : Fault) → n ≡ 2 → Keeps old new
+    → FailsNaming words f ⊎ StopsEarly (asked_by words) f → EndsRun accepts words old new n
+ends_unnamed accepts words old new n f e kept h = ends_without accepts words old new n e (inr (inr (inl (f, inl (h, kept)))))
 
 -- a run that was answered by the help, and by what a fault leaves
 pub asks_table : (words : List (List ℕ)) → AsksForTable (codes "features") words ⊎ AsksForTable (codes "limits") words → AsksForHelp words
@@ -166,7 +167,7 @@ module _ (accepts : Settings → List ℕ → Type 0) (asked : Asked) (c : Chose
         settings = settings_of c;
         mode = c.mode;
         given = given;
-        reported = subst (λ m. GoesOn (ruled m c.mode (accepts (settings_of c))) names old new e.status e.lost) same h.0;
+        reported = subst (λ m. GoesOn (ruled m c.mode accepts (settings_of c)) names old new e.status e.lost) same h.0;
         allowed = h.1;
       }
       at (Err f) h = tt
@@ -182,10 +183,24 @@ module _ (accepts : Settings → List ℕ → Type 0) (asked : Asked) (c : Chose
         settings_of c,
         c.mode,
         given,
-        subst (λ m. StopsFiles (ruled m c.mode (accepts (settings_of c))) names old new f ⊎ ((asked.goes_on ≡ true) × StopsGoingBy (ruled m c.mode (accepts (settings_of c))) names old new f)) same h,
+        subst (λ m. StopsFiles (ruled m c.mode accepts (settings_of c)) names old new f ⊎ ((asked.goes_on ≡ true) × StopsGoingBy (ruled m c.mode accepts (settings_of c)) names old new f)) same h,
       )
 
 -- what is told of a fault, more weakly
 pub err_weaker : {T E : Type 0} (r : Result T E) (P Q : E → Type 0) → ((e : E) → P e → Q e) → IfErr r P → IfErr r Q
 err_weaker (Ok x) P Q f h = tt
 err_weaker (Err e) P Q f h = f e h
+
+-- how a run over these files ends, if they were judged by what was chosen
+pub chosen_run : (accepts : Settings → List ℕ → Type 0) (words : List (List ℕ)) (c : Chosen) (goes_on : Bool) (names : List (List ℕ)) (old new : Option (List ℕ))
+    (r : Result Ended Fault) (n : ℕ) → IsChosen (asked_by words) c goes_on → NamesFiles words names
+    → IfOk r (λ e. EndsBy (ruling_of accepts c) names old new e × ((e.lost ≡ false) ⊎ (goes_on ≡ true)))
+    → IfErr r (λ f. StopsFiles (ruling_of accepts c) names old new f ⊎ ((goes_on ≡ true) × StopsGoingBy (ruling_of accepts c) names old new f))
+    → n ≡ code_of r → EndsRun accepts words old new n
+chosen_run accepts words c goes_on names old new r n chosen named ok err code =
+    let asked = asked_by words in
+    let ok_by = subst (λ (b : Bool). IfOk r (λ e. EndsBy (ruling_of accepts c) names old new e × ((e.lost ≡ false) ⊎ (b ≡ true)))) chosen.2 ok in
+    let err_by = subst (λ (b : Bool). IfErr r (λ f. StopsFiles (ruling_of accepts c) names old new f ⊎ ((b ≡ true) × StopsGoingBy (ruling_of accepts c) names old new f)))
+    chosen.2 err in
+    ends_run accepts words asked names old new refl named r n (judged_by accepts asked c names old new r chosen.0 chosen.1 ok_by)
+    (stopped_by accepts asked c names old new r chosen.0 chosen.1 err_by) code

@@ -86,6 +86,8 @@ fails_among some all faults.OutOfMemory among h = tt
 fails_among some all (faults.CannotHold reason) among h = absurd h
 fails_among some all (faults.UnknownFeature word) among h = absurd h
 fails_among some all (faults.WrongPieces word) among h = absurd h
+fails_among some all (faults.Clash first second) among h = absurd h
+fails_among some all faults.NoFiles among h = absurd h
 fails_among some all (faults.WrongLimit wrong word) among h = absurd h
 
 -- a file that is one of these cannot be opened
@@ -96,6 +98,8 @@ fails_named names name faults.OutOfMemory has h = absurd h
 fails_named names name (faults.CannotHold reason) has h = absurd h
 fails_named names name (faults.UnknownFeature word) has h = absurd h
 fails_named names name (faults.WrongPieces word) has h = absurd h
+fails_named names name (faults.Clash first second) has h = absurd h
+fails_named names name faults.NoFiles has h = absurd h
 fails_named names name (faults.WrongLimit wrong word) has h = absurd h
 
 pub fails_at : (names : List (List ℕ)) (place : ℕ) (name : List ℕ) (f : Fault) → slice_get names place ≡ Some name → CannotOpen name f → FailsOpening names f
@@ -198,9 +202,9 @@ select_all (suc n) (x ∷ all) h = ap (λ ns. x ∷ ns) (select_all n all (omega
 -- however inputs are read, lines are written in the manner that was chosen
 pub enough_by : (accepts : Settings → List ℕ → Type 0) (c : Chosen) (status : Status) (b : Bool) → b ≡ is_enough c.form status
     → is_enough (ruling_of accepts c).manner.form status ≡ b
-enough_by accepts c status b e = ap (λ (m : Manner). is_enough m.form status) (same c.mode (accepts (settings_by c.features.0 c.limits))) ∙ sym e
+enough_by accepts c status b e = ap (λ (m : Manner). is_enough m.form status) (same c.mode (settings_by c.features.0 c.limits)) ∙ sym e
   where
-    same : (mode : Mode) (valid : List ℕ → Type 0) → (ruled (manner_of c) mode valid).manner ≡ manner_of c
+    same : (mode : Mode) (z : Settings) → (ruled (manner_of c) mode accepts z).manner ≡ manner_of c
     same Whole valid = refl
     same (Pieces piece) valid = refl
 
@@ -323,6 +327,8 @@ module _ (ruling : Ruling) where
   stops_at all name index old mid new status (faults.CannotHold reason) r found h = absurd h
   stops_at all name index old mid new status (faults.UnknownFeature word) r found h = absurd h
   stops_at all name index old mid new status (faults.WrongPieces word) r found h = absurd h
+  stops_at all name index old mid new status (faults.Clash first second) r found h = absurd h
+  stops_at all name index old mid new status faults.NoFiles r found h = absurd h
   stops_at all name index old mid new status (faults.WrongLimit wrong word) r found h = absurd h
 
   -- a file that could not be opened again: nothing was written of it
@@ -334,6 +340,8 @@ module _ (ruling : Ruling) where
   fails_again index name old (faults.CannotHold reason) h = absurd h
   fails_again index name old (faults.UnknownFeature word) h = absurd h
   fails_again index name old (faults.WrongPieces word) h = absurd h
+  fails_again index name old (faults.Clash first second) h = absurd h
+  fails_again index name old faults.NoFiles h = absurd h
   fails_again index name old (faults.WrongLimit wrong word) h = absurd h
 
   -- ---- a flush
@@ -374,6 +382,8 @@ module _ (ruling : Ruling) where
   files_unflushed (Err (faults.CannotHold reason)) names old mid new told h e kept = after_nothing names old mid new told e kept
   files_unflushed (Err (faults.UnknownFeature word)) names old mid new told h e kept = absurd e
   files_unflushed (Err (faults.WrongPieces word)) names old mid new told h e kept = absurd e
+  files_unflushed (Err (faults.Clash first second)) names old mid new told h e kept = absurd e
+  files_unflushed (Err faults.NoFiles) names old mid new told h e kept = absurd e
   files_unflushed (Err (faults.WrongLimit wrong word)) names old mid new told h e kept = absurd e
 
   -- a flush changes nothing
@@ -407,6 +417,8 @@ module _ (ruling : Ruling) where
   faults_flushed (Err (faults.CannotHold reason)) names old mid new h kept = Keeps-trans old mid new h kept
   faults_flushed (Err (faults.UnknownFeature word)) names old mid new h kept = absurd h
   faults_flushed (Err (faults.WrongPieces word)) names old mid new h kept = absurd h
+  faults_flushed (Err (faults.Clash first second)) names old mid new h kept = absurd h
+  faults_flushed (Err faults.NoFiles) names old mid new h kept = absurd h
   faults_flushed (Err (faults.WrongLimit wrong word)) names old mid new h kept = absurd h
 
   -- ---- files of which some come to no verdict
@@ -479,6 +491,8 @@ module _ (ruling : Ruling) where
   goes_unwritten all name place old mid new status lost (faults.CannotHold reason) g found h w = absurd h
   goes_unwritten all name place old mid new status lost (faults.UnknownFeature word) g found h w = absurd h
   goes_unwritten all name place old mid new status lost (faults.WrongPieces word) g found h w = absurd h
+  goes_unwritten all name place old mid new status lost (faults.Clash first second) g found h w = absurd h
+  goes_unwritten all name place old mid new status lost faults.NoFiles g found h w = absurd h
   goes_unwritten all name place old mid new status lost (faults.WrongLimit wrong word) g found h w = absurd h
 
   -- nothing was written of it
@@ -492,6 +506,8 @@ module _ (ruling : Ruling) where
   loses_kept name old new (faults.CannotHold reason) h w = absurd h
   loses_kept name old new (faults.UnknownFeature word) h w = absurd h
   loses_kept name old new (faults.WrongPieces word) h w = absurd h
+  loses_kept name old new (faults.Clash first second) h w = absurd h
+  loses_kept name old new faults.NoFiles h w = absurd h
   loses_kept name old new (faults.WrongLimit wrong word) h w = absurd h
 
   -- what stops one file, if the others are judged all the same
@@ -505,6 +521,8 @@ module _ (ruling : Ruling) where
   loses_by index name old new (faults.CannotHold reason) h = absurd h
   loses_by index name old new (faults.UnknownFeature word) h = absurd h
   loses_by index name old new (faults.WrongPieces word) h = absurd h
+  loses_by index name old new (faults.Clash first second) h = absurd h
+  loses_by index name old new faults.NoFiles h = absurd h
   loses_by index name old new (faults.WrongLimit wrong word) h = absurd h
 
   -- files that all came to a verdict
@@ -559,6 +577,8 @@ module _ (ruling : Ruling) where
   going_faults_flushed (Err (faults.CannotHold reason)) names old mid new h kept = Keeps-trans old mid new h kept
   going_faults_flushed (Err (faults.UnknownFeature word)) names old mid new h kept = absurd h
   going_faults_flushed (Err (faults.WrongPieces word)) names old mid new h kept = absurd h
+  going_faults_flushed (Err (faults.Clash first second)) names old mid new h kept = absurd h
+  going_faults_flushed (Err faults.NoFiles) names old mid new h kept = absurd h
   going_faults_flushed (Err (faults.WrongLimit wrong word)) names old mid new h kept = absurd h
 
   -- nothing more is an empty text more
@@ -594,4 +614,6 @@ module _ (ruling : Ruling) where
       unflushed_after names [] old mid new AllValid (omega arith) (reports_kept [] old old mid AllValid (reports_none old) f) kept
   going_unflushed (Err (faults.UnknownFeature word)) names old mid new h f kept = absurd f
   going_unflushed (Err (faults.WrongPieces word)) names old mid new h f kept = absurd f
+  going_unflushed (Err (faults.Clash first second)) names old mid new h f kept = absurd f
+  going_unflushed (Err faults.NoFiles) names old mid new h f kept = absurd f
   going_unflushed (Err (faults.WrongLimit wrong word)) names old mid new h f kept = absurd f

@@ -3,3 +3,5 @@ pub mod LineLemmas
 pub mod ReportLemmas
 pub mod FileReports
 pub mod FileLemmas
+mod NeedsLemmas
+mod NameLemmas

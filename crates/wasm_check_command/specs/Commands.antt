@@ -1,9 +1,9 @@
 -- Worked command lines: what clap answers to them, which files they name, and which lists their options have.
 use Rattle.std.specs.Prelude.{◌≡◌, List, [], ◌∷◌, Some, None, true, false, codes, ℕ}
-use Rattle.clap.specs.declared.error.kind.ErrorKind.TheVariants.{ArgumentConflict, DisplayHelp, DisplayVersion, InvalidValue, MissingRequiredArgument, TooManyValues, UnknownArgument}
+use Rattle.clap.specs.declared.error.kind.ErrorKind.TheVariants.{ArgumentConflict, DisplayHelp, DisplayVersion, InvalidValue, TooManyValues, UnknownArgument}
 use Rattle.wasm_check_command.specs.declared.judging.Mode.TheVariants.{Whole, Pieces}
 use Rattle.wasm_check_command.specs.Settings.{mode_by}
-use Rattle.wasm_check_command.specs.Words.{refusals_of, files_of, features_lists, limits_lists, has_flag, pieces_number}
+use Rattle.wasm_check_command.specs.Words.{refusals_of, files_of, list_file, features_lists, limits_lists, has_flag, pieces_number}
 
 -- these words behind the program's own
 abbrev pub line_of : List (List ℕ) → List (List ℕ)
@@ -31,7 +31,10 @@ pub record AreRead : Type 0 where
   pub behind_dashes : Names (line_of (codes "--" ∷ codes "--help" ∷ codes "b" ∷ [])) (codes "--help" ∷ codes "b" ∷ [])
   pub help : refusals_of (line_of (codes "--help" ∷ [])) ≡ DisplayHelp ∷ []
   pub version : refusals_of (line_of (codes "--version" ∷ [])) ≡ DisplayVersion ∷ []
-  pub none : refusals_of (line_of []) ≡ MissingRequiredArgument ∷ []
+  pub none : Names (line_of []) []
+  pub named_by_list : list_file (line_of (codes "--files0-from" ∷ codes "-" ∷ [])) ≡ Some (codes "-")
+  pub no_list_file : list_file (line_of (codes "--" ∷ codes "--files0-from=x" ∷ [])) ≡ None
+  pub two_list_files : refusals_of (line_of (codes "--files0-from=x" ∷ codes "--files0-from=y" ∷ [])) ≡ ArgumentConflict ∷ []
   pub unknown : refusals_of (line_of (codes "--all" ∷ codes "a" ∷ [])) ≡ UnknownArgument ∷ []
   pub no_list : NamesOne (line_of (codes "a" ∷ [])) (codes "a") [] []
   pub list : NamesOne (line_of (codes "--features" ∷ codes "mvp,gc" ∷ codes "a" ∷ [])) (codes "a") (codes "mvp,gc" ∷ []) []
@@ -58,6 +61,7 @@ pub record AreRead : Type 0 where
   pub no_flag : has_flag (codes "vectors") (line_of (codes "a" ∷ [])) ≡ false
   pub flag : has_flag (codes "vectors") (line_of (codes "--vectors" ∷ codes "a" ∷ [])) ≡ true
   pub flag_behind : has_flag (codes "keep-going") (line_of (codes "a" ∷ codes "--keep-going" ∷ [])) ≡ true
+  pub needs_flag : has_flag (codes "needs") (line_of (codes "--needs" ∷ codes "a" ∷ [])) ≡ true
   pub other_flag : has_flag (codes "json") (line_of (codes "--quiet" ∷ codes "a" ∷ [])) ≡ false
   pub flag_as_file : has_flag (codes "json") (line_of (codes "--" ∷ codes "--json" ∷ [])) ≡ false
   pub flag_with_value : refusals_of (line_of (codes "--json=yes" ∷ codes "a" ∷ [])) ≡ TooManyValues ∷ []

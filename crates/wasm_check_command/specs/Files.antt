@@ -1,10 +1,11 @@
 -- What the program does with the files that it is given.
-use Rattle.std.specs.Prelude.{◌≡◌, ℕ, Bool, IsTrue, true, false, ◌<◌, ◌≤◌, ◌⊎◌, length, List, [], ◌∷◌, map, take, Contains, slice_get, option_map, Option, Some, None, Result, Ok, Err}
+use Rattle.std.specs.Prelude.{◌≡◌, ◌≢◌, codes, ℕ, Bool, IsTrue, true, false, ◌<◌, ◌≤◌, ◌⊎◌, length, List, [], ◌∷◌, map, take, Contains, slice_get, option_map, Option, Some, None, Result, Ok, Err}
 use Rattle.std.specs.Borrow.{Bor}
 use Rattle.std.specs.Io.KnownBytes.{Appends, Keeps}
 use Rattle.clap.specs.declared.error.kind.ErrorKind.{ErrorKind}
 use Rattle.wasm_check_faults.specs.declared.error.CheckError.{CheckError}
 use Rattle.wasm_check_faults.specs.declared.error.CheckError.TheVariants.{Read, TooLong, OutOfMemory, Write}
+use Rattle.wasm_check_command.specs.declared.judging.Chosen.{Chosen}
 use Rattle.wasm_check_command.specs.declared.judging.Mode.{Mode}
 use Rattle.wasm_check_command.specs.declared.judging.Status.{Status}
 use Rattle.wasm_check_command.specs.declared.judging.Status.TheVariants.{AllValid, SomeInvalid}
@@ -13,13 +14,14 @@ use Rattle.wasm_check_command.specs.declared.command.Options.{Options}
 use Rattle.wasm_check_command.specs.declared.files.Ended.{Ended}
 use Rattle.wasm_check_faults.specs.declared.faults.Fault.TheVariants as faults
 use Rattle.wasm_types.specs.settings.Settings.{Settings}
-use Rattle.wasm_check_command.specs.Words.{files_of, IsHelp, AsksForHelp, NamesNoFiles}
-use Rattle.wasm_check_command.specs.Settings.{Asked, IsGiven, IsUnknownIn, IsWrongIn, asked_by, manner_by, features_by, mode_by}
+use Rattle.wasm_check_command.specs.Words.{files_of, list_file, IsHelp, AsksForHelp, NamesNoFiles}
+use Rattle.wasm_check_command.specs.Settings.{Asked, IsGiven, IsUnknownIn, IsWrongIn, asked_by, manner_by, features_by, mode_by, settings_of}
 use Rattle.wasm_check_command.specs.Lines.{BeginsLineOf}
 use Rattle.wasm_check_lines.specs.declared.forms.Form.{Form}
 use Rattle.wasm_check_lines.specs.declared.forms.Form.TheVariants.{Lines, Json, Quiet}
-use Rattle.wasm_check_command.specs.Modes.{Ruling, ruled}
+use Rattle.wasm_check_command.specs.Modes.{Ruling, manner_of, ruled}
 use Rattle.wasm_check_command.specs.Opened.{kept_open}
+use Rattle.wasm_check_command.specs.Names.{AreNames}
 use Rattle.wasm_check_command.specs.Verdict.{IsJudged, FailsAt}
 use Rattle.wasm_check_command.specs.Reports.{Source, IsReported, Stops}
 
@@ -122,6 +124,8 @@ FailsFile ruling index name old new faults.OutOfMemory = ⊥
 FailsFile ruling index name old new (faults.CannotHold reason) = ⊥
 FailsFile ruling index name old new (faults.UnknownFeature word) = ⊥
 FailsFile ruling index name old new (faults.WrongPieces word) = ⊥
+FailsFile ruling index name old new (faults.Clash first second) = ⊥
+FailsFile ruling index name old new faults.NoFiles = ⊥
 FailsFile ruling index name old new (faults.WrongLimit wrong word) = ⊥
 
 -- The file of this name, at this place, could not be opened again in its turn. That each of the first ones can be opened is known before the
@@ -133,6 +137,8 @@ FailsAgain index name faults.OutOfMemory = ⊥
 FailsAgain index name (faults.CannotHold reason) = ⊥
 FailsAgain index name (faults.UnknownFeature word) = ⊥
 FailsAgain index name (faults.WrongPieces word) = ⊥
+FailsAgain index name (faults.Clash first second) = ⊥
+FailsAgain index name faults.NoFiles = ⊥
 FailsAgain index name (faults.WrongLimit wrong word) = ⊥
 
 -- this file could not be opened
@@ -143,6 +149,8 @@ CannotOpen name faults.OutOfMemory = ⊥
 CannotOpen name (faults.CannotHold reason) = ⊥
 CannotOpen name (faults.UnknownFeature word) = ⊥
 CannotOpen name (faults.WrongPieces word) = ⊥
+CannotOpen name (faults.Clash first second) = ⊥
+CannotOpen name faults.NoFiles = ⊥
 CannotOpen name (faults.WrongLimit wrong word) = ⊥
 
 -- opening these files failed
@@ -153,6 +161,8 @@ FailsOpening names faults.OutOfMemory = Unit {0}
 FailsOpening names (faults.CannotHold reason) = ⊥
 FailsOpening names (faults.UnknownFeature word) = ⊥
 FailsOpening names (faults.WrongPieces word) = ⊥
+FailsOpening names (faults.Clash first second) = ⊥
+FailsOpening names faults.NoFiles = ⊥
 FailsOpening names (faults.WrongLimit wrong word) = ⊥
 
 -- What a fault leaves: where a file could not be opened before the first was judged, nothing was written.
@@ -164,6 +174,8 @@ StopsFiles ruling names old new faults.OutOfMemory = Keeps old new
 StopsFiles ruling names old new (faults.CannotHold reason) = Keeps old new
 StopsFiles ruling names old new (faults.UnknownFeature word) = ⊥
 StopsFiles ruling names old new (faults.WrongPieces word) = ⊥
+StopsFiles ruling names old new (faults.Clash first second) = ⊥
+StopsFiles ruling names old new faults.NoFiles = ⊥
 StopsFiles ruling names old new (faults.WrongLimit wrong word) = ⊥
 
 -- The file of this name came to no verdict, and nothing was written of it; or its line could not be written: at most a front of it was.
@@ -178,6 +190,8 @@ LosesFile ruling name old new faults.OutOfMemory = ⊥
 LosesFile ruling name old new (faults.CannotHold reason) = ⊥
 LosesFile ruling name old new (faults.UnknownFeature word) = ⊥
 LosesFile ruling name old new (faults.WrongPieces word) = ⊥
+LosesFile ruling name old new (faults.Clash first second) = ⊥
+LosesFile ruling name old new faults.NoFiles = ⊥
 LosesFile ruling name old new (faults.WrongLimit wrong word) = ⊥
 
 -- the fault is that a line could not be written
@@ -191,6 +205,8 @@ is_unwritten faults.OutOfMemory = false
 is_unwritten (faults.CannotHold reason) = false
 is_unwritten (faults.UnknownFeature word) = false
 is_unwritten (faults.WrongPieces word) = false
+is_unwritten (faults.Clash first second) = false
+is_unwritten faults.NoFiles = false
 is_unwritten (faults.WrongLimit wrong word) = false
 
 -- The writing failed while files were judged of which some came to no verdict: what stands written are the lines of those that were judged
@@ -221,11 +237,15 @@ StopsGoingBy ruling names old new (faults.Stopped error told reason) = (error �
 StopsGoingBy ruling names old new faults.OutOfMemory = ⊥
 StopsGoingBy ruling names old new (faults.UnknownFeature word) = ⊥
 StopsGoingBy ruling names old new (faults.WrongPieces word) = ⊥
+StopsGoingBy ruling names old new (faults.Clash first second) = ⊥
+StopsGoingBy ruling names old new faults.NoFiles = ⊥
 StopsGoingBy ruling names old new (faults.WrongLimit wrong word) = ⊥
 
 -- this number of `--pieces` is refused
 abbrev pub RefusesPieces : Option (List ℕ) → Fault → Type 0
 RefusesPieces number (faults.WrongPieces word) = (number ≡ Some word.now) × (mode_by number ≡ None)
+RefusesPieces number (faults.Clash first second) = ⊥
+RefusesPieces number faults.NoFiles = ⊥
 RefusesPieces number (faults.UnknownFeature word) = ⊥
 RefusesPieces number (faults.WrongLimit wrong word) = ⊥
 RefusesPieces number (faults.CannotOpen name reason) = ⊥
@@ -237,6 +257,8 @@ RefusesPieces number (faults.CannotHold reason) = ⊥
 abbrev pub RefusesFeatures : List (List ℕ) → Fault → Type 0
 RefusesFeatures lists (faults.UnknownFeature word) = IsUnknownIn lists word.now
 RefusesFeatures lists (faults.WrongPieces word) = ⊥
+RefusesFeatures lists (faults.Clash first second) = ⊥
+RefusesFeatures lists faults.NoFiles = ⊥
 RefusesFeatures lists (faults.WrongLimit wrong word) = ⊥
 RefusesFeatures lists (faults.CannotOpen name reason) = ⊥
 RefusesFeatures lists (faults.Stopped error name reason) = ⊥
@@ -247,6 +269,8 @@ RefusesFeatures lists (faults.CannotHold reason) = ⊥
 abbrev pub RefusesLimits : List (List ℕ) → Fault → Type 0
 RefusesLimits lists (faults.UnknownFeature word) = ⊥
 RefusesLimits lists (faults.WrongPieces word) = ⊥
+RefusesLimits lists (faults.Clash first second) = ⊥
+RefusesLimits lists faults.NoFiles = ⊥
 RefusesLimits lists (faults.WrongLimit wrong word) = IsWrongIn lists wrong word.now
 RefusesLimits lists (faults.CannotOpen name reason) = ⊥
 RefusesLimits lists (faults.Stopped error name reason) = ⊥
@@ -258,10 +282,27 @@ abbrev pub RefusesLists : Asked → Fault → Type 0
 RefusesLists asked fault = RefusesFeatures asked.features fault
     ⊎ (((features : ℕ) × (features_by asked.features ≡ Ok features)) × RefusesLimits asked.limits fault)
 
--- The run stopped before any file was opened: the number of `--pieces` is refused; or it is not, and a list is; or memory ran out.
+-- these two options do not go together, and are there
+abbrev pub Clashes : Asked → List ℕ → List ℕ → Type 0
+Clashes asked first second = IsTrue asked.needs × (first ≡ codes "--needs")
+    × (((second ≡ codes "--features <LIST>") × (asked.features ≢ [])) ⊎ ((second ≡ codes "--pieces <N>") × (asked.pieces ≢ None)))
+
+abbrev pub RefusesTogether : Asked → Fault → Type 0
+RefusesTogether asked (faults.Clash first second) = Clashes asked first.now second.now
+RefusesTogether asked faults.NoFiles = ⊥
+RefusesTogether asked (faults.UnknownFeature word) = ⊥
+RefusesTogether asked (faults.WrongPieces word) = ⊥
+RefusesTogether asked (faults.WrongLimit wrong word) = ⊥
+RefusesTogether asked (faults.CannotOpen name reason) = ⊥
+RefusesTogether asked (faults.Stopped error name reason) = ⊥
+RefusesTogether asked faults.OutOfMemory = ⊥
+RefusesTogether asked (faults.CannotHold reason) = ⊥
+
+-- The run stopped before any file was opened: the number of `--pieces` is refused; or it is not, and a list is; or memory ran out, or two
+-- options do not go together.
 abbrev pub StopsEarly : Asked → Fault → Type 0
 StopsEarly asked fault = RefusesPieces asked.pieces fault
-    ⊎ ((((mode : Mode) × (mode_by asked.pieces ≡ Some mode)) × RefusesLists asked fault) ⊎ (fault ≡ faults.OutOfMemory))
+    ⊎ ((((mode : Mode) × (mode_by asked.pieces ≡ Some mode)) × RefusesLists asked fault) ⊎ ((fault ≡ faults.OutOfMemory) ⊎ RefusesTogether asked fault))
 
 -- the exit status: a file that came to no verdict goes before one that is invalid
 abbrev pub code_of_status : Status → ℕ
@@ -290,8 +331,13 @@ asked_of o = record {
   vectors = o.vectors;
   form = o.form;
   explains = o.explains;
+  needs = o.needs;
   goes_on = o.goes_on;
 }
+
+-- these settings, this mode and this manner are asked for, and whether the judging goes on
+abbrev pub IsChosen : Asked → Chosen → Bool → Type 0
+IsChosen asked c goes_on = IsGiven asked (settings_of c) c.mode × (manner_of c ≡ manner_by asked) × (goes_on ≡ asked.goes_on)
 
 -- What is asked for was done: these files were judged by the settings that the options give, each with a line; or, if `lost` says so, some of
 -- them came to no verdict, which only `--keep-going` allows.
@@ -300,8 +346,36 @@ pub record ReportsBy (accepts : Settings → List ℕ → Type 0) (asked : Asked
   pub settings : Settings
   pub mode : Mode
   pub given : IsGiven asked settings mode
-  pub reported : GoesOn (ruled (manner_by asked) mode (accepts settings)) names old new status lost
+  pub reported : GoesOn (ruled (manner_by asked) mode accepts settings) names old new status lost
   pub allowed : (lost ≡ false) ⊎ (asked.goes_on ≡ true)
+
+-- some list has these names
+abbrev pub HasNames : List (List ℕ) → Type 0
+HasNames names = (list : List ℕ) × AreNames list names
+
+-- These are the names that the words give: one by one, at least one; or by a list that some file has.
+abbrev pub AreGiven : Option (List ℕ) → List (List ℕ) → List (List ℕ) → Type 0
+AreGiven None given names = (names ≡ given) × (0 < length names)
+AreGiven (Some file) given names = (given ≡ []) × HasNames names
+
+abbrev pub NamesFiles : List (List ℕ) → List (List ℕ) → Type 0
+NamesFiles words names = AreGiven (list_file words) (files_of words) names
+
+-- the list in this file could not be read, or these files are given too
+abbrev pub IsListFault : List ℕ → List (List ℕ) → Fault → Type 0
+IsListFault file given (faults.CannotOpen name reason) = name.now ≡ file
+IsListFault file given (faults.Stopped error name reason) = (name.now ≡ file) × (error ≢ Write)
+IsListFault file given faults.OutOfMemory = Unit {0}
+IsListFault file given (faults.CannotHold reason) = ⊥
+IsListFault file given (faults.UnknownFeature word) = ⊥
+IsListFault file given (faults.WrongPieces word) = ⊥
+IsListFault file given (faults.Clash first second) = given ≢ []
+IsListFault file given faults.NoFiles = ⊥
+IsListFault file given (faults.WrongLimit wrong word) = ⊥
+
+-- it is not known which files are meant: the list that the words name cannot be read, or files are named too
+abbrev pub FailsNaming : List (List ℕ) → Fault → Type 0
+FailsNaming words fault = (file : List ℕ) × (list_file words ≡ Some file) × IsListFault file (files_of words) fault
 
 -- what an ending says
 abbrev pub ReportsEnd : (Settings → List ℕ → Type 0) → Asked → List (List ℕ) → Option (List ℕ) → Option (List ℕ) → Ended → Type 0
@@ -312,23 +386,26 @@ ReportsEnd accepts asked names old new e = ReportsBy accepts asked names old new
 abbrev pub StopsBy : (Settings → List ℕ → Type 0) → Asked → List (List ℕ) → Option (List ℕ) → Option (List ℕ) → Fault → Type 0
 StopsBy accepts asked names old new fault = (StopsEarly asked fault × Keeps old new)
     ⊎ ((z : Settings) × (mode : Mode) × IsGiven asked z mode
-    × (StopsFiles (ruled (manner_by asked) mode (accepts z)) names old new fault
-    ⊎ ((asked.goes_on ≡ true) × StopsGoingBy (ruled (manner_by asked) mode (accepts z)) names old new fault)))
+    × (StopsFiles (ruled (manner_by asked) mode accepts z) names old new fault
+    ⊎ ((asked.goes_on ≡ true) × StopsGoingBy (ruled (manner_by asked) mode accepts z) names old new fault)))
 
 -- some file of these words came to no verdict, and those that did have their lines
 abbrev pub LosesSome : (Settings → List ℕ → Type 0) → List (List ℕ) → Option (List ℕ) → Option (List ℕ) → Type 0
-LosesSome accepts words old new = (status : Status) × ReportsBy accepts (asked_by words) (files_of words) old new status true
+LosesSome accepts words old new = (status : Status) × (names : List (List ℕ)) × NamesFiles words names
+    × ReportsBy accepts (asked_by words) names old new status true
 
 -- some fault stopped the run on these words, and left this
 abbrev pub IsStopped : (Settings → List ℕ → Type 0) → List (List ℕ) → Option (List ℕ) → Option (List ℕ) → Type 0
-IsStopped accepts words old new = (fault : Fault) × StopsBy accepts (asked_by words) (files_of words) old new fault
+IsStopped accepts words old new = (fault : Fault) × (((FailsNaming words fault ⊎ StopsEarly (asked_by words) fault) × Keeps old new)
+    ⊎ ((names : List (List ℕ)) × NamesFiles words names × StopsBy accepts (asked_by words) names old new fault))
 
--- The files of these words, at least one, were judged by the settings that the words ask for: a line was written for each, and the status
+-- The files of these words were judged by the settings that the words ask for: a line was written for each, and the status
 -- says whether all are valid.
 pub record Reports (accepts : Settings → List ℕ → Type 0) (words : List (List ℕ)) (old new : Option (List ℕ))
     (status : Status) : Type 0 where
-  pub some : 0 < length (files_of words)
-  pub reported : ReportsBy accepts (asked_by words) (files_of words) old new status false
+  pub names : List (List ℕ)
+  pub named : NamesFiles words names
+  pub reported : ReportsBy accepts (asked_by words) names old new status false
 
 -- some text was written, and nothing else
 abbrev pub Grows : Option (List ℕ) → Option (List ℕ) → Type 0

@@ -6,6 +6,7 @@ pub mod Lines
 pub mod Faults
 pub mod Verdict
 pub mod Reports
+pub mod Names
 pub mod Words
 pub mod Settings
 pub mod Commands

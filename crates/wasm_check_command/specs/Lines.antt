@@ -3,7 +3,7 @@ use Rattle.std.specs.Prelude.{◌≡◌, ℕ, ◌⊎◌, IsTrue, List, [], ◌++
 use Rattle.wasm_types.specs.decoding.ErrorValue.{ErrorValue}
 use Rattle.wasm_types.specs.settings.declared.Limits.{Limits}
 use Rattle.wasm_check_lines.specs.declared.notes.Explanation.{Explanation}
-use Rattle.wasm_check_lines.specs.Forms.{valid_text, refused_text}
+use Rattle.wasm_check_lines.specs.Forms.{refused_text}
 use Rattle.wasm_check_command.specs.Modes.{Ruling, AreLeft}
 use Rattle.wasm_check_command.specs.Manners.{Manner}
 
@@ -16,9 +16,9 @@ pub record HasBytes (ruling : Ruling) (said : Option (List ℕ)) (bytes : List �
 abbrev pub IsExplained : Manner → Option Explanation → Type 0
 IsExplained manner x = IsTrue manner.explains ⊎ (x ≡ None)
 
--- The text says of these bytes whether they spell a valid module; where they do not, it tells an error, and maybe an explanation.
+-- The text says of these bytes whether they spell a valid module, and may say by which features; where they do not, it tells an error, and maybe an explanation.
 abbrev pub IsLine : Ruling → List ℕ → List ℕ → List ℕ → Type 0
-IsLine ruling name bytes line = (ruling.accepts bytes × (line ≡ valid_text ruling.manner.form name))
+IsLine ruling name bytes line = (ruling.accepts bytes × ruling.tells bytes name line)
     ⊎ (¬ ruling.accepts bytes × ((e : ErrorValue) × (limits : Limits) × (x : Option Explanation) × IsExplained ruling.manner x
     × (line ≡ refused_text ruling.manner.form ruling.manner.explains name limits e (ruling.seen bytes) x)))
 

@@ -1,11 +1,18 @@
 -- How inputs are read: whole, or in pieces as they come. An input that comes in pieces is judged while it is read, so it may be refused long
 -- before its end; and none is read past 2^30 bytes.
-use Rattle.std.specs.Prelude.{◌≡◌, ℕ, ◌≤◌, ◌<◌, ◌+◌, ◌^◌, List, [], length, IfSome, Option}
+use Rattle.std.specs.Prelude.{◌≡◌, ℕ, ◌≤◌, ◌<◌, ◌+◌, ◌^◌, Bool, true, false, List, [], length, IfSome, Option}
+use Rattle.std.specs.Int.RustNames.{bit_or}
 use Rattle.std.specs.Io.KnownBytes.{Consumes}
 use Rattle.wasm_types.specs.decoding.Denials.{UnlessMemory}
+use Rattle.wasm_types.specs.settings.Features.{vectors_bit}
 use Rattle.wasm_types.specs.settings.Limits.{IsWithinCeilings}
+use Rattle.wasm_types.specs.settings.Sets.{bits_of}
 use Rattle.wasm_types.specs.settings.declared.Limits.{Limits}
 use Rattle.wasm_types.specs.settings.Settings.{Settings}
+use Rattle.wasm_check_lines.specs.Forms.{valid_text}
+use Rattle.wasm_check_lines.specs.declared.forms.Form.{Form}
+use Rattle.wasm_check_faults.specs.FeatureLists.{all_features}
+use Rattle.wasm_check_faults.specs.WordLists.{IsLeast, needs_text}
 use Rattle.wasm_check_command.specs.Manners.{Manner, plain}
 use Rattle.wasm_check_command.specs.declared.judging.Chosen.{Chosen}
 use Rattle.wasm_check_command.specs.declared.judging.Mode.{Mode}
@@ -30,31 +37,61 @@ IsTooLong said = IfSome said (λ xs. 2 ^ 30 < length xs)
 abbrev pub ReadsWithin : Option (List ℕ) → Option (List ℕ) → Type 0
 ReadsWithin before after = (got : List ℕ) × Consumes before after got × (length got ≤ 2 ^ 30 + 1)
 
--- By what lines are written: which bytes are valid, which an input may have of which a line is written, how they are written, and the first
--- bytes by which the line of a refusal says what a person can do.
+-- all features, and the switch for operators on vectors
+abbrev pub all_bits : ℕ
+all_bits = bit_or (bits_of all_features) vectors_bit
+
+-- what bytes are judged by: if it is to be told which features they need, by all of them
+abbrev pub judged_by : Bool → Settings → Settings
+judged_by true z = settings_by all_bits z.limits
+judged_by false z = z
+
+-- by which features bytes are valid under these limits
+abbrev pub by_features : (Settings → List ℕ → Type 0) → Limits → List ℕ → ℕ → Type 0
+by_features accepts limits bytes features = accepts (settings_by features limits) bytes
+
+-- What is written of valid bytes in a file of this name: that they are valid, or the least list of features by which they are.
+abbrev pub TellsValid : Bool → Form → (ℕ → Type 0) → List ℕ → List ℕ → Type 0
+TellsValid true form accepts name line = (words : List (List ℕ)) × IsLeast accepts words × (line ≡ needs_text form name words)
+TellsValid false form accepts name line = line ≡ valid_text form name
+
+-- By what lines are written: which bytes are valid, which an input may have of which a line is written, what is written of valid bytes in a file
+-- of a name, how lines are written, and the first bytes by which the line of a refusal says what a person can do.
 pub record Ruling : Type 1 where
   pub accepts : List ℕ → Type 0
   pub fits : List ℕ → Type 0
+  pub tells : List ℕ → List ℕ → List ℕ → Type 0
   pub manner : Manner
   pub seen : List ℕ → List ℕ
 
 -- An input that is read whole has at most 2^30 bytes, if a line is written of it. One that comes in pieces may be refused before its end,
--- however long it is, and of its first bytes the line tells nothing.
-abbrev pub ruled : Manner → Mode → (List ℕ → Type 0) → Ruling
-ruled manner Whole accepts = record { accepts = accepts; fits = IsShort; manner = manner; seen = λ bytes. bytes }
-ruled manner (Pieces piece) accepts =
-    record { accepts = λ bytes. IsCounted bytes × accepts bytes; fits = λ bytes. Unit {0}; manner = manner; seen = λ bytes. [] }
+-- however long it is, and of its first bytes the line tells nothing; nor does it tell which features the input needs.
+abbrev pub ruled : Manner → Mode → (Settings → List ℕ → Type 0) → Settings → Ruling
+ruled manner Whole accepts z = record {
+  accepts = accepts (judged_by manner.needs z);
+  fits = IsShort;
+  tells = λ bytes. TellsValid manner.needs manner.form (by_features accepts z.limits bytes);
+  manner = manner;
+  seen = λ bytes. bytes;
+}
+ruled manner (Pieces piece) accepts z = record {
+  accepts = λ bytes. IsCounted bytes × accepts z bytes;
+  fits = λ bytes. Unit {0};
+  tells = λ bytes. TellsValid false manner.form (by_features accepts z.limits bytes);
+  manner = manner;
+  seen = λ bytes. [];
+}
 
 -- by these features and limits, and as inputs are read
 abbrev pub ruling_by : (Settings → List ℕ → Type 0) → ℕ → Limits → Mode → Ruling
-ruling_by accepts features limits mode = ruled plain mode (accepts (settings_by features limits))
+ruling_by accepts features limits mode = ruled plain mode accepts (settings_by features limits)
 
 -- by what was chosen
 abbrev pub manner_of : Chosen → Manner
-manner_of c = record { form = c.form; explains = c.explains }
+manner_of c = record { form = c.form; explains = c.explains; needs = c.needs }
 
 abbrev pub ruling_of : (Settings → List ℕ → Type 0) → Chosen → Ruling
-ruling_of accepts c = ruled (manner_of c) c.mode (accepts (settings_by c.features.0 c.limits))
+ruling_of accepts c = ruled (manner_of c) c.mode accepts (settings_by c.features.0 c.limits)
 
 -- pieces have some bytes
 abbrev pub HasPieces : Mode → Type 0

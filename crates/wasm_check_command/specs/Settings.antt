@@ -1,5 +1,5 @@
 -- By which features and limits files are judged: those that the options of the command line give.
-use Rattle.std.specs.Prelude.{◌≡◌, ◌&&◌, ◌^◌, nat_le, if◌then◌else◌, ℕ, Bool, true, false, codes, Contains, List, Option, Some, None, Result, Ok, Err}
+use Rattle.std.specs.Prelude.{◌≡◌, ◌&&◌, ◌^◌, nat_le, if◌then◌else◌, ℕ, Bool, IsTrue, true, false, codes, Contains, List, [], Option, Some, None, Result, Ok, Err}
 use Rattle.wasm_types.specs.settings.Settings.{Settings}
 use Rattle.wasm_types.specs.settings.Limits.{default_limits}
 use Rattle.wasm_types.specs.settings.declared.Limits.{Limits}
@@ -63,6 +63,7 @@ pub record Asked : Type 0 where
   pub vectors : Bool
   pub form : Form
   pub explains : Bool
+  pub needs : Bool
   pub goes_on : Bool
 
 -- those that the words have
@@ -74,15 +75,22 @@ asked_by words = record {
   vectors = has_flag (codes "vectors") words;
   form = form_by (has_flag (codes "quiet") words) (has_flag (codes "json") words);
   explains = has_flag (codes "explain") words;
+  needs = has_flag (codes "needs") words;
   goes_on = has_flag (codes "keep-going") words;
 }
 
 -- how verdicts are written
 abbrev pub manner_by : Asked → Manner
-manner_by asked = record { form = asked.form; explains = asked.explains }
+manner_by asked = record { form = asked.form; explains = asked.explains; needs = asked.needs }
 
--- these settings and this mode are asked for
+-- `--needs` goes with neither `--features` nor `--pieces`: it tries features, and judges the whole file each time
+pub record GoTogether (asked : Asked) : Type 0 where
+  pub no_features : IsTrue asked.needs → asked.features ≡ []
+  pub no_pieces : IsTrue asked.needs → asked.pieces ≡ None
+
+-- these settings and this mode are asked for, by options that go together
 pub record IsGiven (asked : Asked) (z : Settings) (m : Mode) : Type 0 where
+  pub together : GoTogether asked
   pub allowed : ℕ
   pub features : features_by asked.features ≡ Ok allowed
   pub with_switch : z.features ≡ with_vectors asked.vectors allowed

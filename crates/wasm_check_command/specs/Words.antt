@@ -7,12 +7,11 @@ use Rattle.clap.specs.declared.error.kind.ErrorKind.{ErrorKind}
 use Rattle.clap.specs.declared.error.kind.ErrorKind.TheVariants.{DisplayHelp, DisplayVersion}
 use Rattle.clap.specs.declared.builder.action.ArgAction.TheVariants.{Append, Set, SetTrue}
 
--- the argument FILE: it takes at least one value, and has to be there
+-- the argument FILE: it takes at least one value
 abbrev pub file_rule : Rule
 file_rule = record (new_rule (codes "FILE")) {
   action = Some Append;
   range = Some (record { start_inclusive = 1; end_inclusive = usize_max });
-  required = true;
 }
 
 -- an option of this name, `--NAME VALUE`, which may be there once
@@ -35,9 +34,17 @@ with_version a = record a { top = record a.top { has_version = true } }
 abbrev pub with_values : App → App
 with_values a = with_rule (with_rule (with_rule a (list_rule (codes "features"))) (list_rule (codes "limits"))) (option_rule (codes "pieces"))
 
+-- one with the option that names a list of files
+abbrev pub with_list : App → App
+with_list a = with_rule a (option_rule (codes "files0-from"))
+
 -- a command with the flags that say what is judged, and what is written of it
 abbrev pub with_forms : App → App
 with_forms a = with_rule (with_rule (with_rule a (flag_rule (codes "vectors"))) (flag_rule (codes "json"))) (flag_rule (codes "explain"))
+
+-- one with the flag that asks which features a file needs
+abbrev pub with_needs : App → App
+with_needs a = with_rule a (flag_rule (codes "needs"))
 
 -- one with those that say when to stop
 abbrev pub with_stops : App → App
@@ -45,7 +52,7 @@ with_stops a = with_rule (with_rule a (flag_rule (codes "quiet"))) (flag_rule (c
 
 -- the command
 abbrev pub wasm_check : App
-wasm_check = with_rule (with_stops (with_forms (with_values (with_version (new_app (codes "wasm-check")))))) file_rule
+wasm_check = with_rule (with_stops (with_needs (with_forms (with_list (with_values (with_version (new_app (codes "wasm-check")))))))) file_rule
 
 -- the matches of the command on these words, of which the first is the program's own name
 abbrev pub matches_on : List (List ℕ) → List Row
@@ -54,6 +61,10 @@ matches_on words = matches_of wasm_check words
 -- the files that the words name, in order
 abbrev pub files_of : List (List ℕ) → List (List ℕ)
 files_of words = unwrap_or (all_of (codes "FILE") (matches_on words)) []
+
+-- the file of `--files0-from`, which has a list of names
+abbrev pub list_file : List (List ℕ) → Option (List ℕ)
+list_file words = first_of (codes "files0-from") (matches_on words)
 
 -- the lists of `--features`, in order
 abbrev pub features_lists : List (List ℕ) → List (List ℕ)
@@ -94,6 +105,6 @@ abbrev pub AsksForHelp : List (List ℕ) → Type 0
 AsksForHelp words = (IsAmong DisplayHelp (refusals_of words) ⊎ IsAmong DisplayVersion (refusals_of words))
     ⊎ (AsksForTable (codes "features") words ⊎ AsksForTable (codes "limits") words)
 
--- the words name no files: clap has no matches for them, or its matches have no file
+-- the words name no files: clap has no matches for them, or its matches have no file and no list
 abbrev pub NamesNoFiles : List (List ℕ) → Type 0
-NamesNoFiles words = (refusals_of words ≢ []) ⊎ (files_of words ≡ [])
+NamesNoFiles words = (refusals_of words ≢ []) ⊎ ((files_of words ≡ []) × (list_file words ≡ None))

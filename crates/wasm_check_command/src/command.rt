@@ -1,27 +1,30 @@
 //! The command line: its words, its files, its faults and its statuses.
-ghost use Rattle.std.specs.Prelude.{◌≡◌, ◌<◌, ◌≤◌, ◌⊎◌, ℕ, List, [], true, false, map, option_map, unwrap_or, Ok, IfOk, IfErr};
+ghost use Rattle.std.specs.Prelude.{◌≡◌, ◌≢◌, ◌<◌, ◌≤◌, ◌⊎◌, ℕ, IsTrue, List, [], true, false, OnOk, Some, map, option_map, unwrap_or, Ok, IfOk, IfErr, string_bytes};
 ghost use Rattle.std.specs.Io.KnownBytes.{Keeps};
 ghost use Rattle.wasm_check_command.specs.declared.judging.Status.TheVariants.{AllValid, SomeInvalid};
-ghost use Rattle.clap.specs.Words.{all_of, app_of, found_of, kind_of, rows_of, rule_of, FailsBy};
+ghost use Rattle.clap.specs.Words.{all_of, first_of, found_of, kind_of, rows_of};
 ghost use Rattle.clap.specs.declared.error.kind.ErrorKind.TheVariants.{OutOfMemory};
-ghost use Rattle.wasm_check_command.specs.Words.{IsHelp, matches_on, refusals_of, file_rule, flag_rule, list_rule, option_rule, with_forms, with_stops};
-ghost use Rattle.wasm_check_command.specs.Words.{with_values, wasm_check, is_set, has_flag};
+ghost use Rattle.wasm_check_command.specs.Words.{IsHelp, matches_on};
+ghost use Rattle.wasm_check_command.specs.Words.{files_of, list_file, is_set, has_flag};
+ghost use Rattle.wasm_check_faults.specs.FaultTexts.{is_silent};
 ghost use Rattle.wasm_check_command.specs.Commands.{AreRead};
 ghost use Rattle.wasm_types.specs.settings.Limits.{IsWithinCeilings};
 ghost use Rattle.wasm_check_command.specs.Modes.{CanJudge, HasPieces, manner_of, ruling_of};
-ghost use Rattle.wasm_check_command.specs.Settings.{IsGiven, asked_by, features_by, form_by, limits_by, manner_by, mode_by, pieces_of, settings_of, with_vectors};
+ghost use Rattle.wasm_check_command.specs.Settings.{GoTogether, IsGiven, asked_by, features_by, form_by, limits_by, manner_by, mode_by, pieces_of, settings_of, with_vectors};
 ghost use Rattle.wasm_check_command.specs.Files.{texts, lists_in, code_of, code_of_ended, Reports, Grows, ShowsHelp, HasNoStatus, IsUnshown, EndsRun};
-ghost use Rattle.wasm_check_command.specs.Files.{asked_of, RefusesPieces, RefusesFeatures, RefusesLimits, StopsEarly, ReportsEnd, StopsBy};
+ghost use Rattle.wasm_check_command.specs.Files.{asked_of, IsChosen, NamesFiles, RefusesTogether, RefusesPieces, RefusesFeatures, RefusesLimits, StopsEarly, ReportsEnd, StopsBy};
 ghost use Rattle.wasm_check_command.specs.Files.{EndsBy, StopsFiles, StopsGoingBy};
 
+use crate::arguments::parse;
 use crate::files::{Ended, judge_files, name_at};
 use crate::going::judge_going;
 use crate::judging::{Chosen, Judge, Mode, Status, write_text};
+use crate::listing::{borrowed, read_list};
 use crate::tables::table_asked;
 use crate::telling::report;
 use bitflags::Flags;
+use clap::ArgMatches;
 use clap::error::ErrorKind;
-use clap::{Arg, ArgAction, ArgMatches, Command};
 use std::alloc::{AllocError, Global};
 use std::convert::AsStr;
 use std::io::{Input, Write};
@@ -53,139 +56,12 @@ struct Options<'m, 'a> {
     form: Form,
     /// Whether `--explain` is there.
     explains: bool,
+    /// Whether `--needs` is there.
+    needs: bool,
     /// Whether `--keep-going` is there.
     goes_on: bool,
     /// Whether standard error is a person's terminal.
     at_terminal: bool,
-}
-
-/// The files, of which there is at least one.
-fn files_argument<'a>(alloc: Global) -> Arg<'a>
-    ensures { (rule_of result ≡ file_rule) × (result.global ≡ false) }
-{
-    Arg::new(alloc, "FILE")
-        .help("A file to judge")
-        .required(true)
-        .num_args(1..)
-        .action(ArgAction::Append)
-}
-
-/// An option of this name, with a value that is called so in the help.
-fn option_argument<'a>(alloc: Global, name: &'a str, value: &'a str, help: &'a str) -> Arg<'a>
-    ensures { (rule_of result ≡ option_rule name.entry.now) × (result.global ≡ false) }
-{
-    Arg::new(alloc, name)
-        .long(name)
-        .help(help)
-        .value_name(value)
-        .action(ArgAction::Set)
-}
-
-/// An option of this name with a list, which may be there several times.
-fn list_argument<'a>(alloc: Global, name: &'a str, help: &'a str) -> Arg<'a>
-    ensures { (rule_of result ≡ list_rule name.entry.now) × (result.global ≡ false) }
-{
-    Arg::new(alloc, name)
-        .long(name)
-        .help(help)
-        .value_name("LIST")
-        .action(ArgAction::Append)
-}
-
-/// A flag of this name.
-fn flag_argument<'a>(alloc: Global, name: &'a str, help: &'a str) -> Arg<'a>
-    ensures { (rule_of result ≡ flag_rule name.entry.now) × (result.global ≡ false) }
-{
-    Arg::new(alloc, name)
-        .long(name)
-        .help(help)
-        .action(ArgAction::SetTrue)
-}
-
-/// The command with its options that have a value.
-fn with_values<'a>(alloc: Global, command: Command<'a>) -> Result<Command<'a>, AllocError>
-    ensures { IfOk result (λ c. app_of c ≡ with_values (app_of command.entry)) }
-{
-    let features = list_argument(
-        alloc,
-        "features",
-        "The features that are allowed: words between commas, from left to right, as mvp,gc or no-simd; --features help lists them",
-    );
-    let limits = list_argument(
-        alloc,
-        "limits",
-        "The limits that hold: words name=N between commas, as locals=10,tables=3; --limits help lists them",
-    );
-    let pieces = option_argument(
-        alloc,
-        "pieces",
-        "N",
-        "Judge files as they come, in pieces of at most N bytes, from 1 to 1048576; without it they are read whole",
-    );
-    let command = command.arg(features)?.arg(limits)?.arg(pieces)?;
-    Ok(command)
-}
-
-/// The command with the flags that say what is judged, and what is written of it.
-fn with_forms<'a>(alloc: Global, command: Command<'a>) -> Result<Command<'a>, AllocError>
-    ensures { IfOk result (λ c. app_of c ≡ with_forms (app_of command.entry)) }
-{
-    let vectors = flag_argument(
-        alloc,
-        "vectors",
-        "Judge operators on vectors, which are refused without it",
-    );
-    let json = flag_argument(
-        alloc,
-        "json",
-        "Write an object of JSON on a line for each file",
-    );
-    let explain = flag_argument(
-        alloc,
-        "explain",
-        "Say below each refusal where the fault is; not with --pieces",
-    );
-    let command = command.arg(vectors)?.arg(json)?.arg(explain)?;
-    Ok(command)
-}
-
-/// The command with the flags that say when to stop.
-fn with_stops<'a>(alloc: Global, command: Command<'a>) -> Result<Command<'a>, AllocError>
-    ensures { IfOk result (λ c. app_of c ≡ with_stops (app_of command.entry)) }
-{
-    let quiet = flag_argument(
-        alloc,
-        "quiet",
-        "Write no verdict, and stop at the first file that is invalid: the status tells",
-    );
-    let going = flag_argument(
-        alloc,
-        "keep-going",
-        "Judge the other files if one cannot be opened or read, is too long, or memory runs out for it",
-    );
-    let command = command.arg(quiet)?.arg(going)?;
-    Ok(command)
-}
-
-/// The command, with its arguments.
-fn command<'a>(alloc: Global) -> Result<Command<'a>, AllocError>
-    ensures { IfOk result (λ c. app_of c ≡ wasm_check) }
-{
-    let command = Command::new(alloc, "wasm-check").version(VERSION).about(
-        "Says of each file whether it is a valid WebAssembly module",
-    );
-    let command = with_values(alloc, command)?;
-    let command = with_forms(alloc, command)?;
-    let command = with_stops(alloc, command)?.arg(files_argument(alloc))?;
-    Ok(command)
-}
-
-/// The words, read as a command line.
-fn parse<'a, S: AsStr>(alloc: Global, words: &'a [S]) -> Result<ArgMatches<'a>, clap::Error>
-    ensures ok { IfOk result (λ m. rows_of (found_of m) ≡ matches_on (map S.text words.now)) }
-    ensures kinds { FailsBy (refusals_of (map S.text words.now)) result }
-{
-    command(alloc)?.try_get_matches_from(words)
 }
 
 /// The features by these lists, which are applied in order to those by default.
@@ -302,6 +178,34 @@ fn read_pieces<'a>(number: Option<&'a str>) -> Result<Mode, Fault<'a>>
     }
 }
 
+/// Whether there are lists.
+fn has_lists(lists: Option<&[&str]>) -> bool
+    ensures some { IsTrue result → lists_in lists.entry ≢ [] }
+    ensures none { result ≡ false → lists_in lists.entry ≡ [] }
+{
+    match lists {
+        Some(lists) => !lists.is_empty(),
+        None => false,
+    }
+}
+
+/// Refuses options that do not go together.
+fn check_together<'a>(options: &Options<'_, 'a>) -> Result<(), Fault<'a>>
+    ensures ok { OnOk result (GoTogether (asked_of options.now)) }
+    ensures err { IfErr result (RefusesTogether (asked_of options.now)) }
+{
+    if !options.needs {
+        return Ok(());
+    }
+    if has_lists(options.features) {
+        return Err(Fault::Clash("--needs", "--features <LIST>"));
+    }
+    if options.pieces.is_some() {
+        return Err(Fault::Clash("--needs", "--pieces <N>"));
+    }
+    Ok(())
+}
+
 /// What the options ask for: their values are read in this order.
 fn read_options<'a>(options: &Options<'_, 'a>) -> Result<Chosen, Fault<'a>>
     ensures ok { IfOk result (λ c. IsGiven (asked_of options.now) (settings_of c) c.mode) }
@@ -309,6 +213,7 @@ fn read_options<'a>(options: &Options<'_, 'a>) -> Result<Chosen, Fault<'a>>
     ensures within { IfOk result CanJudge }
     ensures err { IfErr result (StopsEarly (asked_of options.now)) }
 {
+    check_together(options)?;
     let mode = read_pieces(options.pieces)?;
     let features = read_features(options.features)?;
     let limits = read_limits(options.limits)?;
@@ -318,6 +223,7 @@ fn read_options<'a>(options: &Options<'_, 'a>) -> Result<Chosen, Fault<'a>>
         mode,
         form: options.form,
         explains: options.explains,
+        needs: options.needs,
         below: below_of(options.form, options.at_terminal),
     })
 }
@@ -458,26 +364,31 @@ fn show_text<W: Write, E: Write>(alloc: Global, text: &str, out: &mut W, err: &m
     ensures grows { Grows (W.contents out.old) (W.contents out.new) }
     ensures quiet { result < 2 → Keeps (E.contents err.old) (E.contents err.new) }
 {
-    if show_help(text, out).is_err() {
-        let fault = Fault::Stopped {
-            error: CheckError::Write,
-            name: "",
-            reason: Reason::Unknown,
-        };
-        return report(alloc, &fault, Below::Nothing, err);
+    match show_help(text, out) {
+        Ok(()) => 0,
+        Err(reason) => {
+            let fault = Fault::Stopped {
+                error: CheckError::Write,
+                name: "",
+                reason,
+            };
+            report(alloc, &fault, Below::Nothing, err)
+        }
     }
-    0
 }
 
-/// Writes the help.
-fn show_help<W: Write>(text: &str, out: &mut W) -> Result<(), CheckError>
+/// Writes the help, or says why it can't be written.
+fn show_help<W: Write>(text: &str, out: &mut W) -> Result<(), Reason>
     ensures { Grows (W.contents out.old) (W.contents out.new) }
 {
-    write_text(text.as_bytes(), out)?;
-    if out.flush().is_err() {
-        return Err(CheckError::Write);
+    match write_text(text.as_bytes(), out) {
+        Ok(()) => (),
+        Err(failure) => return Err(failure.reason),
     }
-    Ok(())
+    match out.flush() {
+        Ok(()) => Ok(()),
+        Err(error) => Err(Reason::of(&error)),
+    }
 }
 
 /// The status of files that ended so.
@@ -493,7 +404,7 @@ fn code_of_ended(ended: Ended) -> u8
     }
 }
 
-/// The exit status of what was judged, and a line for a fault.
+/// The exit status of what was judged, and a line for a fault, if it is told.
 fn conclude<E: Write>(
     alloc: Global,
     judged: &Result<Ended, Fault<'_>>,
@@ -502,6 +413,7 @@ fn conclude<E: Write>(
 ) -> u8
     ensures code { result ≡ code_of judged.now }
     ensures quiet { result < 2 → Keeps (E.contents err.old) (E.contents err.new) }
+    ensures silent { IfErr judged.now (λ f. is_silent f ≡ true → Keeps (E.contents err.old) (E.contents err.new)) }
 {
     match judged {
         Ok(ended) => code_of_ended(*ended),
@@ -535,6 +447,7 @@ fn options_of<'m, 'a>(matches: &'m ArgMatches<'a>, at_terminal: bool) -> Options
     let quiet = has_flag(matches, "quiet");
     let json = has_flag(matches, "json");
     let explains = has_flag(matches, "explain");
+    let needs = has_flag(matches, "needs");
     let goes_on = has_flag(matches, "keep-going");
     Options {
         features,
@@ -543,9 +456,152 @@ fn options_of<'m, 'a>(matches: &'m ArgMatches<'a>, at_terminal: bool) -> Options
         vectors,
         form: form_by(quiet, json),
         explains,
+        needs,
         goes_on,
         at_terminal,
     }
+}
+
+/// The value of an option that may be there once.
+fn value_of<'a>(matches: &ArgMatches<'a>, name: &str) -> Option<&'a str>
+    ensures { (words : List (List ℕ)) → rows_of (found_of matches.now) ≡ matches_on words
+        → option_map (λ v. v.now) result ≡ first_of name.now (matches_on words) }
+{
+    matches.get_str(name)
+}
+
+/// Judges the files of these names.
+fn run_names<'a, J, F, W, E>(
+    judge: &J,
+    rt: &F,
+    alloc: Global,
+    options: &Options<'_, 'a>,
+    names: &[&'a str],
+    out: &mut W,
+    err: &mut E,
+) -> u8
+where
+    J: Judge,
+    F: Files + Input,
+    W: Write,
+    E: Write,
+    ensures quiet { result < 2 → Keeps (E.contents err.old) (E.contents err.new) }
+    ensures ended { (words : List (List ℕ)) → asked_of options.now ≡ asked_by words → NamesFiles words (texts names.now)
+        → EndsRun J.accepts words (W.contents out.old) (W.contents out.new) result }
+{
+    let judged = judge_by_options(judge, alloc, rt, options, names, out, err);
+    conclude(
+        alloc,
+        &judged,
+        below_of(options.form, options.at_terminal),
+        err,
+    )
+}
+
+/// Judges the files of these names by what was chosen.
+fn run_chosen<J, F, W, E>(
+    judge: &J,
+    rt: &F,
+    alloc: Global,
+    goes_on: bool,
+    chosen: Chosen,
+    names: &[&str],
+    out: &mut W,
+    err: &mut E,
+) -> u8
+where
+    J: Judge,
+    F: Files + Input,
+    W: Write,
+    E: Write,
+    requires within { CanJudge chosen }
+    ensures quiet { result < 2 → Keeps (E.contents err.old) (E.contents err.new) }
+    ensures ended { (words : List (List ℕ)) → IsChosen (asked_by words) chosen goes_on → NamesFiles words (texts names.now)
+        → EndsRun J.accepts words (W.contents out.old) (W.contents out.new) result }
+{
+    let judged = judge_chosen(judge, alloc, rt, goes_on, chosen, names, out, err);
+    conclude(alloc, &judged, chosen.below, err)
+}
+
+/// Judges the files of this list by what was chosen.
+fn run_listed<J, F, W, E>(
+    judge: &J,
+    rt: &F,
+    alloc: Global,
+    goes_on: bool,
+    chosen: Chosen,
+    list: &[String],
+    out: &mut W,
+    err: &mut E,
+) -> u8
+where
+    J: Judge,
+    F: Files + Input,
+    W: Write,
+    E: Write,
+    requires within { CanJudge chosen }
+    ensures quiet { result < 2 → Keeps (E.contents err.old) (E.contents err.new) }
+    ensures ended { (words : List (List ℕ)) → IsChosen (asked_by words) chosen goes_on → NamesFiles words (map string_bytes list.now)
+        → EndsRun J.accepts words (W.contents out.old) (W.contents out.new) result }
+{
+    let Ok(names) = borrowed(alloc, list) else {
+        return report(alloc, &Fault::OutOfMemory, chosen.below, err);
+    };
+    run_chosen(
+        judge,
+        rt,
+        alloc,
+        goes_on,
+        chosen,
+        names.as_slice(),
+        out,
+        err,
+    )
+}
+
+/// Judges the files that the list in a file names. No other files may be given.
+fn run_list<'a, J, F, W, E>(
+    judge: &J,
+    rt: &F,
+    alloc: Global,
+    options: &Options<'_, 'a>,
+    given: Option<&[&'a str]>,
+    file: &'a str,
+    out: &mut W,
+    err: &mut E,
+) -> u8
+where
+    J: Judge,
+    F: Files + Input,
+    W: Write,
+    E: Write,
+    ensures quiet { result < 2 → Keeps (E.contents err.old) (E.contents err.new) }
+    ensures ended { (words : List (List ℕ)) → asked_of options.now ≡ asked_by words → lists_in given.entry ≡ files_of words
+        → list_file words ≡ Some file.entry.now → EndsRun J.accepts words (W.contents out.old) (W.contents out.new) result }
+{
+    let below = below_of(options.form, options.at_terminal);
+    if has_lists(given) {
+        let fault = Fault::Clash("[FILE]...", "--files0-from <FILE>");
+        return report(alloc, &fault, below, err);
+    }
+    let chosen = match read_options(options) {
+        Ok(chosen) => chosen,
+        Err(fault) => return report(alloc, &fault, below, err),
+    };
+    let list = match read_list(alloc, rt, file) {
+        Ok(list) => list,
+        Err(fault) => return report(alloc, &fault, below, err),
+    };
+    run_listed(
+        judge,
+        rt,
+        alloc,
+        options.goes_on,
+        chosen,
+        list.as_slice(),
+        out,
+        err,
+    )
 }
 
 /// Runs the program on the words that `clap` read.
@@ -567,21 +623,24 @@ where
     ensures ended { (words : List (List ℕ)) → rows_of (found_of matches.now) ≡ matches_on words
         → EndsRun J.accepts words (W.contents out.old) (W.contents out.new) result }
 {
-    let Some(names) = matches.get_strs("FILE") else {
-        return 2;
+    let options = options_of(matches, at_terminal);
+    let given = lists_of(matches, "FILE");
+    if let Some(file) = value_of(matches, "files0-from") {
+        return run_list(judge, rt, alloc, &options, given, file, out, err);
+    }
+    let Some(names) = given else {
+        return report(alloc, &Fault::NoFiles, Below::Nothing, err);
     };
     if names.is_empty() {
-        return 2;
+        return report(alloc, &Fault::NoFiles, Below::Nothing, err);
     }
-    let options = options_of(matches, at_terminal);
-    let judged = judge_by_options(judge, alloc, rt, &options, names, out, err);
-    conclude(alloc, &judged, below_of(options.form, at_terminal), err)
+    run_names(judge, rt, alloc, &options, names, out, err)
 }
 
 /// Runs the program on these words, of which the first is its own name, and gives its exit status:
 /// 0 if all files are valid, or if the words ask for the help, the version or a table and it was shown; 1 if some file is invalid; 2 if
-/// the words name no files by `clap`'s reading or have a list that is refused, and then nothing is written to `out`, if a fault stopped the
-/// judging or the help, or if a file came to no verdict and the judging went on. The files are judged by the features and limits that the
+/// the words name no files by `clap`'s reading, or have options that do not go together or a list that is refused, and then nothing is written to `out`, if a fault stopped the
+/// judging or the help, or if a file came to no verdict and the judging went on. Files may be named by a list in a file. The files are judged by the features and limits that the
 /// words ask for. All files are opened before the first is judged, except with `--keep-going`; those past the first hundred are then closed,
 /// and opened again in their turn, and so are all if the system does not let so many be open. The file `-` is standard input. A fault has one
 /// line on `err`. If that is a person's terminal, as `at_terminal` says, a second line tells what may help; and with `--json` it is the fault as an

@@ -268,10 +268,10 @@ pub(crate) fn judge_opened<'a, J: Judge, R: Read + OpenFile + Drop, I: Read + Dr
         out,
     ) {
         Ok(is_valid) => Ok(is_valid),
-        Err(unread) => Err(Fault::Stopped {
-            error: unread.error,
+        Err(failure) => Err(Fault::Stopped {
+            error: failure.error,
             name,
-            reason: unread.reason,
+            reason: failure.reason,
         }),
     }
 }
@@ -449,11 +449,11 @@ pub(crate) fn judge_files<'a, J: Judge, F: Files + Standard, W: Write>(
         Err(fault) => return Err(fault),
     };
     let judged = judge_in_turn(judge, alloc, rt, chosen, inputs, names, out);
-    if out.flush().is_err() {
+    if let Err(error) = out.flush() {
         return Err(Fault::Stopped {
             error: CheckError::Write,
             name: "",
-            reason: Reason::Unknown,
+            reason: Reason::of(&error),
         });
     }
     judged

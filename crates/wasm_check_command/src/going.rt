@@ -61,6 +61,8 @@ fn is_unwritten(fault: &Fault<'_>) -> bool
             CheckError::OutOfMemory(_) => false,
         },
         Fault::WrongPieces(_) => false,
+        Fault::Clash(_, _) => false,
+        Fault::NoFiles => false,
         Fault::UnknownFeature(_) => false,
         Fault::WrongLimit(_, _) => false,
         Fault::CannotOpen { name: _, reason: _ } => false,
@@ -177,11 +179,11 @@ pub(crate) fn judge_going<'a, J: Judge, F: Files + Standard, W: Write, E: Write>
         return Err(Fault::CannotHold(reason));
     }
     let judged = judge_each(judge, alloc, rt, names, chosen, out, err);
-    if out.flush().is_err() {
+    if let Err(error) = out.flush() {
         return Err(Fault::Stopped {
             error: CheckError::Write,
             name: "",
-            reason: Reason::Unknown,
+            reason: Reason::of(&error),
         });
     }
     judged

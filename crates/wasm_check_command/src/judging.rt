@@ -6,18 +6,21 @@ ghost use Rattle.wasm_types.specs.settings.Settings.{Settings};
 ghost use Rattle.wasm_types.specs.settings.Limits.{IsWithinCeilings};
 ghost use Rattle.wasm_check_command.specs.Settings.{settings_by, settings_of};
 ghost use Rattle.wasm_check_command.specs.Lines.{IsExplained};
-ghost use Rattle.wasm_check_command.specs.Modes.{AreLeft, CanJudge, FailsJudging, HasPieces, HasValid, IsShort, ReadsWithin, manner_of, ruled, ruling_by, ruling_of};
+ghost use Rattle.wasm_check_command.specs.Modes.{AreLeft, CanJudge, FailsJudging, HasPieces, HasValid, IsShort, ReadsWithin};
+ghost use Rattle.wasm_check_command.specs.Modes.{TellsValid, by_features, judged_by, manner_of, ruled, ruling_by, ruling_of};
 ghost use Rattle.wasm_check_command.specs.Faults.{FailsReading};
 ghost use Rattle.wasm_check_command.specs.Verdict.{WritesFront, IsVerdict, WritesLine, IsJudged, FailsWriting, FailsAt};
 ghost use Rattle.wasm_check_faults.specs.declared.error.CheckError.TheVariants.{Write as TheWrite};
 ghost use Rattle.wasm_check_command.specs.declared.judging.Mode.TheVariants.{Whole as whole};
 ghost use Rattle.wasm_check_command.specs.Reports.{sources_of, IsReported, Stops};
 
+use crate::needs::least_list;
 use crate::pieces::judge_in_pieces;
 use crate::steady::{read_steadily, write_steadily};
+use bitflags::Flags;
 use std::alloc::{AllocError, Global};
 use std::io::{self, Read, Write};
-use wasm_check_faults::{Below, CheckError, Reason};
+use wasm_check_faults::{Below, CheckError, Reason, every_feature, needs_text};
 use wasm_check_lines::{Explanation, Form, Refusal, refused_text, valid_text};
 use wasm_types::{Error, ErrorKind, Limits, WasmFeatures};
 
@@ -123,6 +126,8 @@ pub(crate) struct Chosen {
     pub(crate) form: Form,
     /// Whether refusals are explained.
     pub(crate) explains: bool,
+    /// Whether it is told which features a valid input needs, of all that there are.
+    pub(crate) needs: bool,
     /// What is told below the line of a fault.
     pub(crate) below: Below,
 }
@@ -145,9 +150,9 @@ pub enum Status {
     SomeInvalid,
 }
 
-/// Why an input was not read: the error, and where a read failed the reason that it gave.
+/// Why an input has no line: the error, and where a read or a write failed the reason that it gave.
 #[derive(Clone, Copy, Debug)]
-pub(crate) struct Unread {
+pub(crate) struct Failure {
     /// The error.
     pub(crate) error: CheckError,
     /// The reason.
@@ -155,10 +160,10 @@ pub(crate) struct Unread {
 }
 
 /// This error, without a reason.
-pub(crate) fn without_reason(error: CheckError) -> Unread
+pub(crate) fn without_reason(error: CheckError) -> Failure
     ensures { result.error ≡ error }
 {
-    Unread {
+    Failure {
         error,
         reason: Reason::Unknown,
     }
@@ -181,7 +186,7 @@ pub(crate) fn read_whole<R: Read>(
     index: usize,
     reader: &mut R,
     buffer: &mut Vec<u8>,
-) -> Result<(), Unread>
+) -> Result<(), Failure>
     ensures ok { OnOk result (AreLeft (R.remaining reader.old) buffer.new.items × IsShort buffer.new.items) }
     ensures err { IfErr result (λ u. FailsReading index (R.remaining reader.old) u.error) }
     ensures most { ReadsWithin (R.remaining reader.old) (R.remaining reader.new) }
@@ -193,7 +198,7 @@ pub(crate) fn read_whole<R: Read>(
         let count = match read_some(reader, &mut chunk, left + 1) {
             Ok(count) => count,
             Err(error) => {
-                return Err(Unread {
+                return Err(Failure {
                     error: CheckError::Read(index),
                     reason: Reason::of(&error),
                 });
@@ -226,7 +231,52 @@ fn explanation<J: Judge>(
     if !chosen.explains {
         return Ok(None);
     }
-    judge.explain(alloc, chosen.features, chosen.limits, bytes, error)
+    judge.explain(alloc, judged_features(chosen), chosen.limits, bytes, error)
+}
+
+/// The features by which whole inputs are judged: if it is to be told which of them are needed, all.
+fn judged_features(chosen: Chosen) -> WasmFeatures
+    ensures { settings_by result.0 chosen.limits ≡ judged_by chosen.needs (settings_of chosen) }
+{
+    if chosen.needs {
+        return every_feature().union(WasmFeatures::VECTOR_OPERATORS);
+    }
+    chosen.features
+}
+
+/// Judges these bytes by what was chosen.
+fn judge_by<J: Judge>(
+    judge: &J,
+    alloc: Global,
+    chosen: Chosen,
+    index: usize,
+    bytes: &[u8],
+) -> Result<(), Error>
+    requires within { IsWithinCeilings chosen.limits }
+    ensures { Tells result (J.accepts (judged_by chosen.needs (settings_of chosen)) bytes.now) }
+{
+    judge.judge(alloc, judged_features(chosen), chosen.limits, index, bytes)
+}
+
+/// The text of these bytes, which are valid by the features by which they are judged.
+fn accepted_text<J: Judge>(
+    judge: &J,
+    alloc: Global,
+    chosen: Chosen,
+    index: usize,
+    name: &str,
+    bytes: &[u8],
+) -> Result<String, AllocError>
+    requires within { IsWithinCeilings chosen.limits }
+    requires valid { J.accepts (judged_by chosen.needs (settings_of chosen)) bytes.now }
+    ensures { IfOk result (λ line. TellsValid chosen.needs chosen.form (by_features J.accepts chosen.limits bytes.now)
+        name.now (string_bytes line)) }
+{
+    if !chosen.needs {
+        return valid_text(alloc, chosen.form, name);
+    }
+    let words = least_list(judge, alloc, chosen.limits, index, bytes)?;
+    needs_text(alloc, chosen.form, name, words.as_slice())
 }
 
 /// The line of these bytes, and whether they spell a valid module.
@@ -239,12 +289,12 @@ fn verdict_line<J: Judge>(
     bytes: &[u8],
 ) -> Result<(bool, String), AllocError>
     requires within { IsWithinCeilings chosen.limits }
-    ensures { IfOk result (λ r. IsVerdict (ruled (manner_of chosen) whole (J.accepts (settings_of chosen))) name.now bytes.now r.0
+    ensures { IfOk result (λ r. IsVerdict (ruled (manner_of chosen) whole J.accepts (settings_of chosen)) name.now bytes.now r.0
         (string_bytes r.1)) }
 {
-    match judge.judge(alloc, chosen.features, chosen.limits, index, bytes) {
+    match judge_by(judge, alloc, chosen, index, bytes) {
         Ok(()) => {
-            let line = valid_text(alloc, chosen.form, name)?;
+            let line = accepted_text(judge, alloc, chosen, index, name, bytes)?;
             Ok((true, line))
         }
         Err(error) => {
@@ -265,9 +315,9 @@ fn verdict_line<J: Judge>(
 }
 
 /// Writes a text. Where that fails, what stands written is a front of it: `write_all` would not promise this.
-pub(crate) fn write_text<W: Write>(text: &[u8], out: &mut W) -> Result<(), CheckError>
+pub(crate) fn write_text<W: Write>(text: &[u8], out: &mut W) -> Result<(), Failure>
     ensures ok { OnOk result (Appends (W.contents out.old) (W.contents out.new) text.now) }
-    ensures err { IfErr result (λ e. (e ≡ TheWrite)
+    ensures err { IfErr result (λ f. (f.error ≡ TheWrite)
         × WritesFront text.now (W.contents out.old) (W.contents out.new)) }
 {
     let mut written = 0;
@@ -276,9 +326,19 @@ pub(crate) fn write_text<W: Write>(text: &[u8], out: &mut W) -> Result<(), Check
             return Ok(());
         }
         match write_steadily(out, &text[written..]) {
-            Ok(0) => return Err(CheckError::Write),
+            Ok(0) => {
+                return Err(Failure {
+                    error: CheckError::Write,
+                    reason: Reason::Unknown,
+                });
+            }
             Ok(count) => written += count,
-            Err(_error) => return Err(CheckError::Write),
+            Err(error) => {
+                return Err(Failure {
+                    error: CheckError::Write,
+                    reason: Reason::of(&error),
+                });
+            }
         }
     }
     unreachable!()
@@ -293,17 +353,17 @@ fn judge_bytes<J: Judge, W: Write>(
     name: &str,
     bytes: &[u8],
     out: &mut W,
-) -> Result<bool, CheckError>
+) -> Result<bool, Failure>
     requires within { IsWithinCeilings chosen.limits }
     ensures ok { IfOk result (λ valid.
-        WritesLine (ruled (manner_of chosen) whole (J.accepts (settings_of chosen))) name.now bytes.now valid (W.contents out.old)
+        WritesLine (ruled (manner_of chosen) whole J.accepts (settings_of chosen)) name.now bytes.now valid (W.contents out.old)
         (W.contents out.new)) }
-    ensures err { IfErr result
-        (FailsWriting (ruled (manner_of chosen) whole (J.accepts (settings_of chosen))) index name.now bytes.now (W.contents out.old)
-        (W.contents out.new)) }
+    ensures err { IfErr result (λ f.
+        FailsWriting (ruled (manner_of chosen) whole J.accepts (settings_of chosen)) index name.now bytes.now (W.contents out.old)
+        (W.contents out.new) f.error) }
 {
     let Ok((is_valid, line)) = verdict_line(judge, alloc, chosen, index, name, bytes) else {
-        return Err(CheckError::OutOfMemory(index));
+        return Err(without_reason(CheckError::OutOfMemory(index)));
     };
     write_text(line.as_bytes(), out)?;
     Ok(is_valid)
@@ -319,22 +379,19 @@ fn judge_whole<J: Judge, R: Read, W: Write>(
     reader: &mut R,
     buffer: &mut Vec<u8>,
     out: &mut W,
-) -> Result<bool, Unread>
+) -> Result<bool, Failure>
     requires within { IsWithinCeilings chosen.limits }
-    ensures ok { IfOk result (λ valid. IsJudged (ruled (manner_of chosen) whole (J.accepts (settings_of chosen))) name.now
+    ensures ok { IfOk result (λ valid. IsJudged (ruled (manner_of chosen) whole J.accepts (settings_of chosen)) name.now
         (R.remaining reader.old) valid (W.contents out.old) (W.contents out.new)) }
-    ensures err { IfErr result (λ u. FailsAt (ruled (manner_of chosen) whole (J.accepts (settings_of chosen))) index name.now
+    ensures err { IfErr result (λ u. FailsAt (ruled (manner_of chosen) whole J.accepts (settings_of chosen)) index name.now
         (R.remaining reader.old) (W.contents out.old) (W.contents out.new) u.error) }
     ensures most { ReadsWithin (R.remaining reader.old) (R.remaining reader.new) }
 {
     match read_whole(index, reader, buffer) {
         Ok(()) => (),
-        Err(unread) => return Err(unread),
+        Err(failure) => return Err(failure),
     }
-    match judge_bytes(judge, alloc, chosen, index, name, buffer.as_slice(), out) {
-        Ok(is_valid) => Ok(is_valid),
-        Err(error) => Err(without_reason(error)),
-    }
+    judge_bytes(judge, alloc, chosen, index, name, buffer.as_slice(), out)
 }
 
 /// Judges an input by what was chosen, writes its line, and says whether it is a valid module.
@@ -347,7 +404,7 @@ pub(crate) fn judge_reader<J: Judge, R: Read, W: Write>(
     reader: &mut R,
     buffer: &mut Vec<u8>,
     out: &mut W,
-) -> Result<bool, Unread>
+) -> Result<bool, Failure>
     requires within { CanJudge chosen }
     ensures ok { IfOk result (λ valid. IsJudged (ruling_of J.accepts chosen) name.now
         (R.remaining reader.old) valid (W.contents out.old) (W.contents out.new)) }
@@ -390,7 +447,7 @@ fn judge_input<J: Judge, R: Read + Drop, W: Write>(
         out,
     ) {
         Ok(is_valid) => Ok(is_valid),
-        Err(unread) => Err(unread.error),
+        Err(failure) => Err(failure.error),
     }
 }
 
@@ -445,6 +502,7 @@ pub fn check_by<J: Judge, R: Read + Drop, W: Write>(
         mode,
         form: Form::Lines,
         explains: false,
+        needs: false,
         below: Below::Nothing,
     };
     let judged = judge_all(judge, alloc, inputs, chosen, out);

@@ -7,10 +7,14 @@
 //! those of `wasm_check_lines`; lists of features and limits, and what is told of faults, are in `wasm_check_faults`.
 #![tactic(auto)]
 
+mod arguments;
 mod command;
 mod files;
 mod going;
 mod judging;
+mod listing;
+mod names;
+mod needs;
 mod pieces;
 mod steady;
 mod tables;
@@ -18,3 +22,4 @@ mod telling;
 
 pub use command::{VERSION, reads_worked_words, run_by};
 pub use judging::{Input, Judge, MAX_BYTES, Mode, Status, Unjudged, check_by};
+pub use names::word_text;

@@ -8,7 +8,7 @@ ghost use Rattle.wasm_check_command.specs.Modes.{manner_of, ruled};
 ghost use Rattle.wasm_check_command.specs.Verdict.{IsVerdictOf, IsJudged, FailsAt};
 ghost use Rattle.wasm_check_command.specs.declared.judging.Mode.TheVariants.{Pieces as pieces};
 
-use crate::judging::{Chosen, Judge, Unjudged, Unread, without_reason, write_text};
+use crate::judging::{Chosen, Failure, Judge, Unjudged, write_text};
 use crate::steady::read_steadily;
 use std::alloc::{AllocError, Global};
 use std::io::{self, Read, Write};
@@ -67,7 +67,7 @@ fn pieces_line<J: Judge, R: Read>(
 ) -> Result<(bool, String), CheckError>
     requires within { IsWithinCeilings chosen.limits }
     requires some { 1 ≤ piece }
-    ensures ok { IfOk result (λ r. IsVerdictOf (ruled (manner_of chosen) (pieces piece) (J.accepts (settings_of chosen))) name.now
+    ensures ok { IfOk result (λ r. IsVerdictOf (ruled (manner_of chosen) (pieces piece) J.accepts (settings_of chosen)) name.now
         (R.remaining reader.old) r.0 (string_bytes r.1)) }
     ensures err { IfErr result (FailsReading index (R.remaining reader.old)) }
 {
@@ -101,12 +101,12 @@ pub(crate) fn judge_in_pieces<J: Judge, R: Read, W: Write>(
     name: &str,
     reader: &mut R,
     out: &mut W,
-) -> Result<bool, Unread>
+) -> Result<bool, Failure>
     requires within { IsWithinCeilings chosen.limits }
     requires some { 1 ≤ piece }
-    ensures ok { IfOk result (λ valid. IsJudged (ruled (manner_of chosen) (pieces piece) (J.accepts (settings_of chosen))) name.now
+    ensures ok { IfOk result (λ valid. IsJudged (ruled (manner_of chosen) (pieces piece) J.accepts (settings_of chosen)) name.now
         (R.remaining reader.old) valid (W.contents out.old) (W.contents out.new)) }
-    ensures err { IfErr result (λ u. FailsAt (ruled (manner_of chosen) (pieces piece) (J.accepts (settings_of chosen))) index name.now
+    ensures err { IfErr result (λ u. FailsAt (ruled (manner_of chosen) (pieces piece) J.accepts (settings_of chosen)) index name.now
         (R.remaining reader.old) (W.contents out.old) (W.contents out.new) u.error) }
 {
     let mut noted = Noted {
@@ -116,7 +116,7 @@ pub(crate) fn judge_in_pieces<J: Judge, R: Read, W: Write>(
     let (is_valid, line) = match pieces_line(judge, alloc, chosen, piece, index, name, &mut noted) {
         Ok(told) => told,
         Err(error) => {
-            return Err(Unread {
+            return Err(Failure {
                 error,
                 reason: noted.reason,
             });
@@ -124,6 +124,6 @@ pub(crate) fn judge_in_pieces<J: Judge, R: Read, W: Write>(
     };
     match write_text(line.as_bytes(), out) {
         Ok(()) => Ok(is_valid),
-        Err(error) => Err(without_reason(error)),
+        Err(failure) => Err(failure),
     }
 }

@@ -19,7 +19,7 @@ use Rattle.wasm_check_faults.specs.declared.error.CheckError.TheVariants.{Read, 
 use Rattle.wasm_check_faults.specs.declared.limits.Wrong.{Wrong}
 use Rattle.wasm_check_faults.specs.declared.limits.Wrong.TheVariants.{Unknown, BadValue}
 use Rattle.wasm_check_faults.specs.declared.reason.Reason.{Reason}
-use Rattle.wasm_check_faults.specs.declared.reason.Reason.TheVariants.{NotFound, PermissionDenied, IsADirectory, NotADirectory, FilesystemLoop, InvalidFilename, NotUtf8}
+use Rattle.wasm_check_faults.specs.declared.reason.Reason.TheVariants.{NotFound, PermissionDenied, IsADirectory, NotADirectory, FilesystemLoop, InvalidFilename, StorageFull, QuotaExceeded, FileTooLarge, BrokenPipe, NotUtf8}
 use Rattle.wasm_check_faults.specs.declared.reason.Reason.TheVariants as reasons
 use Rattle.wasm_check_faults.specs.Reasons.{reason_hint}
 use Rattle.wasm_check_faults.specs.declared.faults.Fault.{Fault}
@@ -60,6 +60,12 @@ fault_told (faults.CannotHold reason) = file_told (codes "/dev/null") (codes "ca
 fault_told (faults.UnknownFeature word) = word_told (codes "unknown feature") word.now (literal (codes "unknown feature") refl)
 fault_told (faults.WrongPieces word) =
     between (codes "error: invalid value '") (shown word.now) (codes "' for '--pieces <N>': it is not in 1..=1048576") refl (shown_stays word.now) refl
+fault_told (faults.Clash first second) =
+    let front = codes "error: the argument '" ++ shown first.now ++ codes "' cannot be used with '" in
+    both (front ++ shown second.now) (codes "'")
+    (both front (shown second.now) (between (codes "error: the argument '") (shown first.now) (codes "' cannot be used with '") refl (shown_stays first.now) refl) (shown_stays second.now))
+    (literal (codes "'") refl)
+fault_told faults.NoFiles = literal (codes "error: FILE or --files0-from is required") refl
 fault_told (faults.WrongLimit wrong word) = word_told (wrong_word wrong) word.now (wrong_told wrong)
 fault_told faults.OutOfMemory = literal (codes "wasm-check: out of memory") refl
 
@@ -72,6 +78,10 @@ reason_stays IsADirectory = literal (codes "is a directory") refl
 reason_stays NotADirectory = literal (codes "not a directory") refl
 reason_stays FilesystemLoop = literal (codes "too many links") refl
 reason_stays InvalidFilename = literal (codes "name too long") refl
+reason_stays StorageFull = literal (codes "no space left") refl
+reason_stays QuotaExceeded = literal (codes "quota exceeded") refl
+reason_stays FileTooLarge = literal (codes "file too large") refl
+reason_stays BrokenPipe = literal (codes "broken pipe") refl
 reason_stays NotUtf8 = literal (codes "a name has to be UTF-8") refl
 reason_stays reasons.Unknown = tt
 
@@ -105,6 +115,8 @@ helped (faults.Stopped error name reason) = reason_stays reason
 helped (faults.CannotHold reason) = reason_stays reason
 helped (faults.UnknownFeature word) = meant_told (option_and_then word_for (meant_by word.now)) (meant_stays (meant_by word.now))
 helped (faults.WrongPieces word) = tt
+helped (faults.Clash first second) = tt
+helped faults.NoFiles = tt
 helped (faults.WrongLimit wrong word) = wrong_helped wrong word.now
 helped faults.OutOfMemory = tt
 
@@ -126,6 +138,8 @@ fault_word_stays (faults.Stopped error name reason) = error_stays error
 fault_word_stays (faults.CannotHold reason) = literal (codes "cannot open") refl
 fault_word_stays (faults.UnknownFeature word) = literal (codes "unknown feature") refl
 fault_word_stays (faults.WrongPieces word) = literal (codes "invalid value") refl
+fault_word_stays (faults.Clash first second) = literal (codes "argument conflict") refl
+fault_word_stays faults.NoFiles = literal (codes "missing argument") refl
 fault_word_stays (faults.WrongLimit wrong word) = wrong_told wrong
 fault_word_stays faults.OutOfMemory = literal (codes "out of memory") refl
 
@@ -151,6 +165,8 @@ subject_stays (faults.Stopped error name reason) = stopped_member_stays error na
 subject_stays (faults.CannotHold reason) = file_stays (codes "/dev/null")
 subject_stays (faults.UnknownFeature word) = word_member_stays word.now
 subject_stays (faults.WrongPieces word) = word_member_stays word.now
+subject_stays (faults.Clash first second) = word_member_stays second.now
+subject_stays faults.NoFiles = nothing
 subject_stays (faults.WrongLimit wrong word) = word_member_stays word.now
 subject_stays faults.OutOfMemory = nothing
 

@@ -3,3 +3,4 @@ pub mod ListLemmas
 pub mod FeatureLemmas
 pub mod RowsOfLists
 pub mod LimitLemmas
+pub mod WordListLemmas

@@ -60,7 +60,7 @@ module _ (list rest : List ℕ) (back : IsBack list rest) (word : List ℕ) wher
 -- ---- what a list makes of a state
 module _ {S F : Type 0} (step : Place → List ℕ → S → Result S F) where
   -- the first word is taken
-  taken : (start : ℕ) (word : List ℕ) (words : List (List ℕ)) (s t : S) → step (place_of start word) word s ≡ Ok t
+  pub taken : (start : ℕ) (word : List ℕ) (words : List (List ℕ)) (s t : S) → step (place_of start word) word s ≡ Ok t
       → through step start (word ∷ words) s ≡ through step (start + length word + 1) words t
   unfolding through
   taken start word words s t e = ap (λ (r : Result S F). elim r [ Ok u ↦ through step (start + length word + 1) words u | Err f ↦ Err f ]) e
@@ -72,7 +72,7 @@ module _ {S F : Type 0} (step : Place → List ℕ → S → Result S F) where
   refused start word words s f e = ap (λ (r : Result S F). elim r [ Ok u ↦ through step (start + length word + 1) words u | Err g ↦ Err g ]) e
 
   -- no word is left
-  ended : (start : ℕ) (s : S) → through step start [] s ≡ Ok s
+  pub ended : (start : ℕ) (s : S) → through step start [] s ≡ Ok s
   unfolding through
   ended start s = refl
 

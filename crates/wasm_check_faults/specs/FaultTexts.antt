@@ -7,7 +7,7 @@ use Rattle.wasm_check_lines.specs.Json.{json_text}
 use Rattle.wasm_check_lines.specs.Shown.{shown}
 use Rattle.wasm_check_faults.specs.FeatureLists.{meant_by}
 use Rattle.wasm_check_faults.specs.LimitLists.{word_ceiling}
-use Rattle.wasm_check_faults.specs.Reasons.{reason_hint}
+use Rattle.wasm_check_faults.specs.Reasons.{is_broken_pipe, reason_hint}
 use Rattle.wasm_check_faults.specs.declared.error.CheckError.{CheckError}
 use Rattle.wasm_check_faults.specs.declared.error.CheckError.TheVariants.{Read, TooLong, OutOfMemory, Write}
 use Rattle.wasm_check_faults.specs.declared.faults.Below.{Below}
@@ -30,6 +30,10 @@ word_text what word = codes "wasm-check: " ++ what ++ codes " `" ++ shown word +
 -- a number of bytes that `--pieces` may not have, in the form of clap
 abbrev pub bad_pieces_text : List ℕ → List ℕ
 bad_pieces_text word = codes "error: invalid value '" ++ shown word ++ codes "' for '--pieces <N>': it is not in 1..=1048576"
+
+-- two options that do not go together, in the form of clap
+abbrev pub clash_text : List ℕ → List ℕ → List ℕ
+clash_text first second = codes "error: the argument '" ++ shown first ++ codes "' cannot be used with '" ++ shown second ++ codes "'"
 
 -- what is wrong with a word of `--limits`
 abbrev pub wrong_word : Wrong → List ℕ
@@ -56,6 +60,8 @@ fault_text (faults.Stopped error name reason) = stopped_text error name.now
 fault_text (faults.CannotHold reason) = file_text (codes "/dev/null") (codes "cannot open")
 fault_text (faults.UnknownFeature word) = word_text (codes "unknown feature") word.now
 fault_text (faults.WrongPieces word) = bad_pieces_text word.now
+fault_text (faults.Clash first second) = clash_text first.now second.now
+fault_text faults.NoFiles = codes "error: FILE or --files0-from is required"
 fault_text (faults.WrongLimit wrong word) = word_text (wrong_word wrong) word.now
 fault_text faults.OutOfMemory = codes "wasm-check: out of memory"
 
@@ -89,6 +95,8 @@ fault_hint (faults.Stopped error name reason) = reason_hint reason
 fault_hint (faults.CannotHold reason) = reason_hint reason
 fault_hint (faults.UnknownFeature word) = meant_hint (option_and_then word_for (meant_by word.now))
 fault_hint (faults.WrongPieces word) = None
+fault_hint (faults.Clash first second) = None
+fault_hint faults.NoFiles = None
 fault_hint (faults.WrongLimit wrong word) = wrong_hint wrong word.now
 fault_hint faults.OutOfMemory = None
 
@@ -101,6 +109,8 @@ fault_word (faults.Stopped error name reason) = error_word error
 fault_word (faults.CannotHold reason) = codes "cannot open"
 fault_word (faults.UnknownFeature word) = codes "unknown feature"
 fault_word (faults.WrongPieces word) = codes "invalid value"
+fault_word (faults.Clash first second) = codes "argument conflict"
+fault_word faults.NoFiles = codes "missing argument"
 fault_word (faults.WrongLimit wrong word) = wrong_word wrong
 fault_word faults.OutOfMemory = codes "out of memory"
 
@@ -121,6 +131,8 @@ subject_member (faults.Stopped error name reason) = stopped_member error name.no
 subject_member (faults.CannotHold reason) = text_member (codes "file") (codes "/dev/null")
 subject_member (faults.UnknownFeature word) = text_member (codes "word") word.now
 subject_member (faults.WrongPieces word) = text_member (codes "word") word.now
+subject_member (faults.Clash first second) = text_member (codes "word") second.now
+subject_member faults.NoFiles = []
 subject_member (faults.WrongLimit wrong word) = text_member (codes "word") word.now
 subject_member faults.OutOfMemory = []
 
@@ -137,8 +149,25 @@ is_usage (faults.Stopped error name reason) = false
 is_usage (faults.CannotHold reason) = false
 is_usage (faults.UnknownFeature word) = false
 is_usage (faults.WrongPieces word) = true
+is_usage (faults.Clash first second) = true
+is_usage faults.NoFiles = true
 is_usage (faults.WrongLimit wrong word) = false
 is_usage faults.OutOfMemory = false
+
+-- nothing is told: it is that nobody reads the lines any more
+abbrev pub is_silent : Fault → Bool
+is_silent (faults.CannotOpen name reason) = false
+is_silent (faults.Stopped (Read i) name reason) = false
+is_silent (faults.Stopped (TooLong i) name reason) = false
+is_silent (faults.Stopped (OutOfMemory i) name reason) = false
+is_silent (faults.Stopped Write name reason) = is_broken_pipe reason
+is_silent (faults.CannotHold reason) = false
+is_silent (faults.UnknownFeature word) = false
+is_silent (faults.WrongPieces word) = false
+is_silent (faults.Clash first second) = false
+is_silent faults.NoFiles = false
+is_silent (faults.WrongLimit wrong word) = false
+is_silent faults.OutOfMemory = false
 
 -- what comes below the line of another fault
 abbrev pub help_below : Below → Fault → List ℕ

@@ -3,6 +3,7 @@ pub mod Errors
 pub mod Reasons
 pub mod Lists
 pub mod FeatureLists
+pub mod WordLists
 pub mod LimitLists
 pub mod FaultTexts
 pub mod LineLaws

@@ -7,14 +7,14 @@ ghost use Rattle.std.specs.Prelude.{◌≡◌, option_and_then};
 ghost use Rattle.wasm_check_lines.specs.FeatureWords.{word_for};
 ghost use Rattle.wasm_check_lines.specs.Hints.{framed};
 ghost use Rattle.wasm_check_faults.specs.FeatureLists.{meant_by};
-ghost use Rattle.wasm_check_faults.specs.FaultTexts.{below_text, bad_pieces_text, ceiling_hint, fault_hint, fault_object, fault_word, file_text, is_usage, known_text, meant_hint, most_text, subject_member, text_member, word_text};
+ghost use Rattle.wasm_check_faults.specs.FaultTexts.{below_text, bad_pieces_text, ceiling_hint, clash_text, fault_hint, fault_object, fault_word, file_text, is_silent, is_usage, known_text, meant_hint, most_text, subject_member, text_member, word_text};
 ghost use Rattle.wasm_check_faults.specs.LimitLists.{word_ceiling};
 ghost use Rattle.wasm_check_faults.specs.LineLaws.{FaultsStayInLine};
 
 use crate::error::CheckError;
 use crate::features::feature_meant;
 use crate::limits::{Wrong, ceiling_of};
-use crate::reason::{Reason, reason_hint};
+use crate::reason::{Reason, is_broken_pipe, reason_hint};
 use std::fmt;
 use wasm_check_lines::{Quoted, Shown, word_for, write_framed};
 
@@ -23,6 +23,10 @@ use wasm_check_lines::{Quoted, Shown, word_for, write_framed};
 pub enum Fault<'a> {
     /// This is no number of bytes for `--pieces`.
     WrongPieces(&'a str),
+    /// These two options do not go together.
+    Clash(&'static str, &'static str),
+    /// No file is named.
+    NoFiles,
     /// The list of `--features` has this word, which is unknown.
     UnknownFeature(&'a str),
     /// The list of `--limits` has this word, with which this is wrong.
@@ -32,7 +36,7 @@ pub enum Fault<'a> {
         name: &'a str,
         reason: Reason,
     },
-    /// The judging stopped, at the file of this name where the error has a place; and where a read failed, for this reason.
+    /// The judging stopped, at the file of this name where the error has a place; and where a read or a write failed, for this reason.
     Stopped {
         error: CheckError,
         name: &'a str,
@@ -64,6 +68,8 @@ impl fmt::Display for Fault<'_> {
     fn fmt<W: fmt::Write>(&self, f: &mut fmt::Formatter<W>) -> fmt::Result {
         match self {
             Fault::WrongPieces(word) => write_bad_pieces(f, *word),
+            Fault::Clash(first, second) => write_clash(f, *first, *second),
+            Fault::NoFiles => f.write_str("error: FILE or --files0-from is required"),
             Fault::UnknownFeature(word) => write_word(f, "unknown feature", *word),
             Fault::WrongLimit(wrong, word) => match wrong {
                 Wrong::Unknown => write_word(f, "unknown limit", *word),
@@ -110,6 +116,18 @@ fn write_bad_pieces<W: fmt::Write>(f: &mut fmt::Formatter<W>, word: &str) -> fmt
     write!(
         f,
         "error: invalid value '{word}' for '--pieces <N>': it is not in 1..=1048576"
+    )
+}
+
+// What is told of two options that do not go together, as `clap` tells it.
+fn write_clash<W: fmt::Write>(f: &mut fmt::Formatter<W>, first: &str, second: &str) -> fmt::Result
+    ensures { WritesOnOk W.write_str_gives f.old result (clash_text first.now second.now) f.new }
+{
+    let first = Shown(first);
+    let second = Shown(second);
+    write!(
+        f,
+        "error: the argument '{first}' cannot be used with '{second}'"
     )
 }
 
@@ -183,6 +201,8 @@ fn write_fault_hint<W: fmt::Write>(
 {
     match fault {
         Fault::WrongPieces(_) => Ok(()),
+        Fault::Clash(_, _) => Ok(()),
+        Fault::NoFiles => Ok(()),
         Fault::UnknownFeature(word) => write_meant(f, before, *word, after),
         Fault::WrongLimit(wrong, word) => match wrong {
             Wrong::Unknown => Ok(()),
@@ -210,6 +230,8 @@ fn fault_word(fault: &Fault<'_>) -> &'static str
 {
     match fault {
         Fault::WrongPieces(_) => "invalid value",
+        Fault::Clash(_, _) => "argument conflict",
+        Fault::NoFiles => "missing argument",
         Fault::UnknownFeature(_) => "unknown feature",
         Fault::WrongLimit(wrong, _) => match wrong {
             Wrong::Unknown => "unknown limit",
@@ -237,6 +259,8 @@ fn write_subject<W: fmt::Write>(f: &mut fmt::Formatter<W>, fault: &Fault<'_>) ->
 {
     match fault {
         Fault::WrongPieces(word) => write_member(f, "word", *word),
+        Fault::Clash(_, second) => write_member(f, "word", *second),
+        Fault::NoFiles => Ok(()),
         Fault::UnknownFeature(word) => write_member(f, "word", *word),
         Fault::WrongLimit(_, word) => write_member(f, "word", *word),
         Fault::CannotHold(_) => write_member(f, "file", "/dev/null"),
@@ -280,6 +304,8 @@ fn is_usage(fault: &Fault<'_>) -> bool
 {
     match fault {
         Fault::WrongPieces(_) => true,
+        Fault::Clash(_, _) => true,
+        Fault::NoFiles => true,
         Fault::UnknownFeature(_) => false,
         Fault::WrongLimit(_, _) => false,
         Fault::CannotHold(_) => false,
@@ -289,6 +315,32 @@ fn is_usage(fault: &Fault<'_>) -> bool
             name: _,
             reason: _,
         } => false,
+        Fault::OutOfMemory => false,
+    }
+}
+
+/// Whether nothing is told of a fault: it is that nobody reads the lines any more.
+pub fn is_silent(fault: &Fault<'_>) -> bool
+    ensures { result ≡ is_silent fault.now }
+{
+    match fault {
+        Fault::WrongPieces(_) => false,
+        Fault::Clash(_, _) => false,
+        Fault::NoFiles => false,
+        Fault::UnknownFeature(_) => false,
+        Fault::WrongLimit(_, _) => false,
+        Fault::CannotHold(_) => false,
+        Fault::CannotOpen { name: _, reason: _ } => false,
+        Fault::Stopped {
+            error,
+            name: _,
+            reason,
+        } => match error {
+            CheckError::Read(_) => false,
+            CheckError::TooLong(_) => false,
+            CheckError::OutOfMemory(_) => false,
+            CheckError::Write => is_broken_pipe(*reason),
+        },
         Fault::OutOfMemory => false,
     }
 }

@@ -2,8 +2,9 @@
 ghost use Rattle.std.specs.Prelude.{◌≡◌, bytes_eq, Ok, Err, IfErr, MatchResult, option_map};
 ghost use Rattle.wasm_check_faults.specs.Lists.{place_of, IsWordAt};
 ghost use Rattle.wasm_check_faults.specs.ListRows.{FeatureRows};
-ghost use Rattle.wasm_check_faults.specs.FeatureLists.{hyphened, word_of, set_words, named, set_after, features_along, features_of, meant_by};
+ghost use Rattle.wasm_check_faults.specs.FeatureLists.{all_features, hyphened, word_of, set_words, named, set_after, features_along, features_of, meant_by};
 ghost use Rattle.wasm_check_lines.specs.FeatureWords.{feature_words};
+ghost use Rattle.wasm_types.specs.settings.Sets.{bits_of};
 
 use crate::lists::{ListedWord, first_word};
 use bitflags::Flags;
@@ -114,6 +115,13 @@ fn set_named(word: &str) -> Option<WasmFeatures>
         return Some(WasmFeatures::from_bits_retain(ALL));
     }
     None
+}
+
+/// The set `all`.
+pub fn every_feature() -> WasmFeatures
+    ensures { result.0 ≡ bits_of all_features }
+{
+    WasmFeatures::from_bits_retain(ALL)
 }
 
 /// What a word makes of a set, if it is known.

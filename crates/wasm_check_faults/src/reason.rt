@@ -1,11 +1,11 @@
-//! Why the system refused a file.
+//! Why the system refused a file or a write.
 ghost use Rattle.std.specs.IoError.{error_kind};
 ghost use Rattle.std.specs.Prelude.{◌≡◌, option_map};
-ghost use Rattle.wasm_check_faults.specs.Reasons.{IsReason, reason_hint};
+ghost use Rattle.wasm_check_faults.specs.Reasons.{IsReason, is_broken_pipe, reason_hint};
 
 use std::io;
 
-/// Why the system refused to open a file or to read from it, as far as it says.
+/// Why the system refused to open a file, to read from it or to write, as far as it says.
 #[derive(Clone, Copy, Debug, PartialEq, Eq)]
 pub enum Reason {
     /// No file has this name.
@@ -20,6 +20,14 @@ pub enum Reason {
     FilesystemLoop,
     /// The name is longer than names are there.
     InvalidFilename,
+    /// No space is left.
+    StorageFull,
+    /// The user's share of the space is used up.
+    QuotaExceeded,
+    /// The file would be longer than files may be.
+    FileTooLarge,
+    /// It is a pipe that nobody reads any more.
+    BrokenPipe,
     /// The name is no UTF-8.
     NotUtf8,
     /// Any other reason, or none.
@@ -58,6 +66,18 @@ impl Reason {
         if kind == io::ErrorKind::InvalidFilename {
             return Reason::InvalidFilename;
         }
+        if kind == io::ErrorKind::StorageFull {
+            return Reason::StorageFull;
+        }
+        if kind == io::ErrorKind::QuotaExceeded {
+            return Reason::QuotaExceeded;
+        }
+        if kind == io::ErrorKind::FileTooLarge {
+            return Reason::FileTooLarge;
+        }
+        if kind == io::ErrorKind::BrokenPipe {
+            return Reason::BrokenPipe;
+        }
         Reason::Unknown
     }
 }
@@ -73,7 +93,31 @@ pub fn reason_hint(reason: Reason) -> Option<&'static str>
         Reason::NotADirectory => Some("not a directory"),
         Reason::FilesystemLoop => Some("too many links"),
         Reason::InvalidFilename => Some("name too long"),
+        Reason::StorageFull => Some("no space left"),
+        Reason::QuotaExceeded => Some("quota exceeded"),
+        Reason::FileTooLarge => Some("file too large"),
+        Reason::BrokenPipe => Some("broken pipe"),
         Reason::NotUtf8 => Some("a name has to be UTF-8"),
         Reason::Unknown => None,
+    }
+}
+
+/// Whether it is that nobody reads the pipe any more.
+pub fn is_broken_pipe(reason: Reason) -> bool
+    ensures { result ≡ is_broken_pipe reason }
+{
+    match reason {
+        Reason::NotFound => false,
+        Reason::PermissionDenied => false,
+        Reason::IsADirectory => false,
+        Reason::NotADirectory => false,
+        Reason::FilesystemLoop => false,
+        Reason::InvalidFilename => false,
+        Reason::StorageFull => false,
+        Reason::QuotaExceeded => false,
+        Reason::FileTooLarge => false,
+        Reason::BrokenPipe => true,
+        Reason::NotUtf8 => false,
+        Reason::Unknown => false,
     }
 }

@@ -3,49 +3,15 @@
 //! A word is a text here, and the system's calls take names as texts. A file whose name is no UTF-8 cannot be opened by them, but it need not
 //! stop the others: such a word becomes a text that no file has for a name. A word of the system never has the byte 0, so a text with it stands
 //! for no other word, and opening a file of that name fails.
-ghost use Rattle.std.specs.Prelude.{◌≡◌, IfOk, string_bytes};
-ghost use Rattle.wasm_check_program.specs.CommandWords.{byte_text, escaped, IsWordText};
-
 use std::alloc::{AllocError, Global};
 use std::env::{Env, FillError};
+use wasm_check_command::word_text;
 
 /// How many bytes of a word there is room for at first.
 const ROOM: usize = 256;
 
 /// How often the room is doubled: more bytes than a word can have.
 const DOUBLINGS: usize = 40;
-
-/// A byte of a word that is no UTF-8: itself if it is ASCII, else the byte 0 and two hexadecimal digits.
-fn byte_text(alloc: Global, byte: u8) -> Result<String, AllocError>
-    ensures { IfOk result (λ t. string_bytes t ≡ byte_text byte) }
-{
-    if byte < 0x80 {
-        return format!(in alloc; "{}", byte as char);
-    }
-    format!(in alloc; "\0{byte:x}")
-}
-
-/// A word that is no UTF-8, as a text.
-fn escaped(alloc: Global, word: &[u8]) -> Result<String, AllocError>
-    ensures { IfOk result (λ t. string_bytes t ≡ escaped word.now) }
-{
-    let mut text = String::new(alloc);
-    for place in 0..word.len() {
-        let part = byte_text(alloc, word[place])?;
-        text.push_str(part.as_str())?;
-    }
-    Ok(text)
-}
-
-/// A word as a text.
-fn word_text(alloc: Global, word: &[u8]) -> Result<String, AllocError>
-    ensures { IfOk result (λ t. IsWordText word.now (string_bytes t)) }
-{
-    match str::from_utf8(word) {
-        Ok(text) => String::from_str(alloc, text),
-        Err(_) => escaped(alloc, word),
-    }
-}
 
 /// How long the word at this place is, which the room then begins with; None if there is no such word.
 fn fill<R: Env>(rt: &R, place: usize, room: &mut Vec<u8>) -> Result<Option<usize>, AllocError> {

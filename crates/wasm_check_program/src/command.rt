@@ -13,8 +13,8 @@ use wasm_check_command::run_by;
 
 /// Runs the program on these words, of which the first is its own name, and gives its exit status:
 /// 0 if all files are valid, or if the words ask for the help, the version or a table and it was shown; 1 if some file is invalid; 2 if
-/// the words name no files by `clap`'s reading or have a list that is refused, and then nothing is written to `out`, if a fault stopped the
-/// judging or the help, or if a file came to no verdict and the judging went on. The files are judged by the features and limits that the
+/// the words name no files by `clap`'s reading, or have options that do not go together or a list that is refused, and then nothing is written to `out`, if a fault stopped the
+/// judging or the help, or if a file came to no verdict and the judging went on. Files may be named by a list in a file. The files are judged by the features and limits that the
 /// words ask for. All files are opened before the first is judged, except with `--keep-going`; those past the first hundred are then closed,
 /// and opened again in their turn, and so are all if the system does not let so many be open. The file `-` is standard input. A fault has one
 /// line on `err`, and with `--json` an object below it.

@@ -12,7 +12,10 @@ read = record {
   behind_dashes = record { taken = refl; named = refl };
   help = refl;
   version = refl;
-  none = refl;
+  none = record { taken = refl; named = refl };
+  named_by_list = refl;
+  no_list_file = refl;
+  two_list_files = refl;
   unknown = refl;
   no_list = record { names = record { taken = refl; named = refl }; features_are = refl; limits_are = refl };
   list = record { names = record { taken = refl; named = refl }; features_are = refl; limits_are = refl };
@@ -36,6 +39,7 @@ read = record {
   no_flag = refl;
   flag = refl;
   flag_behind = refl;
+  needs_flag = refl;
   other_flag = refl;
   flag_as_file = refl;
   flag_with_value = refl;

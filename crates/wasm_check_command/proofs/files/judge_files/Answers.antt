@@ -3,8 +3,8 @@ use Rattle.wasm_check_command.specs.Files.{texts}
 use Rattle.wasm_check_command.proofs.FileReports.{files_flushed, faults_flushed, files_unflushed}
 use Rattle.wasm_check_command.proofs.files.judge_files.Goals as goal
 
-pub returns-then-is_err-clause-err : goal.returns-then-is_err-clause-err
-returns-then-is_err-clause-err g c =
+pub returns-in-Err-flush-clause-err : goal.returns-in-Err-flush-clause-err
+returns-in-Err-flush-clause-err g c =
     files_unflushed (ruling_of g.J.Judge.accepts c.args.chosen) c.judge_in_turn-judged.result (texts c.args.names.now) (g.W.Write.contents c.args.out.now)
     (g.W.Write.contents c.judge_in_turn-judged.new.out) (g.W.Write.contents c.flush.new.self) _ c.judge_in_turn-judged.ensures.ok c.judge_in_turn-judged.ensures.err c.flush.ensures.bytes
 

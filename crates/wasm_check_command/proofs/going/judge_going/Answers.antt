@@ -4,8 +4,8 @@ use Rattle.wasm_check_command.specs.Files.{texts}
 use Rattle.wasm_check_command.proofs.FileReports.{going_flushed, going_faults_flushed, going_unflushed}
 use Rattle.wasm_check_command.proofs.going.judge_going.Goals as goal
 
-pub returns-then-is_err-clause-err : goal.returns-then-is_err-clause-err
-returns-then-is_err-clause-err g c = (
+pub returns-in-Err-clause-err : goal.returns-in-Err-clause-err
+returns-in-Err-clause-err g c = (
   refl,
   going_unflushed (ruling_of g.J.Judge.accepts c.args.chosen) c.judge_each-judged.result (texts c.args.names.now) (g.W.Write.contents c.args.out.now)
       (g.W.Write.contents c.judge_each-judged.new.out) (g.W.Write.contents c.flush.new.self) c.judge_each-judged.ensures.ok c.judge_each-judged.ensures.err c.flush.ensures.bytes,

@@ -1,7 +1,7 @@
 use Rattle.std.proofs.Common.{map}
 use Rattle.clap.specs.Simple.{app_of}
 use Rattle.wasm_check_command.proofs.FileLemmas.{matches_by, refused_by}
-use Rattle.wasm_check_command.proofs.command.parse.Goals as goal
+use Rattle.wasm_check_command.proofs.arguments.parse.Goals as goal
 
 pub returns-clause-ok : goal.returns-clause-ok
 returns-clause-ok g c =

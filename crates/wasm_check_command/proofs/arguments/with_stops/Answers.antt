@@ -1,7 +1,7 @@
 use Rattle.std.proofs.Common.{◌∙◌, ap, codes}
 use Rattle.clap.specs.Words.{app_of, with_rule}
 use Rattle.wasm_check_command.specs.Words.{flag_rule}
-use Rattle.wasm_check_command.proofs.command.with_stops.Goals as goal
+use Rattle.wasm_check_command.proofs.arguments.with_stops.Goals as goal
 
 pub returns : goal.returns
 returns c =

@@ -1,0 +1,52 @@
+//! Files that a list names.
+ghost use Rattle.std.specs.Prelude.{◌≡◌, ℕ, List, IfOk, IfErr, map, string_bytes};
+ghost use Rattle.wasm_check_command.specs.Files.{HasNames, IsListFault, texts};
+
+use crate::files::open_named;
+use crate::judging::read_whole;
+use crate::names::names_in;
+use std::alloc::{AllocError, Global};
+use std::io::Input as Standard;
+use std::rt::Files;
+use wasm_check_faults::Fault;
+
+/// The names in the list that a file has; `-` is standard input.
+pub(crate) fn read_list<'a, F: Files + Standard>(
+    alloc: Global,
+    rt: &F,
+    list: &'a str,
+) -> Result<Vec<String>, Fault<'a>>
+    ensures ok { IfOk result (λ names. HasNames (map string_bytes names.items)) }
+    ensures err { (given : List (List ℕ)) → IfErr result (IsListFault list.entry.now given) }
+{
+    let mut reader = match open_named(rt, list) {
+        Ok(reader) => reader,
+        Err(fault) => return Err(fault),
+    };
+    let mut bytes = Vec::new(alloc);
+    match read_whole(0, &mut reader, &mut bytes) {
+        Ok(()) => (),
+        Err(failure) => {
+            return Err(Fault::Stopped {
+                error: failure.error,
+                name: list,
+                reason: failure.reason,
+            });
+        }
+    }
+    match names_in(alloc, bytes.as_slice()) {
+        Ok(names) => Ok(names),
+        Err(_) => Err(Fault::OutOfMemory),
+    }
+}
+
+/// These names, borrowed.
+pub(crate) fn borrowed<'a>(alloc: Global, names: &'a [String]) -> Result<Vec<&'a str>, AllocError>
+    ensures { IfOk result (λ all. texts all.items ≡ map string_bytes names.entry.now) }
+{
+    let mut all = Vec::new(alloc);
+    for place in 0..names.len() {
+        all.push(names[place].as_str())?;
+    }
+    Ok(all)
+}

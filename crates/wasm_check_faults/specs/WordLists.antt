@@ -1,0 +1,89 @@
+-- Lists of features that begin with `mvp`: each word after it adds a feature.
+use Rattle.std.specs.Prelude.{◌≡◌, ℕ, ◌<◌, ◌+◌, List, [], ◌∷◌, ◌++◌, All, Contains, length, map, flat_map, take, drop, codes, Result, Ok}
+use Rattle.std.specs.Int.RustNames.{bit_or}
+use Rattle.wasm_types.specs.settings.Features.{vectors_bit}
+use Rattle.wasm_check_lines.specs.FeatureWords.{feature_words}
+use Rattle.wasm_check_lines.specs.Json.{json_text}
+use Rattle.wasm_check_lines.specs.Shown.{shown}
+use Rattle.wasm_check_lines.specs.LineLaws.{IsOneLine}
+use Rattle.wasm_check_lines.specs.declared.forms.Form.{Form}
+use Rattle.wasm_check_lines.specs.declared.forms.Form.TheVariants.{Lines, Json, Quiet}
+use Rattle.wasm_check_faults.specs.FeatureLists.{features_of}
+use Rattle.wasm_check_faults.specs.declared.word_lists.FeatureWord.{FeatureWord}
+
+-- a comma (44), and a word
+abbrev pub next_word : List ℕ → List ℕ
+next_word word = 44 ∷ word
+
+-- `mvp` and these words, as a list of `--features`
+unfoldable pub listed : List (List ℕ) → List ℕ
+listed words = codes "mvp" ++ flat_map next_word words
+
+-- a word and its bits, as a row of the table of words
+abbrev pub row_of : FeatureWord → List ℕ × ℕ
+row_of w = (w.word.now, w.features.0)
+
+-- the words alone
+abbrev pub words_in : List FeatureWord → List (List ℕ)
+words_in words = map (λ w. w.word.now) words
+
+-- each is the word of a feature, beside the bits that its name stands for
+abbrev pub AreFeatures : List FeatureWord → Type 0
+AreFeatures words = All (λ w. Contains feature_words (row_of w)) words
+
+-- ---- the least list
+
+-- the words without the one at this place
+abbrev pub without_word : ℕ → List (List ℕ) → List (List ℕ)
+without_word place words = take place words ++ drop (place + 1) words
+
+-- these are the bits of the list with these words, with the switch for operators on vectors
+abbrev pub HasBits : List (List ℕ) → ℕ → Type 0
+HasBits words bits = (features : ℕ) × (features_of (listed words) ≡ Ok features) × (bits ≡ bit_or features vectors_bit)
+
+-- By the features of the list with these words and with operators on vectors it is valid: `accepts` says by which bits it is.
+pub record Suffices (accepts : ℕ → Type 0) (words : List (List ℕ)) : Type 0 where
+  pub features : ℕ
+  pub named : features_of (listed words) ≡ Ok features
+  pub valid : accepts (bit_or features vectors_bit)
+
+-- by those it is not
+pub record Lacks (accepts : ℕ → Type 0) (words : List (List ℕ)) : Type 0 where
+  pub features : ℕ
+  pub named : features_of (listed words) ≡ Ok features
+  pub invalid : ¬ accepts (bit_or features vectors_bit)
+
+-- the word of a feature
+abbrev pub IsFeature : List ℕ → Type 0
+IsFeature word = Contains (map (λ row. row.0) feature_words) word
+
+-- By this list it is valid, and by the list without any one of its words it is not.
+pub record IsLeast (accepts : ℕ → Type 0) (words : List (List ℕ)) : Type 0 where
+  pub known : All IsFeature words
+  pub enough : Suffices accepts words
+  pub least : (place : ℕ) → place < length words → Lacks accepts (without_word place words)
+
+-- ---- what is written of it
+
+-- `NAME: needs LIST`, the name as it is shown
+abbrev pub needs_line : List ℕ → List (List ℕ) → List ℕ
+needs_line name words = shown name ++ codes ": needs " ++ listed words ++ codes "\n"
+
+-- `{"file":"NAME","valid":true,"needs":"LIST"}`
+abbrev pub needs_object : List ℕ → List (List ℕ) → List ℕ
+needs_object name words = codes "{\"file\":\"" ++ json_text name ++ codes "\",\"valid\":true,\"needs\":\"" ++ listed words ++ codes "\"}\n"
+
+-- in each form
+abbrev pub needs_text : Form → List ℕ → List (List ℕ) → List ℕ
+needs_text Lines name words = needs_line name words
+needs_text Json name words = needs_object name words
+needs_text Quiet name words = []
+
+-- A law: each is one line, whatever the file's name holds; and worked lines.
+pub record NeedsEndOnce : Type 0 where
+  pub line : (name : List ℕ) (words : List (List ℕ)) → All IsFeature words → IsOneLine (needs_line name words)
+  pub object : (name : List ℕ) (words : List (List ℕ)) → All IsFeature words → IsOneLine (needs_object name words)
+  pub mvp : needs_line (codes "a\n") [] ≡ codes "a\\u{a}: needs mvp\n"
+  pub two : needs_line (codes "a") (codes "gc" ∷ codes "simd" ∷ []) ≡ codes "a: needs mvp,gc,simd\n"
+  pub two_json : needs_object (codes "a") (codes "gc" ∷ codes "simd" ∷ [])
+      ≡ codes "{\"file\":\"a\",\"valid\":true,\"needs\":\"mvp,gc,simd\"}\n"
