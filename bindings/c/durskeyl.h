@@ -9,8 +9,8 @@
  * many there are, and in each row the names, the kind and the index that the module has, in its order; of any other bytes, that the names of
  * all rows that were written lie in the bytes, unless the answer is DURSKEYL_NO_MODULE. Of a module whose pieces are handed over:
  * durskeyl_take answers DURSKEYL_VALID only if each whole item that came was judged and none is refused; a kind that is a
- * verdict only if no module that begins with these bytes is valid; DURSKEYL_TOO_LONG only if a section or body of them has more bytes than
- * the cap, or there are 2^64 of them; and a refusal of bytes stays. durskeyl_end answers of all pieces that were taken what durskeyl_validate
+ * verdict only if no module that begins with these bytes is valid; DURSKEYL_TOO_LONG only if a section or body of them, without the contents of
+ * a custom section, has more bytes than the cap, or there are 2^64 of them; and a refusal of bytes stays. durskeyl_end answers of all pieces that were taken what durskeyl_validate
  * is proved to answer of whole bytes, or DURSKEYL_TOO_LONG, as durskeyl_take does. Between calls no more bytes are held than the cap says. All
  * calls end on all bytes, read only what they are given, and write only the fault, the rows or the handle. Except for the four calls on a handle
  * no call depends on an earlier one, keeps anything, or leaves anything to free.
@@ -24,8 +24,8 @@
  *     and no process, so no file mapped as shared.
  *   - the fault overlaps neither the bytes nor the settings. rows are so many, apart from the bytes, and aligned; null only with capacity 0.
  *   - a durskeyl_pieces is all 0 before the first call that takes it, is written by these calls alone, and is not copied: of two copies one
- *     call leaves the other with memory that is gone. It overlaps nothing that a call takes besides. One thread at a time uses it, and the
- *     thread that began a module is the one that hands it over, ends it or drops it.
+ *     call leaves the other with memory that is gone. It overlaps nothing that a call takes besides. One thread at a time uses it; each call may
+ *     come from another thread, if that one sees what the one before has written, as after a lock or a join.
  *   - malloc, realloc and free belong together and align to 16; there are 128 KiB of stack, for the library and what the C library
  *     takes of it in these three; no call comes from a signal handler, nor after fork in the child of a process with threads, before exec.
  * Any number of threads may call at once, each with handles of its own. */
@@ -167,7 +167,7 @@ typedef struct {
     char text[260];               /* for people, in UTF-8, with a 0 after it; no stable wording. It may hold a name of the module, with
                                    * any characters: escape it before it is printed to a terminal or a log */
     uint32_t limit;               /* if a limit refused the bytes, 1 more than its place in settings.limits (enum durskeyl_limit); else 0. In
-                                   * pieces a limit of one table or one memory is not told. A library of 0.2.0 writes 0 */
+                                   * pieces a limit of one table or one memory is not told. The release 0.2.0 writes 0 */
 } durskeyl_fault;
 
 /* A module whose pieces are handed over: what the library keeps of it, between durskeyl_begin and durskeyl_end or durskeyl_drop. */
@@ -230,9 +230,10 @@ uint32_t durskeyl_is_valid(const uint8_t *bytes, size_t length);
  *
  * most is the cap: of the bytes no more are held between two calls; the list that holds them may take twice the memory while it grows. If
  * more would have to be held, the answer is DURSKEYL_TOO_LONG. A section other than that of the code is one item, and so is each body,
- * which has at most 7.6 MB by the limits: with 16 MB (16 << 20) a module is judged, however it is cut, whose sections besides its code are
- * no longer than that, custom ones and the bytes of id and size counted; with UINT64_MAX each is that memory is there for. What the module
- * declares is kept besides (types, imports, exports, names), as it is by durskeyl_validate.
+ * which has at most 7.6 MB by the limits; of a custom section only the id, the size and the name are held, and its contents go by. With 16 MB
+ * (16 << 20) a module is judged, however it is cut, if its sections, except those of the code and custom ones, are no longer than that, the
+ * bytes of id and size counted; with UINT64_MAX each is that memory is there for. What the module declares is kept besides (types, imports,
+ * exports, names), as it is by durskeyl_validate.
  *
  * A refusal of bytes, one for memory, and DURSKEYL_TOO_LONG stay: each later durskeyl_take, and durskeyl_end, answers the same kind, so it
  * does no harm to hand over the rest. DURSKEYL_BAD_SETTINGS of durskeyl_take does not stay, and its piece is not the module's: do not go on as

@@ -204,6 +204,25 @@ static void pieces(const durskeyl_settings *settings) {
     durskeyl_begin(settings, 0, &it, &fault);
     want("whole, with a cap of 0", durskeyl_take(&it, section, 50, &fault), DURSKEYL_VALID);
     want("whole, with a cap of 0", durskeyl_end(&it, &fault), DURSKEYL_VALID);
+    // contents of a custom section go by, and its name is held
+    const uint8_t custom[] = {0, 0x83, 0x80, 0x40, 2, 'a', 'b'}; // 3 bytes and 2^20 of contents
+    static const uint8_t contents[1 << 19];
+    durskeyl_begin(settings, 16, &it, &fault);
+    durskeyl_take(&it, header, 8, &fault);
+    want("a custom section", durskeyl_take(&it, custom, 7, &fault), DURSKEYL_VALID);
+    want("its contents", durskeyl_take(&it, contents, 1 << 19, &fault), DURSKEYL_VALID);
+    want("an empty piece of them", durskeyl_take(&it, NULL, 0, &fault), DURSKEYL_VALID);
+    want("all of them", durskeyl_take(&it, contents, 1 << 19, &fault), DURSKEYL_VALID);
+    want("their end", durskeyl_end(&it, &fault), DURSKEYL_VALID);
+    durskeyl_begin(settings, 16, &it, &fault);
+    durskeyl_take(&it, header, 8, &fault);
+    durskeyl_take(&it, custom, 7, &fault);
+    durskeyl_take(&it, contents, (1 << 19) - 1, &fault);
+    want("too few contents", durskeyl_end(&it, &fault), DURSKEYL_END_OF_DATA);
+    want("where they begin", fault.offset, 12);
+    durskeyl_begin(settings, 5, &it, &fault);
+    durskeyl_take(&it, header, 8, &fault);
+    want("a part of a name", durskeyl_take(&it, custom, 6, &fault), DURSKEYL_TOO_LONG);
     // what is begun goes if another one is, if none can be, and if it is dropped
     durskeyl_begin(settings, 16, &it, &fault);
     durskeyl_take(&it, other_magic, 8, &fault);

@@ -42,12 +42,14 @@ def words_of(path):
         return it.read().splitlines()
 
 
-def answered(program, words, given=b"", cwd=None, most_open=None, closed=(), own_name=None):
-    """What `wasm-check` writes to standard output and to standard error, line by line, and its status. It may have so many files open, and is
-    started without these descriptors, and by this name."""
+def answered(program, words, given=b"", cwd=None, most_open=None, most_bytes=None, closed=(), own_name=None):
+    """What `wasm-check` writes to standard output and to standard error, line by line, and its status. It may have so many files open, and
+    so much memory, and is started without these descriptors, and by this name."""
     def before():
         if most_open:
             resource.setrlimit(resource.RLIMIT_NOFILE, (most_open, most_open))
+        if most_bytes:
+            resource.setrlimit(resource.RLIMIT_AS, (most_bytes, most_bytes))
         for descriptor in closed:
             os.close(descriptor)
 

@@ -79,6 +79,7 @@ pub(crate) fn no_fault() -> DurskeylFault
 pub(crate) fn bad_settings(fault: &mut DurskeylFault)
     ensures kind { fault.new.kind ≡ 6 }
     ensures detail { fault.new.detail ≡ 0 }
+    ensures limit { fault.new.limit ≡ 0 }
     ensures text { IsEnded fault.new }
 {
     *fault = no_fault();
@@ -88,11 +89,13 @@ pub(crate) fn bad_settings(fault: &mut DurskeylFault)
 /// The fault of a module in pieces of which an item is longer than may be held.
 pub(crate) fn too_long(fault: &mut DurskeylFault)
     ensures kind { fault.new.kind ≡ 7 }
+    ensures limit { fault.new.limit ≡ 0 }
     ensures text { IsEnded fault.new }
 {
     let error = Error::new("an item is longer than may be held", 0);
     write_error(&Limits::default(), &error, fault);
     fault.kind = 7;
+    fault.limit = 0;
 }
 
 /// Writes an error as a fault, which came under these limits.

@@ -324,26 +324,34 @@ fn new_validator(judged: Judged<'_>) -> Validator
     Validator::new_with_limits(judged.alloc, id, judged.features, judged.limits)
 }
 
-/// Tells the validator of a payload. Where it begins, if it is the body of a function that takes more parameters than it may have locals.
-fn take_overfull(
+/// Tells the validator of a body. Where it begins, if its function takes more parameters than it may have locals.
+fn overfull_start(
     judged: Judged<'_>,
     validator: &mut Validator,
-    payload: Payload<'_>,
+    body: &FunctionBody<'_>,
 ) -> Option<u64> {
-    let body = match payload {
-        Payload::CodeSectionEntry(body) => body,
-        other => {
-            pass(validator, other);
-            return None;
-        }
-    };
-    let Ok(function) = validator.code_section_entry(&body) else {
+    let Ok(function) = validator.code_section_entry(body) else {
         return None;
     };
     if takes_too_many(&function, judged.limits) {
         return Some(body.range().start);
     }
     None
+}
+
+/// Tells the validator of a payload. Where it begins, if it is the body of such a function.
+fn take_overfull(
+    judged: Judged<'_>,
+    validator: &mut Validator,
+    payload: Payload<'_>,
+) -> Option<u64> {
+    match payload {
+        Payload::CodeSectionEntry(body) => overfull_start(judged, validator, &body),
+        other => {
+            pass(validator, other);
+            None
+        }
+    }
 }
 
 /// Where the first body begins whose function takes more parameters than it may have locals, if there is one.

@@ -41,8 +41,11 @@ pub(crate) fn add_times(
     times: u32,
     types: &mut Vec<ValType>,
 ) -> Result<(), AllocError> {
+    let Some(ty) = &known else {
+        return Ok(());
+    };
     for _turn in 0..times {
-        add(known, types)?;
+        types.push(*ty)?;
     }
     Ok(())
 }

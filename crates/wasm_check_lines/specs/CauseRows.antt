@@ -59,5 +59,5 @@ pub record CauseRows : Type 0 where
   pub locals : cause_by (codes "too many locals: locals exceed maximum") ≡ causes.Limit limits.Locals
   pub catches : cause_by (codes "catches size is out of bounds") ≡ causes.Limit limits.Catches
   pub handlers : cause_by (codes "resume table size is out of bounds") ≡ causes.Limit limits.Catches
-  pub depth : cause_by (codes "sub type hierarchy too deep: 64 > 63") ≡ causes.Limit limits.SubtypingDepth
+  pub depth : cause_by (codes "sub type hierarchy too deep: found depth 64, cannot exceed depth 63") ≡ causes.Limit limits.SubtypingDepth
   pub type_size : cause_by (codes "effective type size exceeds the limit of 3") ≡ causes.Limit limits.TypeSize

@@ -37,7 +37,7 @@ pub const fn lists_are_worked()
 /// Modules that are validated one after the other are accepted or refused as each is alone, while one list has room for the types of all of them
 /// and then for each group that comes, whole. It has for one module that is the first, and for all that have no more than 2^20 types together.
 /// If types are kept in canonical form only different types need room: there are at most as many different ones as there are types (`once`).
-/// In the terms of the rules alone it is enough that the types so far and those of each module are together at most 2^20 (`modules`).
+/// In the terms of the rules alone it is enough that the types so far and those of all the modules are together at most 2^20 (`modules`).
 pub const fn verdicts_are_isolated()
     ensures alone { (z : Settings) (id : ValidatorId) (held : List Group) (xs : List (List ℕ)) (vs : List Verdict)
         → AreVerdicts z id held xs vs → IsWithinTotal z held xs → AreAlone z xs vs }

@@ -130,6 +130,7 @@ fn nothing_known(alloc: Global) -> Known {
         fields: Vec::new(alloc),
         order: Order::new(Vec::new(alloc)),
         functions: Vec::new(alloc),
+        callees: Vec::new(alloc),
         referenced: Vec::new(alloc),
         globals: Vec::new(alloc),
         tags: Vec::new(alloc),

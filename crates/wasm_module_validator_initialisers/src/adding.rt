@@ -7,6 +7,7 @@
 //! refusal leaves the state as it was; `specs/adding/Refusals.antt` says why and where it comes. Each call takes the list that the module's
 //! types stand in, and is called with the list that it was read over alone.
 
+mod accepted;
 mod data;
 mod elements;
 mod globals;

@@ -71,6 +71,7 @@ pub trait SectionItem<'a>: FromReader<'a> {
     /// Adds the item that begins at an offset of these bytes, if the bytes alone tell that it may be added, and answers where it ends.
     /// Else nothing has changed.
     fn add_short(
+        alloc: Global,
         state: &mut ModuleState,
         types: &TypeList,
         bytes: &[u8],
@@ -157,7 +158,7 @@ impl<'a, T: SectionItem<'a>> AddItem<'a, T> for Collected {
     }
 
     fn add_short(&mut self, bytes: &[u8], at: usize, limits: &Limits) -> Option<usize> {
-        T::add_short(&mut self.state, &self.types, bytes, at, limits)
+        T::add_short(self.alloc, &mut self.state, &self.types, bytes, at, limits)
     }
 
     ghost alike = { T.alike };

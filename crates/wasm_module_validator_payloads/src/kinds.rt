@@ -75,6 +75,7 @@ impl<'a> SectionItem<'a> for RecGroup {
     }
 
     fn add_short(
+        _alloc: Global,
         _state: &mut ModuleState,
         _types: &TypeList,
         _bytes: &[u8],
@@ -118,6 +119,7 @@ impl<'a> SectionItem<'a> for u32 {
     }
 
     fn add_short(
+        _alloc: Global,
         state: &mut ModuleState,
         types: &TypeList,
         bytes: &[u8],
@@ -185,6 +187,7 @@ impl<'a> SectionItem<'a> for TableOf<ConstExpr<'a>> {
     }
 
     fn add_short(
+        _alloc: Global,
         _state: &mut ModuleState,
         _types: &TypeList,
         _bytes: &[u8],
@@ -239,6 +242,7 @@ impl<'a> SectionItem<'a> for MemoryType {
     }
 
     fn add_short(
+        _alloc: Global,
         _state: &mut ModuleState,
         _types: &TypeList,
         _bytes: &[u8],
@@ -289,6 +293,7 @@ impl<'a> SectionItem<'a> for TagType {
     }
 
     fn add_short(
+        _alloc: Global,
         _state: &mut ModuleState,
         _types: &TypeList,
         _bytes: &[u8],
@@ -354,6 +359,7 @@ impl<'a> SectionItem<'a> for GlobalOf<ConstExpr<'a>> {
     }
 
     fn add_short(
+        alloc: Global,
         state: &mut ModuleState,
         types: &TypeList,
         bytes: &[u8],
@@ -371,7 +377,7 @@ impl<'a> SectionItem<'a> for GlobalOf<ConstExpr<'a>> {
         ensures grown { IfSome result (λ _. GrowsWith types.now.groups state.old.spaces types.now.groups
             state.new.spaces) }
     {
-        match add_short_global(state, types, bytes, at) {
+        match add_short_global(alloc, state, types, bytes, at) {
             Some(end) => Some(end),
             None => None,
         }
@@ -433,6 +439,7 @@ impl<'a> SectionItem<'a> for Export<'a> {
     }
 
     fn add_short(
+        _alloc: Global,
         state: &mut ModuleState,
         types: &TypeList,
         bytes: &[u8],
@@ -511,6 +518,7 @@ impl<'a> SectionItem<'a> for ElementOf<'a, ConstExpr<'a>> {
     }
 
     fn add_short(
+        _alloc: Global,
         _state: &mut ModuleState,
         _types: &TypeList,
         _bytes: &[u8],
@@ -587,6 +595,7 @@ impl<'a> SectionItem<'a> for DataOf<'a, ConstExpr<'a>> {
     }
 
     fn add_short(
+        _alloc: Global,
         state: &mut ModuleState,
         types: &TypeList,
         bytes: &[u8],

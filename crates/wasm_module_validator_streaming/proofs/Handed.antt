@@ -83,9 +83,9 @@ module _ {S : Type 0} (stands : S → List ℕ → Bool → List ℕ → S → T
       h first (got ++ text) (subst (λ (l : List ℕ). stands first (got ++ text) false (l ++ text) now) none (grow first got rest now text s)) room
 
   -- With as many of the bytes as leave one to what is needed, no item is whole; with one more they are too many.
-  pub part_long : (waits : S → List ℕ → Type 0) (needed most n : ℕ) (text : List ℕ) → IsPending waits needed rest now → AreBytes text → length rest ≤ most → length rest < needed → n ≤ length text
-      → n ≤ needed - length rest → most - length rest < n → LongBehind stands waits most rest now text
-  part_long waits needed most n text pending bytes held less few wanted full = λ first got s room. record {
+  pub part_long : (waits : S → List ℕ → Type 0) (needed most n : ℕ) (text : List ℕ) → IsPending waits needed rest now → AreBytes text → 0 < length rest → length rest ≤ most → length rest < needed
+      → n ≤ length text → n ≤ needed - length rest → most - length rest < n → LongBehind stands waits most rest now text
+  part_long waits needed most n text pending bytes some held less few wanted full = λ first got s room. record {
     front = got ++ take (n - 1) text;
     later = drop (n - 1) text;
     whole = sym (append_assoc got (take (n - 1) text) (drop (n - 1) text) ∙ ap (λ (l : List ℕ). got ++ l) (take-append-drop (n - 1) text));
@@ -95,6 +95,7 @@ module _ {S : Type 0} (stands : S → List ℕ → Bool → List ℕ → S → T
       grow first got rest now (take (n - 1) text) s,
       pending.later (take (n - 1) text) (bytes_front (n - 1) text bytes) (omega (arith, length-append rest (take (n - 1) text), count, less, wanted, full, held)),
     );
+    some = omega (arith, length-append rest (take (n - 1) text), some);
     full = omega (arith, length-append rest (take (n - 1) text), count, full, held);
     more = omega (arith, length-append rest (take (n - 1) text), count, full, held, few, length-drop (n - 1) text);
   }

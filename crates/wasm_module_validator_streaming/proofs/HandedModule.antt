@@ -17,7 +17,7 @@ use Rattle.wasm_module_validator_streaming.specs.HandedOver.{DeniesAll, HasLongI
 use Rattle.wasm_module_validator_streaming.specs.Handing.{HasRoom, Follows, DeniesBehind, IsOverlong, LongBehind, Says}
 use Rattle.wasm_module_validator_streaming.specs.Taking.{IsMidst, IsPending}
 use Rattle.wasm_module_validator_streaming.specs.Verdicts.{IsRefusal, IsVerdict, StandsAt, ShownAt, DeniedAt, WaitsAt}
-use Rattle.wasm_module_validator_streaming.proofs.Stepping.{not_refused_here, passed_here}
+use Rattle.wasm_module_validator_streaming.proofs.Stepping.{left_here, passed_here}
 use Rattle.wasm_module_validator_streaming.proofs.Waiting.{none_pending}
 
 -- ---- what is known of one that is not refused
@@ -47,6 +47,7 @@ module _ (z : Settings) (id : ValidatorId) (got : List ℕ) (p : ModuleInPieces)
     later = h.later ++ bytes;
     whole = ap (λ (l : List ℕ). l ++ bytes) h.whole ∙ append_assoc h.front h.later bytes;
     judged = h.judged;
+    other = h.other;
     full = h.full;
     more = let more = h.more in let all = length-append h.later bytes in omega (arith, more, all);
   })
@@ -103,8 +104,13 @@ module _ (z : Settings) (id : ValidatorId) (got : List ℕ) (p : ModuleInPieces)
   piece_denied e h = λ more room. subst (λ (y : Settings). IsRefusal y ((got ++ bytes) ++ more) e) j.settings (h j.first got j.there fits more (λ t. absurd (false≢true t)) room)
 
   long_item : (first : Judging) (most : ℕ) → IsOverlong StandsAt WaitsAt first most (got ++ bytes) → HasLongItem first.validator.settings most (got ++ bytes)
-  unfolding passed_here not_refused_here
-  long_item first most h = record { front = h.front; later = h.later; whole = h.whole; judged = passed_here first h.front h.passed; full = h.full; more = h.more }
+  long_item first most h =
+      let passed = h.passed in
+      let left = left_here first h.front passed.0 passed.1 passed.2 passed.3 in
+      let few = left.left in
+      let full = h.full in
+      let more = h.more in
+      record { front = h.front; later = h.later; whole = h.whole; judged = left.judged; other = left.other h.some; full = omega (arith, few, full); more = omega (arith, few, more) }
 
   pub piece_refused : (most : ℕ) (e : PieceError) → Says (DeniesBehind StandsAt DeniedAt p.pending.bytes.items p.judging bytes) (LongBehind StandsAt WaitsAt most p.pending.bytes.items p.judging bytes) e
       → RefusesFrom z most (got ++ bytes) e

@@ -1,5 +1,13 @@
 -- A judge of a module is one of it behind a body too.
-use Rattle.std.proofs.Common.{◌≡◌, ◌∙◌, ℕ, Option, Some, None, Ok, is_some, refl, sym, ap, subst}
+use Rattle.std.proofs.Common.{◌≡◌, ◌∙◌, ◌≤◌, ℕ, List, length, Option, Some, None, Result, Ok, is_some, refl, sym, ap, subst}
+use Rattle.wasm_types.specs.decoding.Denials.{Tells}
+use Rattle.wasm_types.specs.decoding.ErrorValue.{ErrorValue}
+use Rattle.wasm_types.specs.settings.Settings.{Settings}
+use Rattle.wasm_sections.specs.Payloads.{set}
+use Rattle.wasm_sections.specs.declared.payload.Payload.TheVariants as payloads
+use Rattle.wasm_module_validator_function_bodies.specs.code.Code.{IsFunctionOf}
+use Rattle.wasm_module_validator_section_order.specs.items.Bodies.{IsReadBy}
+use Rattle.wasm_module_validator_streaming.specs.Payloads.{IsFunctionHanded, JudgesFunction}
 use Rattle.wasm_types.specs.decoding.Decoder.{State as Bytes}
 use Rattle.wasm_types.specs.decoding.declared.error.ErrorKind.{ErrorKind}
 use Rattle.wasm_module_validator_function_bodies.specs.declared.plain.PlainJudge.{PlainJudge}
@@ -49,3 +57,24 @@ module _ (x : Payload) (v w : Validator) (h : Handed) (body : Bytes) (t : TakesP
   judge_behind k =
       let settings = ap (λ (u : Validator). u.settings.features) left.0 in
       same_judge h.resources.shared.value w.reached.progress.kept h.features.0 w.settings.features judge (handed.resources ∙ sym left.1) (handed.features ∙ sym settings) k
+
+-- ---- a body without a payload
+
+module _ (body : Bytes) (v w : Validator) (h : Handed) (t : TakesBody body v (Ok h) w) where
+  -- it is the payload that it would be
+  pub body_takes : TakesPayload (payloads.CodeSectionEntry body) v (Ok (valid.Func h (set v.settings body))) w
+  body_takes = (Ok h, refl, t)
+
+  -- and is judged as that is: by the features and limits that were handed out
+  pub body_judges : (anew : Bytes) → anew ≡ set (record { features = h.features.0; limits = h.limits }) body → (answer : Result (Unit {0}) ErrorValue)
+      → ((z : Settings) → z.limits ≡ h.limits → IsReadBy z h.features.0 anew → Tells answer (IsFunctionHanded z h anew)) → JudgesFunction (payloads.CodeSectionEntry body) v answer w
+  body_judges anew is answer told = record {
+    handed = h;
+    body = set v.settings body;
+    takes = body_takes;
+    told = λ z same read.
+        let rest : anew.rest ≡ body.rest = ap (λ (b : Bytes). b.rest) is in
+        let by : anew.settings ≡ z = ap (λ (b : Bytes). b.settings) is ∙ (λ i. record { features = sym read.features i; limits = sym same i }) in
+        subst (λ (text : List ℕ). Tells answer (IsFunctionOf z (context_of h.resources.shared.value.groups h.resources.shared.value.items.spaces) h.ty text)) rest
+        (told z same (record { settings = by; features = read.features; within = subst (λ (text : List ℕ). length text ≤ z.limits.body_bytes) (sym rest) read.within }));
+  }

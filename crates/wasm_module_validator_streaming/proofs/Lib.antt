@@ -1,5 +1,7 @@
 -- What a step of a module that comes in pieces leads to.
 pub mod Stepping
+-- What is told of the front of bytes.
+pub mod Fronts
 -- One piece more of a reader.
 pub mod OnePiece
 -- One item more of the bytes that came.

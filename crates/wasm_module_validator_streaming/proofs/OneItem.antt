@@ -77,6 +77,7 @@ module _ {S D : Type 0} (stands : S → List ℕ → Bool → List ℕ → S →
         later = [];
         whole = sym (append-nil got);
         passed = (drop n bytes, now, t.2, pending.here);
+        some = let e = ap length left in omega (arith, e, more);
         full = let e = ap length left in omega (arith, e, more);
         more = let e = ap length left in omega (arith, e, more);
       }

@@ -1,20 +1,23 @@
 -- What a step of a module that comes in pieces leads to, by the laws of `specs/laws`.
-use Rattle.std.proofs.Common.{◌≡◌, ◌∙◌, ◌⊎◌, ◌<◌, ◌≤◌, ◌+◌, ◌^◌, ℕ, Bool, true, false, List, [], ◌++◌, length, drop, Option, Result, Ok, Err, inl, inr, refl, sym, ap, subst, arith, append-nil}
+use Rattle.std.proofs.Common.{◌≡◌, ◌∙◌, ◌⊎◌, ◌<◌, ◌≤◌, ◌+◌, ◌-◌, ◌^◌, ℕ, Bool, true, false, List, [], ◌∷◌, ◌++◌, length, drop, min, Option, Result, Ok, Err, inl, inr, refl, sym, ap, subst, arith, append-nil}
+use Rattle.std.proofs.lemmas.Bool.{cases_order}
 use Rattle.wasm_types.specs.decoding.Decoder.{State as Bytes}
 use Rattle.wasm_types.specs.decoding.Denials.{Tells}
 use Rattle.wasm_types.specs.decoding.DenialLaws.{denies}
 use Rattle.wasm_types.specs.decoding.ErrorValue.{ErrorValue}
+use Rattle.wasm_types.specs.decoding.declared.error.ErrorKind.TheVariants.{EndOfData}
 use Rattle.wasm_types.specs.settings.Limits.{IsWithinCeilings}
 use Rattle.wasm_types.specs.settings.Settings.{Settings}
 use Rattle.wasm_sections_parser.specs.declared.frame.Frame.{Frame}
 use Rattle.wasm_sections_parser.specs.declared.parser.Chunk.TheVariants.{Parsed}
 use Rattle.wasm_sections_parser.specs.Parsers.{Parser}
-use Rattle.wasm_sections_parser.specs.Parsing.{Parses}
+use Rattle.wasm_sections_parser.specs.Parsing.{between, reads, Parses}
 use Rattle.wasm_sections_parser.specs.runs.calls.Advance.{parsed_is_over, parsed_within}
 use Rattle.wasm_sections_parser.specs.runs.calls.Calls.{shapes_of, Calls}
 use Rattle.wasm_sections_parser.specs.runs.hints.Hints.{AreBytes}
 use Rattle.wasm_sections.specs.declared.payload.Payload.{Payload}
 use Rattle.wasm_sections.specs.declared.parser.Chunk.TheVariants as chunks
+use Rattle.wasm_sections.specs.declared.parser.Parser.{Parser as Payloads}
 use Rattle.wasm_sections.specs.Parsing.{ParsesPayload}
 use Rattle.wasm_sections.specs.Payloads.{IsPayloadOf}
 use Rattle.wasm_module_validator.specs.resources.Reading.{context_of}
@@ -38,10 +41,13 @@ use Rattle.wasm_module_validator_streaming.specs.declared.taking.Taken.TheVarian
 use Rattle.wasm_module_validator_streaming.specs.Awaiting.{Awaits, IsNotRefused}
 use Rattle.wasm_module_validator_streaming.specs.Bodies.{AreFirst}
 use Rattle.wasm_module_validator_streaming.specs.Judges.{HasItsJudge}
+use Rattle.wasm_module_validator_streaming.specs.Passing.{IsHead, HasHead, Passes, behind}
 use Rattle.wasm_module_validator_streaming.specs.Pieces.{Answers, Stops}
 use Rattle.wasm_module_validator_streaming.specs.Payloads.{JudgesFunction, StepsPayload}
 use Rattle.wasm_module_validator_streaming.specs.Taking.{IsMidst, IsPassed, Takes}
-use Rattle.wasm_module_validator_streaming.specs.Verdicts.{IsVerdict, IsRefusal, StandsAt, ShownAt, DeniedAt, WaitsAt, AnswersReader, StopsReader}
+use Rattle.wasm_module_validator_streaming.specs.Verdicts.{IsVerdict, IsRefusal, GoesAt, StandsAt, ShownAt, DeniedAt, WaitsAt, AnswersReader, StopsReader}
+use Rattle.wasm_module_validator_streaming.specs.laws.GoingBy.{GoesBy, begins_by, some_by, all_by, by_ends, by_awaits}
+use Rattle.wasm_module_validator_streaming.specs.laws.Passing.{head_passes, head_some, none_between}
 use Rattle.wasm_module_validator_streaming.specs.laws.Payloads.{handed_out, body_handed}
 use Rattle.wasm_module_validator_streaming.specs.laws.Waiting.{awaits_more, asks_some, awaits_header}
 use Rattle.wasm_module_validator_streaming.specs.laws.Running.{Goes, FitsFrames, begins, goes_first, asked, goes_place, goes_on, payload_denied, body_read, body_goes_on, body_denied, end_accepts, bytes_refused}
@@ -79,45 +85,159 @@ module _ (z : Settings) (id : ValidatorId) (got : List ℕ) (eof : Bool) (q : Pa
 
 -- ---- a call
 
-module _ (first now after : Judging) (got : List ℕ) (eof : Bool) (rest : List ℕ) (g : StandsAt first got eof rest now) where
+-- where no contents go by, the parser stands before what is left
+pub goes_next : (first now : Judging) (got : List ℕ) (eof : Bool) (rest : List ℕ) → StandsAt first got eof rest now → now.passing ≡ 0
+    → Goes first.validator.settings first.validator.id got eof now.parser.frames rest now.validator
+goes_next first now got eof rest s idle = go s.goes
+  where
+    go : GoesAt first.validator.settings first.validator.id got eof rest now → Goes first.validator.settings first.validator.id got eof now.parser.frames rest now.validator
+    go (inl (none, g)) = g
+    go (inr b) = absurd (let some = b.passes.some in omega (arith, some, idle))
+
+-- and where some do, before them
+pub goes_by : (first now : Judging) (got : List ℕ) (eof : Bool) (rest : List ℕ) → StandsAt first got eof rest now → 0 < now.passing
+    → GoesBy first.validator.settings first.validator.id got eof now.parser.frames rest now.validator now.passing now.contents
+goes_by first now got eof rest s some = go s.goes
+  where
+    go : GoesAt first.validator.settings first.validator.id got eof rest now
+        → GoesBy first.validator.settings first.validator.id got eof now.parser.frames rest now.validator now.passing now.contents
+    go (inl (none, g)) = absurd (omega (arith, none, some))
+    go (inr b) = b
+
+-- more bytes are asked for: more may come, and the parser stays
+pub asked_for : (q r : Parser) (rest : List ℕ) (eof : Bool) (n : ℕ) → ParsesPayload q rest eof (Ok (chunks.NeedMoreData n)) r
+    → (eof ≡ false) × (r ≡ q) × ParsesPayload r rest false (Ok (chunks.NeedMoreData n)) r × (0 < n)
+asked_for q r rest eof n h =
+    let k = asked q rest eof n r h in
+    let more = subst (λ (b : Bool). ParsesPayload q rest b (Ok (chunks.NeedMoreData n)) r) k.0 h in
+    (k.0, k.1, subst (λ (p : Parser). ParsesPayload p rest false (Ok (chunks.NeedMoreData n)) r) (sym k.1) more, asks_some q r rest n more)
+
+module _ (first now after : Judging) (got : List ℕ) (eof : Bool) (rest : List ℕ) (s : StandsAt first got eof rest now) (idle : now.passing ≡ 0) where
+  g : Goes first.validator.settings first.validator.id got eof now.parser.frames rest now.validator
+  g = goes_next first now got eof rest s idle
+
   -- a payload was taken
   pub payload_takes : (n : ℕ) (x : Payload) → ParsesPayload now.parser.frames rest eof (Ok (chunks.Parsed n x)) after.parser.frames → length got < 2 ^ 64
-      → (result : Taken Learned) → StepsPayload x n now.validator result after.validator → HasItsJudge after → Takes StandsAt ShownAt DeniedAt WaitsAt first got eof rest result after
-  payload_takes n x (f, parses, is) room (taken.Item k) s judge =
-      let t = item_taken first.validator.settings first.validator.id got eof now.parser.frames rest now.validator g.goes n f after.parser.frames parses x is after.validator k s in
-      (t.0, t.1, record { goes = t.2; judge = judge })
-  payload_takes n x (f, parses, is) room (taken.Waits k) s judge = absurd s
-  payload_takes n x (f, parses, is) room (taken.Ended t) s judge = end_is_verdict first.validator.settings first.validator.id got eof now.parser.frames rest now.validator g.goes n f after.parser.frames parses x is after.validator t s room
-  payload_takes n x (f, parses, is) room (taken.Refused e) s judge = refusal_denies first.validator.settings first.validator.id got eof now.parser.frames rest now.validator g.goes n f after.parser.frames parses x is after.validator e s
-
-  -- more bytes are needed
-  pub wait_takes : (n : ℕ) → ParsesPayload now.parser.frames rest eof (Ok (chunks.NeedMoreData n)) after.parser.frames → after.validator ≡ now.validator
-      → HasItsJudge after → Takes StandsAt ShownAt DeniedAt WaitsAt first got eof rest (taken.Waits n) after
-  wait_takes n h same judge =
-      let k = asked now.parser.frames rest eof n after.parser.frames h in (
-        k.0,
-        record {
-          goes = subst (λ (q : Parser). Goes first.validator.settings first.validator.id got eof q rest after.validator) (sym k.1)
-              (subst (λ (v : Validator). Goes first.validator.settings first.validator.id got eof now.parser.frames rest v) (sym same) g.goes);
-          judge = judge;
-        },
-        subst (λ (q : Parser). (0 < n) × ((more : List ℕ) → AreBytes more → length more < n → Awaits q (rest ++ more))) (sym k.1)
-            (asks_some now.parser.frames after.parser.frames rest n (unless_last k.0 h), awaits_more now.parser.frames after.parser.frames rest n (unless_last k.0 h)),
-      )
-    where
-      unless_last : eof ≡ false → ParsesPayload now.parser.frames rest eof (Ok (chunks.NeedMoreData n)) after.parser.frames
-          → ParsesPayload now.parser.frames rest false (Ok (chunks.NeedMoreData n)) after.parser.frames
-      unless_last e p = subst (λ (b : Bool). ParsesPayload now.parser.frames rest b (Ok (chunks.NeedMoreData n)) after.parser.frames) e p
+      → (result : Taken Learned) → StepsPayload x n now.validator result after.validator → HasItsJudge after → after.passing ≡ 0
+      → Takes StandsAt ShownAt DeniedAt WaitsAt first got eof rest result after
+  payload_takes n x (f, parses, is) room (taken.Item k) t judge still =
+      let item = item_taken first.validator.settings first.validator.id got eof now.parser.frames rest now.validator g n f after.parser.frames parses x is after.validator k t in
+      (item.0, item.1, record { goes = inl (still, item.2); judge = judge })
+  payload_takes n x (f, parses, is) room (taken.Waits k) t judge still = absurd t
+  payload_takes n x (f, parses, is) room (taken.Ended l) t judge still = end_is_verdict first.validator.settings first.validator.id got eof now.parser.frames rest now.validator g n f after.parser.frames parses x is after.validator l t room
+  payload_takes n x (f, parses, is) room (taken.Refused e) t judge still = refusal_denies first.validator.settings first.validator.id got eof now.parser.frames rest now.validator g n f after.parser.frames parses x is after.validator e t
 
   -- the bytes are refused
   pub refusal_takes : (e : ErrorValue) (r : Parser) → ParsesPayload now.parser.frames rest eof (Err e) r → Takes StandsAt ShownAt DeniedAt WaitsAt first got eof rest (taken.Refused e) after
-  refusal_takes e r h = λ more last room. denies e.kind (AcceptsUnder first.validator.settings (got ++ more))
-      (λ a. bytes_refused first.validator.settings first.validator.id got eof now.parser.frames rest now.validator e r g.goes h more last room a)
+  refusal_takes e r h = λ more last room. denies e.kind (AcceptsUnder first.validator.settings (got ++ more)) (λ a. bytes_refused first.validator.settings first.validator.id got eof now.parser.frames rest now.validator e r g h more last room a)
+
+  -- with a parser that is as it was it stands there too
+  pub stands_same : after.parser.frames ≡ now.parser.frames → after.validator ≡ now.validator → after.passing ≡ now.passing → HasItsJudge after → StandsAt first got eof rest after
+  stands_same same_parser same_validator same_passing judge = record {
+    goes = inl (
+      same_passing ∙ idle,
+      subst (λ (q : Parser). Goes first.validator.settings first.validator.id got eof q rest after.validator) (sym same_parser)
+          (subst (λ (v : Validator). Goes first.validator.settings first.validator.id got eof now.parser.frames rest v) (sym same_validator) g),
+    );
+    judge = judge;
+  }
+
+  -- and where it is said that more may come
+  pub stands_still : eof ≡ false → after.parser.frames ≡ now.parser.frames → after.validator ≡ now.validator → after.passing ≡ now.passing → HasItsJudge after
+      → StandsAt first got false rest after
+  stands_still may same_parser same_validator same_passing judge =
+      subst (λ (b : Bool). StandsAt first got b rest after) may (stands_same same_parser same_validator same_passing judge)
+
+module _ (first now : Judging) (got : List ℕ) (rest : List ℕ) (s : StandsAt first got false rest now) (idle : now.passing ≡ 0)
+    (n : ℕ) (asks : ParsesPayload now.parser.frames rest false (Ok (chunks.NeedMoreData n)) now.parser.frames) where
+  -- so many more bytes are needed, or fewer; and with these there is no front
+  pub wait_takes : (k : ℕ) → 0 < k → k ≤ n → ((more : List ℕ) → length more < k → HasHead now.parser.frames (rest ++ more) → ⊥)
+      → Takes StandsAt ShownAt DeniedAt WaitsAt first got false rest (taken.Waits k) now
+  wait_takes k some few none = (
+    refl,
+    s,
+    (some, λ more bytes less. inl (idle, awaits_more now.parser.frames now.parser.frames rest n asks more bytes (omega (arith, few, less)), none more less)),
+  )
+
+  -- the front of a custom section was taken
+  pub front_takes : (after : Judging) (missing place : ℕ) → between now.parser.frames.progress.stage now.parser.frames.offset ≡ true
+      → IsHead (reads now.parser.frames rest) missing place → after.parser.frames ≡ behind now.parser.frames (length rest + missing)
+      → after.passing ≡ missing → after.contents ≡ place → after.validator ≡ now.validator → HasItsJudge after
+      → Takes StandsAt ShownAt DeniedAt WaitsAt first got false rest (taken.Item (length rest)) after
+  front_takes after missing place b h same_parser same_passing same_contents same_validator judge = (
+    head_some now.parser.frames rest missing place h b,
+    omega arith,
+    record { goes = inr (begins_by first.validator.settings first.validator.id got false after.parser.frames after.validator after.passing after.contents now.parser.frames rest (length rest) refl there passes); judge = judge },
+  )
+    where
+      there : Goes first.validator.settings first.validator.id got false now.parser.frames rest after.validator
+      there = subst (λ (v : Validator). Goes first.validator.settings first.validator.id got false now.parser.frames rest v) (sym same_validator) (goes_next first now got false rest s idle)
+
+      passes : Passes now.parser.frames rest after.passing after.contents after.parser.frames
+      passes =
+          subst (λ (q : Parser). Passes now.parser.frames rest after.passing after.contents q) (sym same_parser)
+          (subst (λ (c : ℕ). Passes now.parser.frames rest after.passing c (behind now.parser.frames (length rest + missing))) (sym same_contents)
+          (subst (λ (m : ℕ). Passes now.parser.frames rest m place (behind now.parser.frames (length rest + missing))) (sym same_passing)
+          (head_passes now.parser.frames rest missing place h b)))
+
+-- ---- contents that go by
+
+pub none_left : (xs : List ℕ) → length xs ≡ 0 → xs ≡ []
+none_left [] e = refl
+none_left (x ∷ xs) e = absurd (omega (arith, e))
+
+module _ (first now : Judging) (got : List ℕ) (eof : Bool) (rest : List ℕ) (s : StandsAt first got eof rest now) (some : 0 < now.passing) where
+  underway : GoesBy first.validator.settings first.validator.id got eof now.parser.frames rest now.validator now.passing now.contents
+  underway = goes_by first now got eof rest s some
+
+  -- if no more bytes come, they end too early
+  pub contents_end : eof ≡ true → rest ≡ [] → (e : ErrorValue) → e.kind ≡ EndOfData now.passing → e.offset ≡ now.contents
+      → Takes StandsAt ShownAt DeniedAt WaitsAt first got eof rest (taken.Refused e) now
+  contents_end last none e kind offset = λ more no_more room. denies e.kind (AcceptsUnder first.validator.settings (got ++ more)) (λ a.
+      by_ends first.validator.settings first.validator.id got now.parser.frames rest now.validator now.passing now.contents
+      (subst (λ (b : Bool). GoesBy first.validator.settings first.validator.id got b now.parser.frames rest now.validator now.passing now.contents) last underway) none e kind offset
+      more (λ t. no_more last) room a)
+
+  -- none is there, and some may come
+  pub contents_wait : eof ≡ false → rest ≡ [] → Takes StandsAt ShownAt DeniedAt WaitsAt first got eof rest (taken.Waits 1) now
+  contents_wait may none = (may, s, (omega arith, λ more bytes few. inr (some, ap (λ (l : List ℕ). l ++ more) none ∙ none_left more (omega (arith, few)))))
+
+  -- those that are there go by
+  pub contents_take : (n : ℕ) → n ≡ min now.passing (length rest) → 0 < length rest → (after : Judging) → after.parser ≡ now.parser → after.validator ≡ now.validator
+      → after.passing ≡ now.passing - n → after.contents ≡ now.contents → HasItsJudge after
+      → Takes StandsAt ShownAt DeniedAt WaitsAt first got eof rest (taken.Item n) after
+  contents_take n least there after same_parser same_validator same_passing same_contents judge =
+      (omega (arith, least, there, some), omega (arith, least), record { goes = go (cases_order now.passing (length rest)); judge = judge })
+    where
+      done : now.passing ≤ length rest → GoesAt first.validator.settings first.validator.id got eof (drop n rest) after
+      done enough =
+          let all : n ≡ now.passing = omega (arith, least, enough) in
+          inl (
+            omega (arith, same_passing, all),
+            subst (λ (q : Payloads). Goes first.validator.settings first.validator.id got eof q.frames (drop n rest) after.validator) (sym same_parser)
+                (subst (λ (v : Validator). Goes first.validator.settings first.validator.id got eof now.parser.frames (drop n rest) v) (sym same_validator)
+                (subst (λ (k : ℕ). Goes first.validator.settings first.validator.id got eof now.parser.frames (drop k rest) now.validator) (sym all)
+                (all_by first.validator.settings first.validator.id got eof now.parser.frames now.validator now.passing now.contents rest underway enough))),
+          )
+
+      more : length rest < now.passing → GoesAt first.validator.settings first.validator.id got eof (drop n rest) after
+      more few =
+          let all : n ≡ length rest = omega (arith, least, few) in
+          inr (subst (λ (q : Payloads). GoesBy first.validator.settings first.validator.id got eof q.frames (drop n rest) after.validator after.passing after.contents) (sym same_parser)
+          (subst (λ (v : Validator). GoesBy first.validator.settings first.validator.id got eof now.parser.frames (drop n rest) v after.passing after.contents) (sym same_validator)
+          (subst (λ (m : ℕ). GoesBy first.validator.settings first.validator.id got eof now.parser.frames (drop n rest) now.validator m after.contents) (sym same_passing)
+          (subst (λ (c : ℕ). GoesBy first.validator.settings first.validator.id got eof now.parser.frames (drop n rest) now.validator (now.passing - n) c) (sym same_contents)
+          (some_by first.validator.settings first.validator.id got eof now.parser.frames now.validator now.passing now.contents rest underway n all few)))))
+
+      go : (now.passing ≡ length rest) ⊎ ((now.passing < length rest) ⊎ (length rest < now.passing)) → GoesAt first.validator.settings first.validator.id got eof (drop n rest) after
+      go (inl e) = done (omega (arith, e))
+      go (inr (inl l)) = done (omega (arith, l))
+      go (inr (inr l)) = more l
 
 -- offsets have 64 bits
-pub midst_room : (eof : Bool) (rest : List ℕ) (now : Judging) → IsMidst StandsAt eof rest now → now.parser.frames.offset + length rest < 2 ^ 64
-midst_room eof rest now m =
-    let there = goes_place m.first.validator.settings m.first.validator.id m.got eof now.parser.frames rest now.validator m.there.goes in
+pub midst_room : (eof : Bool) (rest : List ℕ) (now : Judging) → IsMidst StandsAt eof rest now → now.passing ≡ 0 → now.parser.frames.offset + length rest < 2 ^ 64
+midst_room eof rest now m idle =
+    let there = goes_place m.first.validator.settings m.first.validator.id m.got eof now.parser.frames rest now.validator (goes_next m.first now m.got eof rest m.there idle) in
     let room = m.room in
     omega (arith, there, room)
 
@@ -125,18 +245,25 @@ midst_room eof rest now m =
 
 -- one that is new stands behind no bytes
 pub begins_there : (z : Settings) (j : Judging) → IsWithinCeilings z.limits → j.validator.state ≡ Unparsed → j.validator.settings ≡ z → j.validator.reached.progress.kept.groups ≡ []
-    → j.parser.frames ≡ begins z → HasItsJudge j → StandsAt j [] false [] j
-begins_there z j within unparsed same none there judge =
+    → j.parser.frames ≡ begins z → HasItsJudge j → j.passing ≡ 0 → StandsAt j [] false [] j
+begins_there z j within unparsed same none there judge idle =
     let y = j.validator.settings in
     record {
-      goes = subst (λ (q : Parser). Goes y j.validator.id [] false q [] j.validator) (ap begins same ∙ sym there)
-          (goes_first y j.validator.id j.validator (subst (λ (s : Settings). IsWithinCeilings s.limits) (sym same) within) unparsed none refl refl);
+      goes = inl (
+        idle,
+        subst (λ (q : Parser). Goes y j.validator.id [] false q [] j.validator) (ap begins same ∙ sym there)
+            (goes_first y j.validator.id j.validator (subst (λ (s : Settings). IsWithinCeilings s.limits) (sym same) within) unparsed none refl refl),
+      );
       judge = judge;
     }
 
 -- and waits for the header
-pub waits_first : (z : Settings) (j : Judging) → j.parser.frames ≡ begins z → WaitsAt j []
-waits_first z j there = subst (λ (q : Parser). Awaits q []) (sym there) (awaits_header z)
+pub waits_first : (z : Settings) (j : Judging) → j.parser.frames ≡ begins z → j.passing ≡ 0 → WaitsAt j []
+waits_first z j there idle = inl (
+  idle,
+  subst (λ (q : Parser). Awaits q []) (sym there) (awaits_header z),
+  none_between j.parser.frames (ap (λ (q : Parser). between q.progress.stage q.offset) there) [],
+)
 
 -- what is answered is of the settings that it judges by
 pub answers_reader : (z : Settings) (id : ValidatorId) (j : Judging) → j.validator.settings ≡ z → j.validator.id ≡ id → (most : ℕ) (before after : Option (List ℕ))
@@ -179,8 +306,33 @@ not_refused_here z id text q rest v g w = record {
     go (inl (st, empty, types)) = subst (λ (m : SoFar). AreFirst z m.tree m.bodies) (none empty) tt
     go (inr (st, some, fits, grown)) = (fits g.some.0 g.some.1).bodies
 
-unfoldable pub passed_here : (j : Judging) (text : List ℕ) → IsPassed StandsAt WaitsAt j text → IsNotRefused j.validator.settings text
-passed_here j text (rest, now, s, w) = not_refused_here j.validator.settings j.validator.id text now.parser.frames rest now.validator s.goes w
+-- the same where contents of a section go by, none of which are left
+unfoldable pub by_not_refused : (z : Settings) (id : ValidatorId) (text : List ℕ) (q : Parser) (rest : List ℕ) (v : Validator) (missing place : ℕ)
+    → GoesBy z id text false q rest v missing place → rest ≡ [] → IsNotRefused z text
+by_not_refused z id text q rest v missing place b none =
+    not_refused_here z id text b.before (b.gone ++ rest) v b.goes (by_awaits z id text false q rest v missing place b none)
+
+-- What was taken was judged; what is left is in no whole item, and in no custom section of which the front is there.
+pub record IsLeft (z : Settings) (text rest : List ℕ) : Type 0 where
+  pub judged : IsNotRefused z text
+  pub left : length rest ≤ length judged.left
+  pub other : 0 < length rest → HasHead judged.behind judged.left → ⊥
+
+pub left_here : (j : Judging) (text rest : List ℕ) (now : Judging) → StandsAt j text false rest now → WaitsAt now rest → IsLeft j.validator.settings text rest
+unfolding not_refused_here by_not_refused
+left_here j text rest now s (inl (idle, w, none)) = record {
+  judged = not_refused_here j.validator.settings j.validator.id text now.parser.frames rest now.validator (goes_next j now text false rest s idle) w;
+  left = omega arith;
+  other = λ some. none;
+}
+left_here j text rest now s (inr (some, none)) = record {
+  judged = by_not_refused j.validator.settings j.validator.id text now.parser.frames rest now.validator now.passing now.contents (goes_by j now text false rest s some) none;
+  left = let e = ap length none in omega (arith, e);
+  other = λ there. absurd (let e = ap length none in omega (arith, e, there));
+}
+
+pub passed_here : (j : Judging) (text : List ℕ) → IsPassed StandsAt WaitsAt j text → IsNotRefused j.validator.settings text
+passed_here j text (rest, now, s, w) = (left_here j text rest now s w).judged
 
 -- how far it was read, by these settings
 pub stops_reader : (z : Settings) (j : Judging) → j.validator.settings ≡ z → (most piece : ℕ) (before after : Option (List ℕ)) (result : Result Learned ReadError)

@@ -9,6 +9,7 @@ use Rattle.wasm_module_validator_streaming.specs.declared.handing.PieceError.{Pi
 use Rattle.wasm_module_validator_streaming.specs.declared.handing.PieceError.TheVariants as errors
 use Rattle.wasm_module_validator_streaming.specs.declared.judging.Judging.{Judging}
 use Rattle.wasm_module_validator_streaming.specs.declared.pieces.ModuleInPieces.{ModuleInPieces}
+use Rattle.wasm_module_validator_streaming.specs.Passing.{HasHead}
 use Rattle.wasm_module_validator_streaming.specs.Taking.{IsPending}
 use Rattle.wasm_module_validator_streaming.specs.Verdicts.{IsVerdict, IsRefusal, StandsAt, WaitsAt}
 
@@ -17,12 +18,14 @@ abbrev pub DeniesAll : Settings → List ℕ → ErrorValue → Type 0
 DeniesAll z got e = (more : List ℕ) → length (got ++ more) < 2 ^ 64 → IsRefusal z (got ++ more) e
 
 -- An item of these bytes is longer than that many. Each whole item of the bytes at their front was judged, and none is refused; so many bytes or
--- more are left of these, which are in no whole item, and with those that came after them they are more.
+-- more are left of these, which are in no whole item, and with those that came after them they are more. The item is no custom section of which
+-- the id, the size and the name are there: contents of such a section are not held.
 pub record HasLongItem (z : Settings) (most : ℕ) (got : List ℕ) : Type 0 where
   pub front : List ℕ
   pub later : List ℕ
   pub whole : got ≡ front ++ later
   pub judged : IsNotRefused z front
+  pub other : HasHead judged.behind judged.left → ⊥
   pub full : most ≤ length judged.left
   pub more : most < length judged.left + length later
 

@@ -24,13 +24,14 @@ DeniesBehind {S = S} stands denied before then text e = (first : S) (got : List 
     → length (got ++ text) < 2 ^ 64 → IsDenied denied first (got ++ text) false e
 
 -- An item of these bytes is longer than that many: of some bytes at their front all whole items were taken and none is refused, so many bytes or
--- more are left of these, which are in no whole item, and with those that came after them they are more.
+-- more are left of these, one at least, which are in no whole item, and with those that came after them they are more.
 pub record IsOverlong {S : Type 0} (stands : S → List ℕ → Bool → List ℕ → S → Type 0) (waits : S → List ℕ → Type 0) (first : S) (most : ℕ)
     (got : List ℕ) : Type 0 where
   pub front : List ℕ
   pub later : List ℕ
   pub whole : got ≡ front ++ later
   pub passed : IsPassed stands waits first front
+  pub some : 0 < length passed.0
   pub full : most ≤ length passed.0
   pub more : most < length passed.0 + length later
 

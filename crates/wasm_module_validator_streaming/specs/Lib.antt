@@ -12,6 +12,8 @@ pub mod Payloads
 pub mod Judges
 -- What is read where nothing is refused yet.
 pub mod Awaiting
+-- Contents of custom sections that go by.
+pub mod Passing
 -- What is said of the bytes of a module.
 pub mod Verdicts
 -- Bytes that are handed over.

@@ -1,5 +1,5 @@
 -- What is said of the bytes of a module: accepted, and what is known then; or refused (WebAssembly 3.0, binary format and validation, modules).
-use Rattle.std.specs.Prelude.{◌≡◌, Bool, ℕ, List, Option, Result}
+use Rattle.std.specs.Prelude.{◌≡◌, ◌<◌, ◌^◌, ◌⊎◌, Bool, ℕ, List, [], length, Option, Result}
 use Rattle.wasm_types.specs.decoding.Denials.{Denies}
 use Rattle.wasm_types.specs.decoding.ErrorValue.{ErrorValue}
 use Rattle.wasm_types.specs.settings.Settings.{Settings}
@@ -11,8 +11,12 @@ use Rattle.wasm_module_validator.specs.Shown.{Learned}
 use Rattle.wasm_module_validator_streaming.specs.declared.reading.ReadError.{ReadError}
 use Rattle.wasm_module_validator_streaming.specs.Awaiting.{Awaits, IsNotRefused}
 use Rattle.wasm_module_validator_streaming.specs.Judges.{HasItsJudge}
+use Rattle.wasm_module_validator_streaming.specs.Passing.{HasHead}
 use Rattle.wasm_module_validator_streaming.specs.Pieces.{Answers, Stops}
+use Rattle.wasm_module_validator_streaming.specs.Taking.{Takes}
 use Rattle.wasm_module_validator_streaming.specs.declared.judging.Judging.{Judging}
+use Rattle.wasm_module_validator_streaming.specs.declared.taking.Taken.{Taken}
+use Rattle.wasm_module_validator_streaming.specs.laws.GoingBy.{GoesBy}
 use Rattle.wasm_module_validator_streaming.specs.laws.Running.{Goes}
 
 -- The bytes spell a valid module, all of it but its code is shown, it runs soundly, and what is known of it has this id.
@@ -23,14 +27,20 @@ IsVerdict z id text t = AcceptsUnder z text × IsShown z text t × RunsSoundly z
 abbrev pub IsRefusal : Settings → List ℕ → ErrorValue → Type 0
 IsRefusal z text e = Denies e.kind (AcceptsUnder z text)
 
+-- where its parser and its validator are behind some bytes of a module: between two items, or where contents of a custom section go by
+abbrev pub GoesAt : Settings → ValidatorId → List ℕ → Bool → List ℕ → Judging → Type 0
+GoesAt z id got eof rest now = ((now.passing ≡ 0) × Goes z id got eof now.parser.frames rest now.validator)
+    ⊎ GoesBy z id got eof now.parser.frames rest now.validator now.passing now.contents
+
 -- where what judges a module stands behind some bytes of it, by what it was at first
 pub record StandsAt (first : Judging) (got : List ℕ) (eof : Bool) (rest : List ℕ) (now : Judging) : Type 0 where
-  pub goes : Goes first.validator.settings first.validator.id got eof now.parser.frames rest now.validator
+  pub goes : GoesAt first.validator.settings first.validator.id got eof rest now
   pub judge : HasItsJudge now
 
--- of these bytes it has nothing more to judge
+-- Of these bytes it has nothing more to judge, and they have no front of a custom section, whose contents would go by; where contents go by
+-- there are none.
 abbrev pub WaitsAt : Judging → List ℕ → Type 0
-WaitsAt now rest = Awaits now.parser.frames rest
+WaitsAt now rest = ((now.passing ≡ 0) × Awaits now.parser.frames rest × (HasHead now.parser.frames rest → ⊥)) ⊎ ((0 < now.passing) × (rest ≡ []))
 
 -- by what it was at first all the bytes are accepted, or an error denies that
 abbrev pub ShownAt : Judging → List ℕ → Learned → Type 0
@@ -38,6 +48,11 @@ ShownAt first text t = IsVerdict first.validator.settings first.validator.id tex
 
 abbrev pub DeniedAt : Judging → List ℕ → ErrorValue → Type 0
 DeniedAt first text e = IsRefusal first.validator.settings text e
+
+-- what a call promises that is given the bytes that are left, wherever it stood
+abbrev pub TakesAt : Judging → Bool → List ℕ → Taken Learned → Judging → Type 0
+TakesAt now eof rest result after = (first : Judging) (got : List ℕ) → StandsAt first got eof rest now → length got < 2 ^ 64
+    → Takes StandsAt ShownAt DeniedAt WaitsAt first got eof rest result after
 
 -- what is answered of a reader that may have so many bytes
 abbrev pub AnswersReader : Settings → ValidatorId → ℕ → Option (List ℕ) → Option (List ℕ) → Result Learned ReadError → Type 0

@@ -2,7 +2,10 @@ pub mod Bodies
 pub mod Unreadable
 pub mod Payloads
 pub mod Running
+pub mod Passing
+pub mod GoingBy
 pub mod WorkedReaders
+pub mod WorkedPassing
 pub mod Waiting
 pub mod Judging
 pub mod Statements

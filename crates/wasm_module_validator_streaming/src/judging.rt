@@ -2,6 +2,7 @@
 
 ghost use Rattle.std.specs.Prelude.{◌≡◌, []};
 ghost use Rattle.wasm_types.specs.settings.Limits.{IsWithinCeilings};
+ghost use Rattle.wasm_sections.specs.declared.payload.Payload.TheVariants.{CodeSectionEntry};
 ghost use Rattle.wasm_module_validator.specs.declared.validator.State.TheVariants.{Unparsed};
 ghost use Rattle.wasm_module_validator_streaming.specs.laws.Running.{begins};
 ghost use Rattle.wasm_module_validator_streaming.specs.Judges.{HasItsJudge};
@@ -11,7 +12,7 @@ use crate::functions::judge_next;
 use crate::taking::Taken;
 use std::alloc::Global;
 use wasm_module_validator::{Types, ValidPayload, Validator};
-use wasm_module_validator_function_bodies::{BodyJudge, PlainJudge, entries_for};
+use wasm_module_validator_function_bodies::{BodyJudge, FunctionBody, PlainJudge, entries_for};
 use wasm_module_validator_index_spaces::view::ValidatorId;
 use wasm_sections::{Parser, Payload};
 use wasm_types::{Limits, WasmFeatures};
@@ -26,6 +27,10 @@ pub(crate) struct Judging {
     pub(crate) in_loop: Option<PlainJudge>,
     /// How many entries these tables may have, by the bodies and bytes of the code section, as the module says itself.
     pub(crate) entries: u32,
+    /// How many bytes of a custom section's contents go by before the next item: none, unless its front came and not all of them.
+    pub(crate) passing: usize,
+    /// The offset where these contents begin.
+    pub(crate) contents: u64,
     pub(crate) alloc: Global,
 }
 
@@ -44,6 +49,7 @@ impl Judging {
         ensures empty { result.validator.reached.progress.kept.groups ≡ [] }
         ensures parser { result.parser.frames ≡ begins (record { features = features.0; limits = limits }) }
         ensures judge { HasItsJudge result }
+        ensures idle { result.passing ≡ 0 }
     {
         let mut parser = Parser::new(alloc, 0);
         parser.set_features(features);
@@ -54,7 +60,42 @@ impl Judging {
             complete: BodyJudge::new(alloc, features),
             in_loop: None,
             entries: 0,
+            passing: 0,
+            contents: 0,
             alloc,
+        }
+    }
+
+    /// Takes a body of so many bytes, and judges it: as `take_payload` does the payload that it is, but without one.
+    #[inline(always)]
+    pub(crate) fn take_body(&mut self, consumed: usize, body: FunctionBody<'_>) -> Taken<Types>
+        requires { HasItsJudge self.old }
+        ensures steps { StepsPayload (CodeSectionEntry body.entry) consumed self.old.validator result self.new.validator }
+        ensures judge { HasItsJudge self.new }
+        ensures parser { self.new.parser ≡ self.old.parser }
+        ensures idle { self.new.passing ≡ self.old.passing }
+    {
+        let function = match self.validator.code_section_entry(&body) {
+            Ok(function) => function,
+            Err(error) => {
+                self.in_loop = None;
+                return Taken::Refused(error);
+            }
+        };
+        let mut reader = body.get_binary_reader();
+        reader.set_features(function.features);
+        reader.set_limits(function.limits);
+        let anew = FunctionBody::new(self.alloc, reader);
+        match judge_next(
+            self.alloc,
+            &mut self.in_loop,
+            self.entries,
+            &mut self.complete,
+            function,
+            &anew,
+        ) {
+            Ok(()) => Taken::Item(consumed),
+            Err(error) => Taken::Refused(error),
         }
     }
 
@@ -64,6 +105,7 @@ impl Judging {
         ensures steps { StepsPayload payload.entry consumed self.old.validator result self.new.validator }
         ensures judge { HasItsJudge self.new }
         ensures parser { self.new.parser ≡ self.old.parser }
+        ensures idle { self.new.passing ≡ self.old.passing }
     {
         self.entries = entries_behind(&payload, self.entries);
         match self.validator.payload(payload) {

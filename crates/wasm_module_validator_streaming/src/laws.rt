@@ -5,6 +5,7 @@ ghost use Rattle.wasm_types.specs.settings.Settings.{Settings};
 ghost use Rattle.wasm_module_validator_index_spaces.specs.declared.view.validator_id.ValidatorId.{ValidatorId};
 ghost use Rattle.wasm_module_validator_streaming.specs.laws.Statements.{Begins, MayGoOn, MayEnd, PayloadsLeadOn, BodiesLeadOn};
 ghost use Rattle.wasm_module_validator_streaming.specs.laws.Statements.{TheEndAccepts, PayloadsRefuse, BodiesRefuse, BytesRefuse};
+ghost use Rattle.wasm_module_validator_streaming.specs.laws.WorkedPassing.{FrontRows};
 ghost use Rattle.wasm_module_validator_streaming.specs.laws.WorkedReaders.{ReaderRows, StepRows};
 
 /// A validator that has read nothing and has no types stands behind no bytes. More bytes may come, and it may be known that none do.
@@ -26,8 +27,9 @@ pub const fn pieces_are_judged()
     ensures refused_bytes { (z : Settings) (id : ValidatorId) → BytesRefuse z id }
 {}
 
-/// What is said of the bytes of a reader: a case where each of these holds, and one where it does not.
+/// What is said of the bytes of a reader, and of the front of a custom section: a case where each holds, and one where it does not.
 pub const fn readers_are_worked()
     ensures readers { ReaderRows }
     ensures steps { (e : ErrorValue) → StepRows e }
+    ensures fronts { FrontRows }
 {}

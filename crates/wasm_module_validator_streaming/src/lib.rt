@@ -1,7 +1,8 @@
 //! Modules that come in pieces, each body judged as soon as it is whole (WebAssembly 3.0, binary format and validation, modules).
 //!
 //! [`validate_reader`] validates a module as its bytes come from a reader, in pieces of any size, and holds no more of them than the item
-//! that they stand in. A [`WatchedReader`] notes whether a read failed, and how many there were.
+//! that they stand in: of a custom section its id, its size and its name, since its contents decide nothing. A [`WatchedReader`] notes
+//! whether a read failed, and how many there were.
 //!
 //! ```text
 //! let mut reader = WatchedReader::new(file);
@@ -16,6 +17,7 @@
 //! `specs/HandedOver.antt` what it answers of pieces that are handed over.
 #![tactic(auto)]
 
+mod customs;
 mod functions;
 mod handing;
 mod judging;

@@ -15,8 +15,9 @@ use wasm_module_validator::Types;
 use wasm_module_validator_index_spaces::view::ValidatorId;
 use wasm_types::{Error, ErrorKind, Limits, WasmFeatures};
 
-/// A module as far as its bytes were handed over. Each section, and each body, is judged as soon as it is whole, and is not kept; so what is
-/// held of the bytes is a part of one item.
+/// A module as far as its bytes were handed over. Each section, and each body, is judged as soon as it is whole, and is not kept; so what
+/// is held of the bytes is a part of one item. Contents of a custom section decide nothing: once its id, its size and its name came, they
+/// go by.
 ///
 /// [`Came`] tells which bytes came: none at first, and with each piece that is taken those of the piece too.
 #[derive(Drop)]
@@ -65,8 +66,9 @@ impl ModuleInPieces {
     /// # Errors
     ///
     /// `Refused`: the bytes that came refuse each module that begins with them; or, of kind `OutOfMemory`, which is no verdict, there is no
-    /// memory. `TooLong`, which is no verdict either: an item that came in several pieces has more than `most` bytes, so more would have to be
-    /// held, or the module has 2^64 bytes. An error stays: each later call has the same, of the same kind, at the same offset.
+    /// memory. `TooLong`, which is no verdict either: an item that came in several pieces, and is no custom section of which the id, the
+    /// size and the name came, has more than `most` bytes, so more would have to be held; or the module has 2^64 bytes. An error stays:
+    /// each later call has the same, of the same kind, at the same offset.
     pub fn take(&mut self, bytes: &[u8]) -> Result<(), PieceError>
         requires { IsUnderWay self.old }
         ensures came { (z : Settings) (id : ValidatorId) (got : List ℕ) → Came z id got self.old

@@ -54,10 +54,10 @@ pub fn validate_reader<R: Read>(
 
 /// Validates a module as its bytes come from a reader, by these features and limits (WebAssembly 3.0, validation, modules).
 ///
-/// Each read asks for at most `piece` bytes, 1 at least, and a read of none is the end. No read is repeated: there are at most `max_bytes` + 1.
-/// Each section, and each body, is judged as soon as it is whole, and is not kept. So what is held of the bytes is the item that they
-/// stand in, and no more than a piece behind it: whatever the answer, what was read is bytes that were judged as far as they hold whole
-/// items, none of them refused, and at most `piece` bytes behind these (`StopsReader`).
+/// Each read asks for at most `piece` bytes, 1 at least, and a read of none is the end. No read is repeated: there are at most
+/// `max_bytes` + 1. Each section, and each body, is judged as soon as it is whole, and is not kept. So what is held of the bytes is the item
+/// that they stand in, without the contents of a custom section, and no more than a piece behind it: whatever the answer, what was read is
+/// bytes that were judged as far as they hold whole items, none of them refused, and at most `piece` bytes behind these (`StopsReader`).
 ///
 /// An accepted module is that of all bytes that the reader had; it runs soundly, and what was learned of it is shown.
 ///

@@ -8,4 +8,3 @@ mod Referring
 mod Selecting
 mod StructRows
 mod TableRows
-mod Throwing

@@ -9,11 +9,12 @@ ghost use Rattle.wasm_operator_validator_fast_objects.specs.Exceptions.{AreCatch
 use crate::references::{label_at, last_of};
 use wasm_operator_validator_fast_steps::blocks::{block_at, enter};
 use wasm_operator_validator_fast_steps::indices::index_at;
-use wasm_operator_validator_fast_tables::{EXN, Opens, Order, Stack, Tables, given, part};
+use wasm_operator_validator_fast_steps::unreached::unreached;
+use wasm_operator_validator_fast_tables::{EXN, Opens, Order, Stack, Tables, part};
 use wasm_operator_validator_state::FrameKind;
 use wasm_types_decoding::short_u32_at;
 
-/// An exception is thrown. Behind it nothing is reached, so any operands may lie there: the frame's results do.
+/// An exception is thrown. Behind it nothing is reached.
 pub fn throw(
     tables: &Tables,
     bytes: &[u8],
@@ -40,17 +41,13 @@ pub fn throw(
     let Some(params) = part(flat, sig.params, sig.param_count) else {
         return None;
     };
-    let Some(results) = given(flat, opens, params.len()) else {
-        return None;
-    };
     if !stack.take_all(&tables.known.order, params) {
         return None;
     }
-    stack.cut();
-    if !stack.put_all(results) {
+    let Some(next) = unreached(tables, bytes, end, stack, opens) else {
         return None;
-    }
-    Some(end)
+    };
+    Some(next)
 }
 
 /// The exception that a reference leads to is thrown again.
@@ -67,17 +64,13 @@ pub fn throw_ref(
     ensures forward { IfSome result (λ end. at < end) }
     ensures inside { IfSome result (λ end. end ≤ length bytes.now) }
 {
-    let Some(results) = given(tables.known.flat.as_slice(), opens, 0) else {
-        return None;
-    };
     if !tables.references || !stack.take_below(&tables.known.order, EXN) {
         return None;
     }
-    stack.cut();
-    if !stack.put_all(results) {
+    let Some(next) = unreached(tables, bytes, at + 1, stack, opens) else {
         return None;
-    }
-    Some(at + 1)
+    };
+    Some(next)
 }
 
 // The values that exceptions of a tag carry.

@@ -6,3 +6,6 @@ pub mod Frames
 pub mod Coded
 pub mod Indexed
 mod Calling
+mod Passing
+pub mod Throwing
+pub mod Unreaching

@@ -406,20 +406,19 @@ module _ (t : Tables) (text : List ℕ) (i e : ℕ) (o : Open) (outer : List Ope
 
   -- ---- calls
 
-  pub took_call : Begins text i 0x10 → (x : ℕ) → GivesAt u32 text (i + 1) x e → (y : ℕ) → slice_get t.known.functions.items x ≡ Some y → (s : Sig) → slice_get t.known.types.items y ≡ Some s
+  pub took_call : Begins text i 0x10 → (x : ℕ) → GivesAt u32 text (i + 1) x e → (s : Sig) → slice_get t.known.callees.items x ≡ Some s
       → s.param_count ≤ length t.known.flat.items → (ps rs : List ℕ) → ps ≡ params_in t.known.flat.items s → rs ≡ results_in t.known.flat.items s
       → (m : Values) → v ≡ with_all ps m → w ≡ with_all rs m → Leads text t i (o ∷ outer) v e (o ∷ outer) w
-  took_call begins x g y function s type usable ps rs same_ps same_rs m taken put =
+  took_call begins x g s callee usable ps rs same_ps same_rs m taken put =
       took (op.Control (control.Call x)) ps rs m.0 m.1
       (stands (op.Control (control.Call x)) (told_with t.features.0 text i 16 16 begins refl (op.Control (control.Call x)) refl refl _ refl refl refl (Index kind.Functions x) e refl (λ limits. index_of _ _ _ _ kind.Functions x g)))
       refl (λ set full. full) taken put
       (λ ids z c fits set full.
-      let (f, there, at) = fits.knows.functions x y function in
-      let (h, also, is) = fits.knows.types y s type usable in (
+      let (f, there, is) = fits.knows.callees x s callee usable in (
         first c.bits _ fits.allows refl,
         (
           signature_in ids t.known.flat.items s,
-          (f, there, uses (Here ids c) _ fits.unshared, function_of f h (signature_in ids t.known.flat.items s) c.«module».types y at also is),
+          (f, there, uses (Here ids c) _ fits.unshared, is),
           (ap (λ xs. all_known (types ids xs)) same_ps, ap (λ xs. all_known (types ids xs)) same_rs),
         ),
       ))

@@ -1,3 +1,4 @@
--- Rules: what operators do by their codes, and the labels of a branch by a table.
+-- Rules: what operators do by their codes, the labels of a branch by a table, and what is not reached.
 pub mod Shapes
 pub mod Labels
+pub mod Unreached

@@ -6,11 +6,10 @@ ghost use Rattle.wasm_operator_validator_fast_tables.specs.Loop.{Leads, all};
 
 use crate::indices::near_index_at;
 use crate::labels::labels_at;
-use wasm_operator_validator_fast_tables::{
-    Opens, Stack, Tables, frame_at, given, inner_results, is_bare, label, part,
-};
+use crate::unreached::unreached;
+use wasm_operator_validator_fast_tables::{Opens, Stack, Tables, frame_at, is_bare, label, part};
 
-/// A branch. Behind it nothing is reached, so any operands may lie there: the frame's results do.
+/// A branch. Behind it nothing is reached.
 #[inline(always)]
 pub fn br(
     tables: &Tables,
@@ -39,17 +38,13 @@ pub fn br(
     let Some(types) = label(tables.known.flat.as_slice(), frame.kind, frame.sig) else {
         return None;
     };
-    let Some(results) = given(tables.known.flat.as_slice(), opens, types.len()) else {
-        return None;
-    };
     if !stack.take_all(&tables.known.order, types) {
         return None;
     }
-    stack.cut();
-    if !stack.put_all(results) {
+    let Some(next) = unreached(tables, bytes, end, stack, opens) else {
         return None;
-    }
-    Some(end)
+    };
+    Some(next)
 }
 
 /// A branch on a condition.
@@ -124,17 +119,13 @@ pub fn br_table(
     ) else {
         return None;
     };
-    let Some(results) = inner_results(tables.known.flat.as_slice(), opens) else {
-        return None;
-    };
     if !stack.take(0) || !stack.take_all(&tables.known.order, types) {
         return None;
     }
-    stack.cut();
-    if !stack.put_all(results) {
+    let Some(next) = unreached(tables, bytes, end, stack, opens) else {
         return None;
-    }
-    Some(end)
+    };
+    Some(next)
 }
 
 /// The function returns.
@@ -159,15 +150,11 @@ pub fn return_all(
     ) else {
         return None;
     };
-    let Some(results) = given(tables.known.flat.as_slice(), opens, types.len()) else {
-        return None;
-    };
     if !stack.take_all(&tables.known.order, types) {
         return None;
     }
-    stack.cut();
-    if !stack.put_all(results) {
+    let Some(next) = unreached(tables, bytes, at + 1, stack, opens) else {
         return None;
-    }
-    Some(at + 1)
+    };
+    Some(next)
 }

@@ -6,14 +6,15 @@ ghost use Rattle.wasm_operators_immediates.specs.Kinds.{Tables as TableSpace};
 ghost use Rattle.wasm_operators_encoding.specs.immediates.Bytes.{index_or_zero};
 ghost use Rattle.wasm_operators_encoding.specs.immediates.Immediates.{may_index};
 ghost use Rattle.wasm_operators_frequent.specs.Short.{Begins};
-ghost use Rattle.wasm_operator_validator_fast_tables.specs.Tables.{CallsThrough, ReturnsBy};
+ghost use Rattle.wasm_operator_validator_fast_tables.specs.Stacks.{Values, with_all};
+ghost use Rattle.wasm_operator_validator_fast_tables.specs.Values.{IsLowered};
+ghost use Rattle.wasm_operator_validator_fast_tables.specs.Tables.{CallsThrough, ReturnsBy, params_in, results_in};
 ghost use Rattle.wasm_operator_validator_fast_tables.specs.Loop.{Leads, all};
 
 use crate::indices::index_at;
 use crate::labels::same;
-use wasm_operator_validator_fast_tables::{
-    FUNC, NO_CODE, Opens, Stack, Tables, given, inner_results, part,
-};
+use crate::unreached::unreached;
+use wasm_operator_validator_fast_tables::{FUNC, NO_CODE, Opens, Sig, Stack, Tables, part};
 use wasm_operators_frequent::zero_at;
 use wasm_types::WasmFeatures;
 
@@ -36,27 +37,63 @@ pub fn call(
         return None;
     };
     let index = index as usize;
-    let functions = tables.known.functions.as_slice();
-    if index >= functions.len() {
-        return None;
-    }
-    let ty = functions[index] as usize;
-    let types = tables.known.types.as_slice();
-    if ty >= types.len() {
-        return None;
-    }
-    let sig = types[ty];
-    let flat = tables.known.flat.as_slice();
-    let Some(params) = part(flat, sig.params, sig.param_count) else {
-        return None;
-    };
-    let Some(results) = part(flat, sig.results, sig.result_count) else {
-        return None;
-    };
-    if !stack.take_all(&tables.known.order, params) || !stack.put_all(results) {
+    let callees = tables.known.callees.as_slice();
+    if index >= callees.len() || !pass(tables, callees[index], stack) {
         return None;
     }
     Some(end)
+}
+
+// The operands that a signature takes are taken off, and those that it gives are put on.
+#[inline(always)]
+fn pass(tables: &Tables, sig: Sig, stack: &mut Stack) -> bool
+    ensures usable { result ≡ true → sig.param_count ≤ length tables.now.known.flat.items }
+    ensures passed { result ≡ true → (m : Values)
+        × IsLowered tables.now.known.order stack.old (with_all (params_in tables.now.known.flat.items sig) m)
+        × (stack.new ≡ with_all (results_in tables.now.known.flat.items sig) m) }
+{
+    if !take_params(tables, sig, stack) {
+        return false;
+    }
+    put_results(tables, sig, stack)
+}
+
+// The operands that a signature takes are taken off. Many take none, and nothing is looked up then.
+#[inline(always)]
+fn take_params(tables: &Tables, sig: Sig, stack: &mut Stack) -> bool
+    ensures usable { result ≡ true → sig.param_count ≤ length tables.now.known.flat.items }
+    ensures taken { result ≡ true → IsLowered tables.now.known.order stack.old
+        (with_all (params_in tables.now.known.flat.items sig) stack.new) }
+{
+    if sig.param_count == 0 {
+        return true;
+    }
+    let Some(params) = part(tables.known.flat.as_slice(), sig.params, sig.param_count) else {
+        return false;
+    };
+    stack.take_all(&tables.known.order, params)
+}
+
+// Those that it gives are put on.
+#[inline(always)]
+fn put_results(tables: &Tables, sig: Sig, stack: &mut Stack) -> bool
+    ensures { result ≡ true → stack.new ≡ with_all (results_in tables.now.known.flat.items sig) stack.old }
+{
+    if sig.result_count == 0 {
+        return true;
+    }
+    if sig.result_count == 1 {
+        let flat = tables.known.flat.as_slice();
+        let place = sig.results as usize;
+        if place >= flat.len() {
+            return false;
+        }
+        return stack.put(flat[place]);
+    }
+    let Some(results) = part(tables.known.flat.as_slice(), sig.results, sig.result_count) else {
+        return false;
+    };
+    stack.put_all(results)
 }
 
 // The index of a table, and the offset behind it. Linkers write 0 in five bytes, which the features may allow, and other indices.
@@ -131,15 +168,7 @@ pub fn call_indirect(
     if !calls_through(tables, table) || index >= types.len() {
         return None;
     }
-    let sig = types[index];
-    let flat = tables.known.flat.as_slice();
-    let Some(params) = part(flat, sig.params, sig.param_count) else {
-        return None;
-    };
-    let Some(results) = part(flat, sig.results, sig.result_count) else {
-        return None;
-    };
-    if !stack.take(0) || !stack.take_all(&tables.known.order, params) || !stack.put_all(results) {
+    if !stack.take(0) || !pass(tables, types[index], stack) {
         return None;
     }
     Some(end)
@@ -202,17 +231,13 @@ pub fn return_call(
     let Some(params) = returned(tables, functions[index]) else {
         return None;
     };
-    let Some(results) = inner_results(tables.known.flat.as_slice(), opens) else {
-        return None;
-    };
     if !stack.take_all(&tables.known.order, params) {
         return None;
     }
-    stack.cut();
-    if !stack.put_all(results) {
+    let Some(next) = unreached(tables, bytes, end, stack, opens) else {
         return None;
-    }
-    Some(end)
+    };
+    Some(next)
 }
 
 /// A call through a table, in the place of a return.
@@ -245,17 +270,13 @@ pub fn return_call_indirect(
     let Some(params) = returned(tables, ty) else {
         return None;
     };
-    let Some(results) = inner_results(tables.known.flat.as_slice(), opens) else {
-        return None;
-    };
     if !stack.take(0) || !stack.take_all(&tables.known.order, params) {
         return None;
     }
-    stack.cut();
-    if !stack.put_all(results) {
+    let Some(next) = unreached(tables, bytes, end, stack, opens) else {
         return None;
-    }
-    Some(end)
+    };
+    Some(next)
 }
 
 /// A call of the function that a reference leads to.
@@ -330,16 +351,12 @@ pub fn return_call_ref(
     let Some(params) = returned(tables, ty) else {
         return None;
     };
-    let Some(results) = given(tables.known.flat.as_slice(), opens, params.len()) else {
-        return None;
-    };
     let order = &tables.known.order;
     if code >= NO_CODE || !stack.take_below(order, code) || !stack.take_all(order, params) {
         return None;
     }
-    stack.cut();
-    if !stack.put_all(results) {
+    let Some(next) = unreached(tables, bytes, end, stack, opens) else {
         return None;
-    }
-    Some(end)
+    };
+    Some(next)
 }

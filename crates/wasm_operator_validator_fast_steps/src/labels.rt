@@ -1,12 +1,12 @@
 //! The labels of a branch by a table.
 
-ghost use Rattle.std.specs.Prelude.{◌≡◌, ◌≤◌, ℕ, true, length, IfSome};
+ghost use Rattle.std.specs.Prelude.{◌≡◌, ◌≤◌, ℕ, List, [], true, length, IfSome};
 ghost use Rattle.wasm_operator_validator_locals.specs.labels.Among.{IsAmong, KeepsOne};
 ghost use Rattle.wasm_operator_validator_fast_steps.specs.Labels.{AreLabels, Takes};
 ghost use Rattle.wasm_operator_validator_fast_tables.specs.Loop.{all};
 
 use std::alloc::Global;
-use wasm_operator_validator_fast_tables::{Opens, frame_at, label};
+use wasm_operator_validator_fast_tables::{Opens, frame_at, is_bare, label};
 use wasm_operator_validator_locals::labels::{Met, is_known, keep};
 use wasm_types_decoding::short_u32_at;
 
@@ -54,6 +54,17 @@ fn taken<'a>(flat: &'a [u32], opens: &Opens, depth: u32) -> Option<&'a [u32]>
     label(flat, frame.kind, frame.sig)
 }
 
+// Whether the frame behind so many takes and gives nothing.
+#[inline(always)]
+fn is_bare_at(opens: &Opens, depth: u32) -> bool
+    ensures { result ≡ true → (flat : List ℕ) → Takes flat (all opens.now) [] depth }
+{
+    match frame_at(opens, depth) {
+        Some(frame) => is_bare(frame.sig),
+        None => false,
+    }
+}
+
 // Whether a branch to the frame behind so many takes these, as those that were met do.
 #[inline(always)]
 fn is_taken_once(flat: &[u32], opens: &Opens, depth: u32, types: &[u32], met: &mut Met) -> bool
@@ -61,6 +72,9 @@ fn is_taken_once(flat: &[u32], opens: &Opens, depth: u32, types: &[u32], met: &m
         → Takes flat.now (all opens.now) types.now depth }
     ensures kept { KeepsOne met.old.items depth met.new.items }
 {
+    if types.len() == 0 && is_bare_at(opens, depth) {
+        return true;
+    }
     if is_known(met, depth, types.len()) {
         return true;
     }

@@ -15,4 +15,5 @@ pub mod memory;
 pub mod numbers;
 pub mod parametric;
 pub mod shape;
+pub mod unreached;
 pub mod variables;

@@ -4,7 +4,8 @@ ghost use Rattle.std.specs.Prelude.{◌≡◌, ◌<◌, ◌≤◌, length, IfSom
 ghost use Rattle.wasm_operators_frequent.specs.Short.{Begins};
 ghost use Rattle.wasm_operator_validator_fast_tables.specs.Loop.{Leads, all};
 
-use wasm_operator_validator_fast_tables::{Opens, Stack, Tables, given};
+use crate::unreached::unreached;
+use wasm_operator_validator_fast_tables::{Opens, Stack, Tables};
 
 /// Nothing.
 #[inline(always)]
@@ -24,7 +25,7 @@ pub fn nop(
     Some(at + 1)
 }
 
-/// Nothing behind this is reached, so any operands may lie there: the frame's results do.
+/// Nothing behind this is reached.
 #[inline(always)]
 pub fn unreachable(
     tables: &Tables,
@@ -39,14 +40,10 @@ pub fn unreachable(
     ensures forward { IfSome result (λ end. at < end) }
     ensures inside { IfSome result (λ end. end ≤ length bytes.now) }
 {
-    let Some(results) = given(tables.known.flat.as_slice(), opens, 0) else {
+    let Some(next) = unreached(tables, bytes, at + 1, stack, opens) else {
         return None;
     };
-    stack.cut();
-    if !stack.put_all(results) {
-        return None;
-    }
-    Some(at + 1)
+    Some(next)
 }
 
 /// An operand is dropped.

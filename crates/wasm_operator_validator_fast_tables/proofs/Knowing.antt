@@ -15,14 +15,14 @@ use Rattle.wasm_operator_validator_state.specs.State.{types_in}
 use Rattle.wasm_operator_validator_state.specs.resources.Meaning.{Meaning, type_in, reference_in}
 use Rattle.wasm_operator_validator_rules.specs.Operands.{ValueType}
 use Rattle.wasm_operator_validator_rules.specs.Row.{IsOneOf}
-use Rattle.wasm_operator_validator_rules.specs.Context.{Module, Table, Signature}
+use Rattle.wasm_operator_validator_rules.specs.Context.{Module, Table, Signature, IsFunctionType}
 use Rattle.wasm_operator_validator_state.specs.blocks.Signatures.{IsFunctionAt}
 use Rattle.wasm_operator_validator_fast_tables.specs.declared.tables.Sig.{Sig}
 use Rattle.wasm_operator_validator_fast_tables.specs.Stacks.{part}
 use Rattle.wasm_operator_validator_fast_tables.specs.declared.tables.Named.{Named}
 use Rattle.wasm_operator_validator_fast_tables.specs.Values.{type_of, types}
-use Rattle.wasm_operator_validator_fast_tables.specs.Tables.{params_in, results_in, signature_in, IsTypeIn, HasTable}
-use Rattle.wasm_operator_validator_fast_tables.specs.Known.{IsMore, StandAlone, ArePlacedIn, IsUsableIn, IsSigIn, AreSigsIn, AreReferencedIn}
+use Rattle.wasm_operator_validator_fast_tables.specs.Tables.{params_in, results_in, signature_in, IsTypeIn, IsCalleeIn, HasTable}
+use Rattle.wasm_operator_validator_fast_tables.specs.Known.{IsMore, StandAlone, ArePlacedIn, IsUsableIn, IsSigIn, AreSigsIn, AreFunctionsIn, AreCalleesOf, AreReferencedIn}
 use Rattle.wasm_operator_validator_fast_tables.proofs.Standing.{reference_is}
 
 -- ---- types
@@ -214,6 +214,18 @@ signed m y s xs ps rs us vs ys zs e f p r a b c d (t, at, is) =
 pub type_known : (ids : List TypeTree) (m : Module) (flat : List ℕ) (y : ℕ) (s : Sig) → length flat < 0xffffffff → IsSigIn ids m flat y s → IsTypeIn ids m flat y s
 type_known ids m flat y s few (inl e) le = absurd (omega (arith, few, e, le))
 type_known ids m flat y s few (inr u) le = (u.type, u.at, u.function)
+
+-- what a type that is named twice is
+twice : (ts : List TypeTree) (y : ℕ) (t u : TypeTree) → slice_get ts y ≡ Some t → slice_get ts y ≡ Some u → t ≡ u
+twice ts y t u e f = cc
+
+pub callee_known : (ids : List TypeTree) (m : Module) (flat fs : List ℕ) (ss hs : List Sig) (x : ℕ) (s : Sig) → AreFunctionsIn m fs
+    → ((y : ℕ) (k : Sig) → slice_get ss y ≡ Some k → IsTypeIn ids m flat y k) → AreCalleesOf fs ss hs → slice_get hs x ≡ Some s → IsCalleeIn ids m flat x s
+callee_known ids m flat fs ss hs x s functions types callees at le =
+    let (y, indexed, signed) = callees x s at in
+    let (f, there, also) = functions x y indexed in
+    let (h, other, is) = types y s signed le in
+    (f, there, subst (λ (t : TypeTree). IsFunctionType t (signature_in ids flat s)) (twice m.types y h f other also) is)
 
 pub table_known : (m : Meaning) (t : Table) (b : Bool) → Some t ≡ slice_get m.«module».tables 0 → t.table64 ≡ false → IsTrue b ↔ Below t.element (ref true (abstract false func)) → b ≡ true
     → HasTable m.«module»

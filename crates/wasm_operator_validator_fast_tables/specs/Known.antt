@@ -41,6 +41,10 @@ AreSigsIn ids m flat ss = (y : ℕ) (s : Sig) → slice_get ss y ≡ Some s → 
 abbrev pub AreFunctionsIn : Module → List ℕ → Type 0
 AreFunctionsIn m fs = (x y : ℕ) → slice_get fs x ≡ Some y → HasTypeIn m x y
 
+-- these are the signatures of functions, by the indices of their types
+abbrev pub AreCalleesOf : List ℕ → List Sig → List Sig → Type 0
+AreCalleesOf fs ss cs = (x : ℕ) (s : Sig) → slice_get cs x ≡ Some s → (y : ℕ) × (slice_get fs x ≡ Some y) × (slice_get ss y ≡ Some s)
+
 -- code may refer to the functions of which it is said
 abbrev pub AreReferencedIn : Module → List Bool → Type 0
 AreReferencedIn m bs = (x : ℕ) → slice_get bs x ≡ Some true → IsOneOf x m.referenced

@@ -52,6 +52,10 @@ IsTypeIn ids m flat y s = s.param_count ≤ length flat → (t : TypeTree) × (s
 abbrev pub HasTypeIn : Module → ℕ → ℕ → Type 0
 HasTypeIn m x y = (t : TypeTree) × (slice_get m.functions x ≡ Some t) × (slice_get m.types y ≡ Some t)
 
+-- the function at an index is of this function type, as far as the signature is for use
+abbrev pub IsCalleeIn : List TypeTree → Module → List ℕ → ℕ → Sig → Type 0
+IsCalleeIn ids m flat x s = s.param_count ≤ length flat → (t : TypeTree) × (slice_get m.functions x ≡ Some t) × IsFunctionType t (signature_in ids flat s)
+
 -- no code stands for the type
 abbrev pub no_code : ℕ
 no_code = 0xffffffff
@@ -131,6 +135,7 @@ pub record Knows (ids : List TypeTree) (m : Module) (k : Known) : Type 0 where
   pub alone : (n : ℕ) → n < 40 → part n 1 k.flat.items ≡ n ∷ []
   pub types : (y : ℕ) (s : Sig) → slice_get k.types.items y ≡ Some s → IsTypeIn ids m k.flat.items y s
   pub functions : (x y : ℕ) → slice_get k.functions.items x ≡ Some y → HasTypeIn m x y
+  pub callees : (x : ℕ) (s : Sig) → slice_get k.callees.items x ≡ Some s → IsCalleeIn ids m k.flat.items x s
   pub referenced : (x : ℕ) → slice_get k.referenced.items x ≡ Some true → IsOneOf x m.referenced
   pub globals : (x : ℕ) (h : Held) → slice_get k.globals.items x ≡ Some h → IsGlobalIn ids m x h
   pub named : (y : ℕ) (n : Named) → slice_get k.named.items y ≡ Some n → n.code < no_code → IsNamedIn ids m k.fields.items y n

@@ -7,7 +7,7 @@ ghost use Rattle.wasm_operator_validator_state.specs.State.{types_in};
 ghost use Rattle.wasm_operator_validator_state.specs.resources.Meaning.{Meaning, reference_in};
 ghost use Rattle.wasm_operator_validator_fast_tables.specs.Values.{types};
 ghost use Rattle.wasm_operator_validator_fast_tables.specs.Tables.{Knows, HasMemory, HasTable};
-ghost use Rattle.wasm_operator_validator_fast_tables.specs.Known.{IsMore, StandAlone, IsSigIn, AreSigsIn, AreFunctionsIn, AreReferencedIn, AreGlobalsIn};
+ghost use Rattle.wasm_operator_validator_fast_tables.specs.Known.{IsMore, StandAlone, IsSigIn, AreSigsIn, AreFunctionsIn, AreCalleesOf, AreReferencedIn, AreGlobalsIn};
 
 use crate::codes::{DEFINED, code_of};
 use crate::elements::{elements_of, tables_of};
@@ -47,6 +47,7 @@ pub fn known_of<R: WasmModuleResources>(alloc: Global, resources: &R, most: u32)
     let mut tags = Vec::new(alloc);
     sign_tags(resources, &mut flat, &mut tags, most);
     let functions = functions_of(alloc, resources, most);
+    let callees = callees_of(alloc, functions.as_slice(), types.as_slice());
     let tables = tables_of(alloc, resources, most);
     let elements = elements_of(alloc, resources, most);
     let wanted = may_refer(named.as_slice(), tables.as_slice(), elements.as_slice());
@@ -58,6 +59,7 @@ pub fn known_of<R: WasmModuleResources>(alloc: Global, resources: &R, most: u32)
         order: Order::new(steps),
         referenced: referenced_of(alloc, resources, functions.as_slice().len() as u32, wanted),
         functions,
+        callees,
         globals: globals_of(alloc, resources, most),
         tags,
         tables,
@@ -182,6 +184,23 @@ fn functions_of<R: WasmModuleResources>(alloc: Global, resources: &R, most: u32)
         };
     }
     functions
+}
+
+// Functions by their signatures, as far as there is memory: so a call looks up one thing and not two.
+fn callees_of(alloc: Global, functions: &[u32], types: &[Sig]) -> Vec<Sig>
+    ensures { AreCalleesOf functions.now types.now result.items }
+{
+    let mut callees = Vec::new(alloc);
+    for x in 0..functions.len() {
+        let ty = functions[x] as usize;
+        if ty >= types.len() {
+            return callees;
+        }
+        let Ok(()) = callees.push(types[ty]) else {
+            return callees;
+        };
+    }
+    callees
 }
 
 // Whether code of a module with these types, tables and element segments may well refer to functions. Compilers of languages without references

@@ -23,7 +23,7 @@ mod written;
 
 pub use codes::{ANY, ARRAY, DEFINED, EQ, EXN, EXTERN, FUNC, I31, code_of, code_of_reference};
 pub use known::known_of;
-pub use lookups::{frame_at, given, inner_results, is_bare, label, part};
+pub use lookups::{frame_at, inner_results, is_bare, label, part};
 pub use opens::Opens;
 pub use order::{Order, Step};
 pub use pile::Pile;

@@ -33,24 +33,6 @@ pub fn inner_results<'a>(flat: &'a [u32], opens: &Opens) -> Option<&'a [u32]>
     part(flat, sig.results, sig.result_count)
 }
 
-// So many results are put on in no more time than an operator takes, and so many more for each operand that a branch takes, which is looked at anyway.
-const FEW: usize = 64;
-
-const FEW_AN_OPERAND: usize = 16;
-
-/// The results of the innermost frame, which are put on after a branch that takes so many operands, since any operands may lie there. None if
-/// they are many beside those: such a body is left to the validator of operators, which need not put on what is not reached.
-#[inline(always)]
-pub fn given<'a>(flat: &'a [u32], opens: &Opens, taken: usize) -> Option<&'a [u32]>
-    ensures { IfSome result (λ s. s.now ≡ results_in flat.now opens.now.inner.sig) }
-{
-    let count = opens.inner().sig.result_count as usize;
-    if count > FEW && count / FEW_AN_OPERAND > taken {
-        return None;
-    }
-    inner_results(flat, opens)
-}
-
 /// The frame behind so many.
 #[inline(always)]
 pub fn frame_at(opens: &Opens, depth: u32) -> Option<Open>

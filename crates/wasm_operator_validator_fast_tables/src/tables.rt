@@ -53,7 +53,7 @@ pub struct Named {
 
 /// What bodies ask of a module: codes, one after the other, first 40 that stand for themselves, then two for each type of the module, then the
 /// types of signatures; where those of each function type lie there; what each type is, and the fields of structures; what is below what;
-/// functions by the indices of their types, and whether code may refer to them; globals; tags, by where their parameters lie; tables and element
+/// functions by the indices of their types and by their signatures, and whether code may refer to them; globals; tags, by where their parameters lie; tables and element
 /// segments, by the codes of their references, except that a table of 64 bits has no code; how many data segments there are; whether memory 0 is
 /// one of 32 bits, and table 0 one of functions and of 32 bits.
 #[derive(Drop)]
@@ -64,6 +64,7 @@ pub struct Known {
     pub fields: Vec<Field>,
     pub order: Order,
     pub functions: Vec<u32>,
+    pub callees: Vec<Sig>,
     pub referenced: Vec<bool>,
     pub globals: Vec<Held>,
     pub tags: Vec<Sig>,

@@ -9,8 +9,8 @@ use Rattle.wasm_module_validator.specs.Parts.{AcceptsPart}
 abbrev pub bodiless : List ℕ
 bodiless = header ++ procedure_section ++ function_section ++ empty_body_section
 
--- A part that has not the body says yes, and one that has it says no, whether it is the only part or one of two is it. What is not valid outside
--- its bodies no part accepts. Of two parts the second has the second of two bodies, and not the first.
+-- A part without that body says yes (`beyond`, a part that no caller can ask for). The part that has it says no: the only part, and one of two.
+-- What is not valid outside its bodies no part accepts. Of two parts the second has the second of two bodies, and not the first.
 pub record PartRows : Type 0 where
   pub beyond : AcceptsPart everything 1 1 bodiless
   pub only : AcceptsPart everything 0 1 bodiless → ⊥

@@ -1,5 +1,5 @@
 -- That a valid module runs soundly (WebAssembly 3.0, appendix, soundness), and so does each module that bytes spell and that is accepted.
-use Rattle.std.specs.Prelude.{◌≡◌, ℕ, List, [], Some, slice_get}
+use Rattle.std.specs.Prelude.{◌≡◌, ℕ, List, [], Option, Some, slice_get}
 use Rattle.wasm_types.specs.settings.Settings.{Settings}
 use Rattle.wasm_types.specs.trees.Trees.{TypeTree}
 use Rattle.wasm_operator_validator_rules.specs.Operands.{ValueType}
@@ -8,9 +8,12 @@ use Rattle.wasm_module_validator_rules.specs.Binary.{SpelledModule}
 use Rattle.wasm_module_validator_rules.specs.Valid.{IfThere, IsValid}
 use Rattle.wasm_module_validator_rules.specs.Accepts.{AcceptsUnder}
 use Rattle.wasm_operator_validator_soundness.specs.runs.Values.{Function, Program, IsStandard}
-use Rattle.wasm_operator_validator_soundness.specs.runs.States.{State}
+use Rattle.wasm_operator_validator_soundness.specs.runs.States.{State, Answer}
 use Rattle.wasm_operator_validator_rules.specs.Context.{IsFunctionType}
-use Rattle.wasm_operator_validator_soundness.specs.runs.Soundness.{IsStarted, IsNeverStuck, StaysValid}
+use Rattle.wasm_operator_validator_soundness.specs.runs.Soundness.{IsValidProgram, IsStarted, IsNeverStuck, StaysValid, Runs}
+use Rattle.wasm_operator_validator_soundness.specs.runs.ValidStates.{IsValidStateBy}
+use Rattle.wasm_operator_validator_soundness.specs.runs.Places.{Place, places, IsValidBy}
+use Rattle.wasm_operator_validator_soundness.specs.runs.Progress.{GlobalsHaveValues, IsAlwaysAnswered}
 use Rattle.wasm_operator_validator_store.specs.Stores.{Store}
 use Rattle.wasm_operator_validator_store.specs.ValidStores.{Knows, HasState, StoreFits}
 use Rattle.wasm_operator_validator_store.specs.Soundness.{IsSoundOver}
@@ -26,19 +29,28 @@ MayStart p x = (f : Function) × (slice_get p.functions x ≡ Some f)
 
 -- Whatever function of the module is started, with arguments that fit its parameters, and whatever is answered, it is never stuck; what
 -- it returns or throws fits, and at each place on the way each value fits what the rules know of it there. Over any store in which all
--- fits, what is read is what was written last, and all fits again on the way. The function that starts the module takes and gives nothing.
--- Each constant gives what fits its place. Whatever the host gives for imports, if all fits in it, all fits in the first store.
+-- fits, what is read is what was written last, each step is answered, and all fits again on the way. So is each step by types alone, if no
+-- global is of a type without values. The function that starts the module takes and gives nothing. Each constant gives what fits its place.
+-- Whatever the host gives for imports, if all fits in it, all fits in the first store. The module is a valid program, and whichever
+-- derivations of its bodies are given, at each place on the way all fits what they say there.
 pub record RunsFrom (z : Settings) (m : ModuleTree) (hosts : List TypeTree) : Type 0 where
   pub functions : (s : State) (results : List ValueType) → IsStarted (program_of z m hosts) s results
       → IsNeverStuck (program_of z m hosts) results s
   pub states : (s : State) (results : List ValueType) → IsStarted (program_of z m hosts) s results
       → StaysValid (program_of z m hosts) results s
+  pub answered : (s : State) (results : List ValueType) → GlobalsHaveValues (program_of z m hosts)
+      → IsStarted (program_of z m hosts) s results → IsAlwaysAnswered (program_of z m hosts) s
   pub stores : (s : State) (results : List ValueType) (u : Store) → IsStarted (program_of z m hosts) s results
       → StoreFits (program_of z m hosts) u → HasState (Knows u) s → IsSoundOver (program_of z m hosts) results u s
   pub start : IfThere (MayStart (program_of z m hosts)) m.start
   pub constants : EachConstantFits z m hosts
   pub first_stores : (host u : Store) → StoreFits (imports_of (program_of z m hosts) (initials_of m)) host
       → IsFirstStore (program_of z m hosts) (initials_of m) host u → StoreFits (program_of z m hosts) u
+  pub program : IsValidProgram (program_of z m hosts)
+  pub placed : (D : ℕ → Option Place) → IsValidBy (places D) (program_of z m hosts)
+      → (s : State) (results : List ValueType) → IsStarted (program_of z m hosts) s results
+      → (answers : List Answer) (t : State) → Runs (program_of z m hosts) s answers t
+      → IsValidStateBy (places D) (program_of z m hosts) results t
 
 -- so it is whatever the host gives for the functions that are imported
 abbrev pub ModuleRunsSoundly : Settings → ModuleTree → Type 0

@@ -1,7 +1,7 @@
 //! Globals that their bytes alone tell.
 //!
-//! Most globals of a module are integers, each a number or the value of a global before it. [`add_short_global`] tells these with no reader of
-//! operators; of all others it says nothing.
+//! Most globals of a module are integers, each a number or the value of a global before it. [`add_short_global`] tells these with no reader at
+//! all, and those of other types if one pass over the bytes judges their values; of all others it says nothing.
 
 ghost use Rattle.std.specs.Prelude.{◌≡◌, ◌∷◌, ◌+◌, ◌≤◌, [], length, IsTrue, IfNone, IfSome};
 ghost use Rattle.wasm_types.specs.settings.Features.{Gc, has};
@@ -11,7 +11,9 @@ ghost use Rattle.wasm_module_validator_resources.specs.rules_in_order.Between.{I
 ghost use Rattle.wasm_module_validator_state.specs.invariant.Standing.{constants_of};
 ghost use Rattle.wasm_module_validator_initialisers.specs.adding.Short.{AddsGlobal, HoldsInteger, IsInteger, integer_byte, integer_global, integer_type};
 
+use crate::adding::accepted::add_accepted_global;
 use crate::elements::{ReferringToAll, WasmModuleResources};
+use std::alloc::Global;
 use wasm_module_validator_state::invariant::ModuleState;
 use wasm_module_validator_type_list::TypeList;
 use wasm_operators_bodies::{ShortConstant, short_constant};
@@ -125,14 +127,8 @@ fn is_integer_here(
     is_integer(&ReferringToAll::new(&module), gc, wide, constant)
 }
 
-/// Adds the global at an offset of these bytes, if the bytes alone tell that it may be added, and answers where it ends: it is an integer, and its
-/// value a number or a global before it (WebAssembly 3.0, validation, modules, globals). Else the state stays.
-pub fn add_short_global(
-    state: &mut ModuleState,
-    types: &TypeList,
-    bytes: &[u8],
-    at: usize,
-) -> Option<usize>
+// Adds the global at an offset of these bytes, if it may be added and is an integer, and its value a number or a global before it.
+fn add_integer(state: &mut ModuleState, types: &TypeList, bytes: &[u8], at: usize) -> Option<usize>
     requires over { IsReadOver types.now.groups state.old.spaces }
     requires inside { at ≤ length bytes.now }
     ensures added { IfSome result (AddsGlobal types.now.groups state.old state.new bytes.now at) }
@@ -154,4 +150,27 @@ pub fn add_short_global(
         Ok(()) => Some(at + 2 + long),
         Err(_error) => None,
     }
+}
+
+/// Adds the global at an offset of these bytes, if the bytes alone tell that it may be added, and answers where it ends (WebAssembly 3.0,
+/// validation, modules, globals). Else the state stays.
+pub fn add_short_global(
+    alloc: Global,
+    state: &mut ModuleState,
+    types: &TypeList,
+    bytes: &[u8],
+    at: usize,
+) -> Option<usize>
+    requires over { IsReadOver types.now.groups state.old.spaces }
+    requires inside { at ≤ length bytes.now }
+    ensures added { IfSome result (AddsGlobal types.now.groups state.old state.new bytes.now at) }
+    ensures over { IsReadOver types.now.groups state.new.spaces }
+    ensures settings { state.new.spaces.settings ≡ state.old.spaces.settings }
+    ensures types { state.new.spaces.types ≡ state.old.spaces.types }
+    ensures stays { IfNone result (state.new ≡ state.old) }
+{
+    if let Some(end) = add_integer(state, types, bytes, at) {
+        return Some(end);
+    }
+    add_accepted_global(alloc, state, types, bytes, at)
 }

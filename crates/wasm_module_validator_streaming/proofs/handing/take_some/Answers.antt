@@ -35,9 +35,10 @@ returns-in-Err-take_piece-clause-err g c =
 pub returns-then-count-most-clause-err : goal.returns-then-count-most-clause-err
 returns-then-count-most-clause-err g c =
     let held : length c.args.pending.now.bytes.items ≤ c.args.most = search rules in
+    let some : 0 < length c.args.pending.now.bytes.items = search rules in
     let less : length c.args.pending.now.bytes.items < c.args.pending.now.needed = search rules in
     let few : c.min-count.result ≤ length c.args.bytes.now = search rules in
     let wanted : c.min-count.result ≤ c.args.pending.now.needed - length c.args.pending.now.bytes.items = search rules in
     let full : c.args.most - length c.args.pending.now.bytes.items < c.min-count.result = search rules in
     part_long g.T.TakesBytes.stands g.met.T.TakesBytes.more c.args.pending.now.bytes.items c.args.taker.now g.T.TakesBytes.waits c.args.pending.now.needed c.args.most c.min-count.result c.args.bytes.now
-    c.requires.pending (are_bytes c.args.bytes.now (λ i. omega (arith, c.type_inv.bytes i))) held less few wanted full
+    c.requires.pending (are_bytes c.args.bytes.now (λ i. omega (arith, c.type_inv.bytes i))) some held less few wanted full

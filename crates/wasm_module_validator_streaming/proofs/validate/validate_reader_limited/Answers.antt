@@ -5,10 +5,10 @@ use Rattle.wasm_module_validator_streaming.proofs.validate.validate_reader_limit
 pub take_reader-requires-clause-begins : goal.take_reader-requires-clause-begins
 take_reader-requires-clause-begins g c =
     begins_there (record { features = c.args.features.0; limits = c.args.limits }) c.new-judging.result c.requires.within c.new-judging.ensures.state c.new-judging.ensures.settings
-    c.new-judging.ensures.empty c.new-judging.ensures.parser c.new-judging.ensures.judge
+    c.new-judging.ensures.empty c.new-judging.ensures.parser c.new-judging.ensures.judge c.new-judging.ensures.idle
 
 pub take_reader-requires-clause-waits : goal.take_reader-requires-clause-waits
-take_reader-requires-clause-waits g c = waits_first (record { features = c.args.features.0; limits = c.args.limits }) c.new-judging.result c.new-judging.ensures.parser
+take_reader-requires-clause-waits g c = waits_first (record { features = c.args.features.0; limits = c.args.limits }) c.new-judging.result c.new-judging.ensures.parser c.new-judging.ensures.idle
 
 pub returns-clause-answer : goal.returns-clause-answer
 returns-clause-answer g c =
