@@ -11,12 +11,13 @@ use Rattle.std.specs.declared.cmp.Ordering.{Ordering}
 use Rattle.std.specs.Str.{bytes_eq}
 use Rattle.std.specs.BTreeMap.{BTreeMap, UpdatesBy, is_at}
 use Rattle.std.specs.Map.{lookup, KeepsOthers, IsKeyTest, AreApart}
+use Rattle.wasm_module_validator_exports.specs.declared.names.pairs.Met.{Met}
 use Rattle.wasm_module_validator_exports.specs.declared.names.pairs.Met.TheVariants as met
 use Rattle.wasm_module_validator_exports.specs.declared.names.pairs.Sought.{Sought}
 use Rattle.wasm_module_validator_exports.specs.declared.names.pairs.Sought.TheVariants as sought
-use Rattle.wasm_module_validator_exports.specs.names.Exports.{IsPut, slot_of}
+use Rattle.wasm_module_validator_exports.specs.names.Exports.{IsPut, beside}
 use Rattle.wasm_module_validator_exports.specs.declared.names.imports.KeptNames.{KeptNames}
-use Rattle.wasm_module_validator_exports.specs.names.Imports.{Pair, all_named, module_at, number_of, pairs_of, is_pair, index_of, slot_for, in_slot, is_there, stands_at, IsFree, HasMet, compare_names, find_names, HasSought, found, Finds, IsBehind, Holds, HasSettled}
+use Rattle.wasm_module_validator_exports.specs.names.Imports.{Pair, all_named, module_at, pairs_of, is_pair, index_of, slot_for, in_first, in_other, is_there, stands_at, IsSlotOf, IsFree, HasFree, StandsNowhere, HasMet, HasMetAt, compare_names, find_names, HasSought, found, Finds, IsBehind, Holds, HasSettled}
 use Rattle.wasm_module_validator_exports.specs.names.Kept.{name_at}
 use Rattle.wasm_module_validator_exports.proofs.Keeping.{pair_at, read}
 
@@ -130,97 +131,154 @@ chosen_second : (t : Bool) (o p : Option ℕ) → t ≡ false → chosen t o p �
 chosen_second true o p e = absurd cc
 chosen_second false o p e = refl
 
+-- a pair that stands in neither of its slots is found by the map
+nowhere_found : (slots : List ℕ) (others : Others) (ps : List Pair) (m f : List ℕ) → StandsNowhere slots ps m f → found slots others ps m f ≡ find_names others m f
+nowhere_found slots others ps m f none =
+    chosen_second (stands_at m f ps (in_first slots m f)) (in_first slots m f) (chosen (stands_at m f ps (in_other slots m f)) (in_other slots m f) (find_names others m f)) none.0
+    ∙ chosen_second (stands_at m f ps (in_other slots m f)) (in_other slots m f) (find_names others m f) none.1
+
 module _ (slots : List ℕ) (others : Others) (ps : List Pair) (m f : List ℕ) (h : Holds slots others ps) where
-  pub there_by_slot : (i : ℕ) → in_slot slots m f ≡ Some i → stands_at m f ps (Some i) ≡ true → index_of m f ps ≡ Some i
-  there_by_slot i at stands =
-      sym (h.0 m f) ∙ ap (λ (o : Option ℕ). chosen (stands_at m f ps o) o (find_names others m f)) at
-      ∙ chosen_first (stands_at m f ps (Some i)) (Some i) (find_names others m f) stands
+  abbrev behind_first : Option ℕ
+  behind_first = chosen (stands_at m f ps (in_other slots m f)) (in_other slots m f) (find_names others m f)
 
-  pub by_map : stands_at m f ps (in_slot slots m f) ≡ false → index_of m f ps ≡ find_names others m f
-  by_map none = sym (h.0 m f) ∙ chosen_second (stands_at m f ps (in_slot slots m f)) (in_slot slots m f) (find_names others m f) none
+  pub there_by_slot : (i : ℕ) → HasMet slots ps m f (met.Same i) → index_of m f ps ≡ Some i
+  there_by_slot i s =
+      sym (h.0 m f)
+      ∙ ⊎_elim
+      (λ y. chosen_first (stands_at m f ps (in_first slots m f)) (in_first slots m f) behind_first y.0 ∙ y.1)
+      (λ y. chosen_second (stands_at m f ps (in_first slots m f)) (in_first slots m f) behind_first y.0
+      ∙ (chosen_first (stands_at m f ps (in_other slots m f)) (in_other slots m f) (find_names others m f) y.1 ∙ y.2))
+      s
 
-  free_here : (q : ℕ) → q ≡ slot_for m f (length slots) → IsFree slots ps q → IsFree slots ps (slot_for m f (length slots))
-  free_here q at free = subst (IsFree slots ps) at free
+  pub by_map : StandsNowhere slots ps m f → index_of m f ps ≡ find_names others m f
+  by_map none = sym (h.0 m f) ∙ nowhere_found slots others ps m f none
 
-  pub new_by_slot : (q : ℕ) → q ≡ slot_for m f (length slots) → IsFree slots ps q → index_of m f ps ≡ None
-  new_by_slot q at free =
-      let here = free_here q at free in
-      by_map (free_for_all m f ps (in_slot slots m f) here.0 here.1 here.2) ∙ h.1 m f here
+  pub new_by_slot : (q : ℕ) → IsSlotOf slots m f q → IsFree slots ps q → StandsNowhere slots ps m f → index_of m f ps ≡ None
+  new_by_slot q at free none =
+      let has : HasFree slots ps m f = ⊎_elim (λ y. inl (subst (IsFree slots ps) y free)) (λ y. inr (subst (IsFree slots ps) y free)) at in
+      by_map none ∙ h.1 m f has
 
-module _ (old new : List ℕ) (others : Others) (ps : List Pair) (m f : List ℕ) (q i : ℕ) (at : q ≡ slot_for m f (length old)) (last : i ≡ length ps)
-    (free : IsFree old ps q) (put : IsPut q i old new) (h : Holds old others ps) where
+module _ (old new : List ℕ) (others : Others) (ps : List Pair) (m f : List ℕ) (q i : ℕ) (at : IsSlotOf old m f q) (last : i ≡ length ps)
+    (free : IsFree old ps q) (none : StandsNowhere old ps m f) (put : IsPut q i old new) (h : Holds old others ps) where
   abbrev more : List Pair
   more = ps ++ (m, f) ∷ []
 
-  in_slot_now : (a b : List ℕ) → in_slot new a b ≡ cond (q == slot_for a b (length old)) (Some (length ps)) (in_slot old a b)
-  in_slot_now a b =
-      ap (λ (l : ℕ). slice_get new (slot_for a b l)) put.0 ∙ put.1 (slot_for a b (length old))
-      ∙ ap (λ (l : ℕ). cond (q == slot_for a b (length old)) (Some l) (in_slot old a b)) last
+  slot_now : (k : ℕ) → slice_get new k ≡ cond (q == k) (Some (length ps)) (slice_get old k)
+  slot_now k = put.1 k ∙ ap (λ (l : ℕ). cond (q == k) (Some l) (slice_get old k)) last
 
-  none : index_of m f ps ≡ None
-  none = new_by_slot old others ps m f h q at free
+  in_it : (k : ℕ) → (q == k) ≡ true → slice_get new k ≡ Some (length ps)
+  in_it k y = slot_now k ∙ cond-true (q == k) (Some (length ps)) (slice_get old k) y
 
-  finds_new : found new others more m f ≡ Some (length ps)
-  finds_new =
-      let here : (q == slot_for m f (length old)) ≡ true = subst (λ (l : ℕ). (q == l) ≡ true) at (same q) in
-      let now : in_slot new m f ≡ Some (length ps) = in_slot_now m f ∙ cond-true (q == slot_for m f (length old)) (Some (length ps)) (in_slot old m f) here in
-      ap (λ (o : Option ℕ). chosen (stands_at m f more o) o (find_names others m f)) now
-      ∙ chosen_first (stands_at m f more (Some (length ps))) (Some (length ps)) (find_names others m f) (ap (is_there m f) (there_last ps (m, f)) ∙ itself m f)
+  elsewhere : (k : ℕ) → (q == k) ≡ false → slice_get new k ≡ slice_get old k
+  elsewhere k z = slot_now k ∙ cond-false (q == k) (Some (length ps)) (slice_get old k) z
+
+  same_slot : (a b : List ℕ) → slot_for a b (length new) ≡ slot_for a b (length old)
+  same_slot a b = ap (slot_for a b) put.0
+
+  abbrev stands_new : ℕ → Bool
+  stands_new k = stands_at m f more (slice_get new k)
+
+  standing : (k : ℕ) → q ≡ k → stands_new k ≡ true
+  standing k e = ap (stands_at m f more) (in_it k (equal q k e)) ∙ (ap (is_there m f) (there_last ps (m, f)) ∙ itself m f)
     where
       same : (v : ℕ) → (v == v) ≡ true
       same v = grind arith
 
+      equal : (v w : ℕ) → v ≡ w → (v == w) ≡ true
+      equal v w e = subst (λ (u : ℕ). (v == u) ≡ true) e (same v)
+
+  -- if it stands at the index of a slot in which it did not, this is the last
+  is_last : (k : ℕ) → stands_at m f ps (slice_get old k) ≡ false → stands_new k ≡ true → slice_get new k ≡ Some (length ps)
+  is_last k was now =
+      ⊎_elim
+      (λ y. in_it k y)
+      (λ z. elsewhere k z ∙ stands_last m f ps (slice_get old k) was (sym (ap (stands_at m f more) (elsewhere k z)) ∙ now))
+      (cases_Bool (q == k))
+
+  abbrev its : ℕ
+  its = slot_for m f (length new)
+
+  at_now : (q ≡ its) ⊎ (q ≡ beside its)
+  at_now = ⊎_elim (λ y. inl (y ∙ sym (same_slot m f))) (λ y. inr (y ∙ ap beside (sym (same_slot m f)))) at
+
+  was_first : stands_at m f ps (slice_get old its) ≡ false
+  was_first = ap (λ (k : ℕ). stands_at m f ps (slice_get old k)) (same_slot m f) ∙ none.0
+
+  was_other : stands_at m f ps (slice_get old (beside its)) ≡ false
+  was_other = ap (λ (k : ℕ). stands_at m f ps (slice_get old (beside k))) (same_slot m f) ∙ none.1
+
+  finds_new : found new others more m f ≡ Some (length ps)
+  finds_new =
+      let rest = chosen (stands_new (beside its)) (slice_get new (beside its)) (find_names others m f) in
+      ⊎_elim
+      (λ y. chosen_first (stands_new its) (slice_get new its) rest y ∙ is_last its was_first y)
+      (λ z.
+      let there : stands_new (beside its) ≡ true = ⊎_elim (λ e. absurd (let bad : true ≡ false = sym (standing its e) ∙ z in cc)) (λ e. standing (beside its) e) at_now in
+      chosen_second (stands_new its) (slice_get new its) rest z
+      ∙ (chosen_first (stands_new (beside its)) (slice_get new (beside its)) (find_names others m f) there ∙ is_last (beside its) was_other there))
+      (cases_Bool (stands_new its))
+
+  none_at : index_of m f ps ≡ None
+  none_at = new_by_slot old others ps m f h q at free none
+
   module _ (a b : List ℕ) (other : is_pair a b (m, f) ≡ false) where
+    -- another pair is found in a slot as it was
+    kept_if : (k : ℕ) (rest : Option ℕ) → chosen (stands_at a b more (slice_get new k)) (slice_get new k) rest ≡ chosen (stands_at a b ps (slice_get old k)) (slice_get old k) rest
+    kept_if k rest =
+        ⊎_elim
+        (λ y.
+        let was : IsFree old ps k = subst (IsFree old ps) (eqb-true q k y) free in
+        chosen_second (stands_at a b more (slice_get new k)) (slice_get new k) rest
+        (ap (stands_at a b more) (in_it k y) ∙ (ap (is_there a b) (there_last ps (m, f)) ∙ other))
+        ∙ sym (chosen_second (stands_at a b ps (slice_get old k)) (slice_get old k) rest (free_for_all a b ps (slice_get old k) was.0 was.1 was.2)))
+        (λ z. ap (λ (o : Option ℕ). chosen (stands_at a b more o) o rest) (elsewhere k z)
+        ∙ ap (λ (t : Bool). chosen t (slice_get old k) rest) (stands_still a b m f ps (slice_get old k) other))
+        (cases_Bool (q == k))
+
     abbrev asked : ℕ
-    asked = slot_for a b (length old)
-
-    in_its_slot : (q == asked) ≡ true → found new others more a b ≡ found old others ps a b
-    in_its_slot e =
-        let is : q ≡ asked = eqb-true q asked e in
-        let was : IsFree old ps asked = subst (IsFree old ps) is free in
-        let now : in_slot new a b ≡ Some (length ps) = in_slot_now a b ∙ cond-true (q == asked) (Some (length ps)) (in_slot old a b) e in
-        ap (λ (o : Option ℕ). chosen (stands_at a b more o) o (find_names others a b)) now
-        ∙ chosen_second (stands_at a b more (Some (length ps))) (Some (length ps)) (find_names others a b) (ap (is_there a b) (there_last ps (m, f)) ∙ other)
-        ∙ sym (chosen_second (stands_at a b ps (in_slot old a b)) (in_slot old a b) (find_names others a b) (free_for_all a b ps (in_slot old a b) was.0 was.1 was.2))
-
-    elsewhere : (q == asked) ≡ false → found new others more a b ≡ found old others ps a b
-    elsewhere e =
-        let now : in_slot new a b ≡ in_slot old a b = in_slot_now a b ∙ cond-false (q == asked) (Some (length ps)) (in_slot old a b) e in
-        ap (λ (o : Option ℕ). chosen (stands_at a b more o) o (find_names others a b)) now
-        ∙ ap (λ (t : Bool). chosen t (in_slot old a b) (find_names others a b)) (stands_still a b m f ps (in_slot old a b) other)
+    asked = slot_for a b (length new)
 
     finds_other : found new others more a b ≡ index_of a b more
-    finds_other = ⊎_elim in_its_slot elsewhere (cases_Bool (q == asked)) ∙ h.0 a b ∙ sym (index_same a b m f ps other)
+    finds_other =
+        kept_if asked (chosen (stands_at a b more (slice_get new (beside asked))) (slice_get new (beside asked)) (find_names others a b))
+        ∙ ap (chosen (stands_at a b ps (slice_get old asked)) (slice_get old asked)) (kept_if (beside asked) (find_names others a b))
+        ∙ ap (λ (k : ℕ). chosen (stands_at a b ps (slice_get old k)) (slice_get old k)
+        (chosen (stands_at a b ps (slice_get old (beside k))) (slice_get old (beside k)) (find_names others a b))) (same_slot a b)
+        ∙ h.0 a b ∙ sym (index_same a b m f ps other)
 
   finds_by_slot : Finds new others more
   finds_by_slot a b =
       ⊎_elim
       (λ y. let n = names_are a b m f y in
       subst (λ (c : List ℕ). found new others more c b ≡ index_of c b more) (sym n.0)
-      (subst (λ (d : List ℕ). found new others more m d ≡ index_of m d more) (sym n.1) (finds_new ∙ sym (index_new m f ps none))))
+      (subst (λ (d : List ℕ). found new others more m d ≡ index_of m d more) (sym n.1) (finds_new ∙ sym (index_new m f ps none_at))))
       (finds_other a b) (cases_Bool (is_pair a b (m, f)))
 
   -- a slot that is free was so
-  behind_by_slot : IsBehind new others more
-  behind_by_slot a b (x, was, gone) =
-      let now = in_slot_now a b in
-      let asked = slot_for a b (length old) in
+  was_free : (k : ℕ) → IsFree new more k → IsFree old ps k
+  was_free k (x, was, gone) =
       ⊎_elim
       (λ y.
-      let here : Some (length ps) ≡ Some x = sym (now ∙ cond-true (q == asked) (Some (length ps)) (in_slot old a b) y) ∙ was in
+      let here : Some (length ps) ≡ Some x = sym (in_it k y) ∙ was in
       let same : length ps ≡ x = ap (λ (o : Option ℕ). unwrap_or o x) here in
       let there : slice_get more x ≡ Some (m, f) = subst (λ (l : ℕ). slice_get more l ≡ Some (m, f)) same (there_last ps (m, f)) in
       absurd (let bad : None ≡ Some (m, f) = sym gone ∙ there in cc))
-      (λ z. h.1 a b (x, sym (now ∙ cond-false (q == asked) (Some (length ps)) (in_slot old a b) z) ∙ was, none_before ps (m, f) x gone))
-      (cases_Bool (q == asked))
+      (λ z. (x, sym (elsewhere k z) ∙ was, none_before ps (m, f) x gone))
+      (cases_Bool (q == k))
+
+  behind_by_slot : IsBehind new others more
+  behind_by_slot a b has =
+      let asked = slot_for a b (length new) in
+      let before : IsFree old ps asked ⊎ IsFree old ps (beside asked) = ⊎_elim (λ y. inl (was_free asked y)) (λ y. inr (was_free (beside asked) y)) has in
+      h.1 a b (subst (λ (k : ℕ). IsFree old ps k ⊎ IsFree old ps (beside k)) (same_slot a b) before)
 
   pub settled_by_slot : (index_of m f ps ≡ None) × Holds new others more
-  settled_by_slot = (none, (finds_by_slot, behind_by_slot))
+  settled_by_slot = (none_at, (finds_by_slot, behind_by_slot))
 
 -- ---- the map
 
-module _ (slots : List ℕ) (others more : Others) (ps : List Pair) (m f : List ℕ) (h : Holds slots others ps) (elsewhere : stands_at m f ps (in_slot slots m f) ≡ false)
-    (full : IsFree slots ps (slot_for m f (length slots)) → ⊥) (new : find_names others m f ≡ None)
+module _ (slots : List ℕ) (others more : Others) (ps : List Pair) (m f : List ℕ) (h : Holds slots others ps) (elsewhere : StandsNowhere slots ps m f)
+    (full : HasFree slots ps m f → ⊥) (new : find_names others m f ≡ None)
     (put : (a b : List ℕ) → find_names more a b ≡ cond (is_pair a b (m, f)) (Some (length ps)) (find_names others a b)) where
   abbrev longer : List Pair
   longer = ps ++ (m, f) ∷ []
@@ -230,17 +288,27 @@ module _ (slots : List ℕ) (others more : Others) (ps : List Pair) (m f : List 
 
   found_new : found slots more longer m f ≡ Some (length ps)
   found_new =
-      let o = in_slot slots m f in
+      let o = in_first slots m f in
+      let p = in_other slots m f in
+      let rest = chosen (stands_at m f longer p) p (find_names more m f) in
       ⊎_elim
-      (λ y. chosen_first (stands_at m f longer o) o (find_names more m f) y ∙ stands_last m f ps o elsewhere y)
-      (λ z. chosen_second (stands_at m f longer o) o (find_names more m f) z ∙ put m f ∙ cond-true (is_pair m f (m, f)) (Some (length ps)) (find_names others m f) (itself m f))
+      (λ y. chosen_first (stands_at m f longer o) o rest y ∙ stands_last m f ps o elsewhere.0 y)
+      (λ z. chosen_second (stands_at m f longer o) o rest z
+      ∙ ⊎_elim
+      (λ y. chosen_first (stands_at m f longer p) p (find_names more m f) y ∙ stands_last m f ps p elsewhere.1 y)
+      (λ w. chosen_second (stands_at m f longer p) p (find_names more m f) w
+      ∙ (put m f ∙ cond-true (is_pair m f (m, f)) (Some (length ps)) (find_names others m f) (itself m f)))
+      (cases_Bool (stands_at m f longer p)))
       (cases_Bool (stands_at m f longer o))
 
   found_other : (a b : List ℕ) → is_pair a b (m, f) ≡ false → found slots more longer a b ≡ index_of a b longer
   found_other a b other =
-      let o = in_slot slots a b in
-      ap (λ (t : Bool). chosen t o (find_names more a b)) (stands_still a b m f ps o other)
-      ∙ ap (chosen (stands_at a b ps o) o) (put a b ∙ cond-false (is_pair a b (m, f)) (Some (length ps)) (find_names others a b) other)
+      let o = in_first slots a b in
+      let p = in_other slots a b in
+      ap (λ (t : Bool). chosen t o (chosen (stands_at a b longer p) p (find_names more a b))) (stands_still a b m f ps o other)
+      ∙ ap (λ (t : Bool). chosen (stands_at a b ps o) o (chosen t p (find_names more a b))) (stands_still a b m f ps p other)
+      ∙ ap (λ (r : Option ℕ). chosen (stands_at a b ps o) o (chosen (stands_at a b ps p) p r))
+      (put a b ∙ cond-false (is_pair a b (m, f)) (Some (length ps)) (find_names others a b) other)
       ∙ h.0 a b ∙ sym (index_same a b m f ps other)
 
   finds_by_map : Finds slots more longer
@@ -252,27 +320,57 @@ module _ (slots : List ℕ) (others more : Others) (ps : List Pair) (m f : List 
       (found_other a b) (cases_Bool (is_pair a b (m, f)))
 
   behind_by_map : IsBehind slots more longer
-  behind_by_map a b (x, was, gone) =
-      let before : IsFree slots ps (slot_for a b (length slots)) = (x, was, none_before ps (m, f) x gone) in
+  behind_by_map a b has =
+      let shrunk : (k : ℕ) → IsFree slots longer k → IsFree slots ps k = (λ k g. (g.0, g.1, none_before ps (m, f) g.0 g.2)) in
+      let asked = slot_for a b (length slots) in
+      let before : HasFree slots ps a b = ⊎_elim (λ y. inl (shrunk asked y)) (λ y. inr (shrunk (beside asked) y)) has in
       ⊎_elim
       (λ y. let n = names_are a b m f y in
-      absurd (full (subst (λ (c : List ℕ). IsFree slots ps (slot_for c f (length slots))) n.0 (subst (λ (d : List ℕ). IsFree slots ps (slot_for a d (length slots))) n.1 before))))
+      absurd (full (subst (λ (c : List ℕ). HasFree slots ps c f) n.0 (subst (λ (d : List ℕ). HasFree slots ps a d) n.1 before))))
       (λ z. put a b ∙ cond-false (is_pair a b (m, f)) (Some (length ps)) (find_names others a b) z ∙ h.1 a b before)
       (cases_Bool (is_pair a b (m, f)))
 
   settled_by_map : (index_of m f ps ≡ None) × Holds slots more longer
   settled_by_map = (nowhere, (finds_by_map, behind_by_map))
 
--- what is done where the slot has another pair
+-- what is done if the slots have other pairs
 pub settled : (slots : List ℕ) (others next : Others) (ps : List Pair) (m f : List ℕ) (r : Sought) → HasMet slots ps m f met.Other → HasSought m f (length ps) others next r
     → Holds slots others ps → HasSettled m f ps slots next r
 settled slots others next ps m f sought.New t s h = settled_by_map slots others next ps m f h t.0 t.1 s.0 s.1
 settled slots others next ps m f (sought.At i) t s h =
     (by_map slots others ps m f h t.0 ∙ s.0, subst (λ (o : Others). Holds slots o ps) (sym s.1) h)
 settled slots others next ps m f sought.NoMemory t s h = (
-  λ a b. ap (chosen (stands_at a b ps (in_slot slots a b)) (in_slot slots a b)) (s a b) ∙ h.0 a b,
-  λ a b free. s a b ∙ h.1 a b free,
+  λ a b. ap (λ (r : Option ℕ). chosen (stands_at a b ps (in_first slots a b)) (in_first slots a b) (chosen (stands_at a b ps (in_other slots a b)) (in_other slots a b) r)) (s a b)
+      ∙ h.0 a b,
+  λ a b has. s a b ∙ h.1 a b has,
 )
+
+-- ---- both slots of a pair
+
+module _ (slots : List ℕ) (ps : List Pair) (m f : List ℕ) where
+  abbrev first : ℕ
+  first = slot_for m f (length slots)
+
+  free_nowhere : (k p i : ℕ) → HasMetAt slots ps m f k (met.Free p i) → stands_at m f ps (slice_get slots k) ≡ false
+  free_nowhere k p i t = free_for_all m f ps (slice_get slots k) t.2.0 t.2.1 t.2.2
+
+  pub met_first : (p i : ℕ) → HasMetAt slots ps m f first (met.Free p i) → stands_at m f ps (in_other slots m f) ≡ false → HasMet slots ps m f (met.Free p i)
+  met_first p i t e = (inl t.0, t.1, subst (IsFree slots ps) (sym t.0) t.2, (free_nowhere first p i t, e))
+
+  pub free_beside : (p i : ℕ) → HasMetAt slots ps m f (beside first) (met.Free p i) → stands_at m f ps (in_other slots m f) ≡ false
+  free_beside p i t = free_nowhere (beside first) p i t
+
+  pub met_same : (i : ℕ) → HasMetAt slots ps m f first (met.Same i) → HasMet slots ps m f (met.Same i)
+  met_same i t = inl (t.1, t.0)
+
+  pub met_beside : (p i j : ℕ) → HasMetAt slots ps m f first (met.Free p i) → HasMetAt slots ps m f (beside first) (met.Same j) → HasMet slots ps m f (met.Same j)
+  met_beside p i j s t = inr (free_nowhere first p i s, t.1, t.0)
+
+  -- the first has another pair: what is in the other decides
+  pub met_other : (t : Met) → HasMetAt slots ps m f first met.Other → HasMetAt slots ps m f (beside first) t → HasMet slots ps m f t
+  met_other (met.Free p i) s t = (inr t.0, t.1, subst (IsFree slots ps) (sym t.0) t.2, (s.0, free_nowhere (beside first) p i t))
+  met_other (met.Same i) s t = inr (s.0, t.1, t.0)
+  met_other met.Other s t = ((s.0, t.0), λ has. ⊎_elim s.1 t.1 has)
 
 -- ---- a pair more in the map
 
@@ -331,31 +429,31 @@ stands_nowhere a b (Some i) = refl
 pub holds_nothing : (slots : List ℕ) (others : Others) → others.entries ≡ [] → Holds slots others []
 holds_nothing slots others e =
     let none : (a b : List ℕ) → find_names others a b ≡ None = (λ a b. ap (λ (es : List (Key × ℕ)). lookup (is_at (compare_names a b)) es) e) in (
-      λ a b. chosen_second (stands_at a b [] (in_slot slots a b)) (in_slot slots a b) (find_names others a b) (stands_nowhere a b (in_slot slots a b)) ∙ none a b,
+      λ a b. nowhere_found slots others [] a b (stands_nowhere a b (in_first slots a b), stands_nowhere a b (in_other slots a b)) ∙ none a b,
       λ a b free. none a b,
     )
 
 -- ---- what an index in a slot leads to
 
-module _ (slots : List ℕ) (ms : List (String Global)) (t : List ℕ) (ks : List KeptNames) (m f : List ℕ) (v q x : ℕ) (k : KeptNames) (number : v ≡ number_of m f)
-    (at : q ≡ slot_of v (length slots)) (inside : q < length slots) (was : x ≡ get_or slots q x) (beyond : x < length ks) (there : k ≡ get_or ks x k) where
+module _ (slots : List ℕ) (ms : List (String Global)) (t : List ℕ) (ks : List KeptNames) (m f : List ℕ) (q x : ℕ) (k : KeptNames)
+    (inside : q < length slots) (was : x ≡ get_or slots q x) (beyond : x < length ks) (there : k ≡ get_or ks x k) where
   abbrev all : List Pair
   all = pairs_of (all_named ms t ks)
 
-  leads : in_slot slots m f ≡ Some x
-  leads = ap (λ (w : ℕ). slice_get slots (slot_of w (length slots))) (sym number) ∙ ap (slice_get slots) (sym at) ∙ read slots q x inside was
+  leads : slice_get slots q ≡ Some x
+  leads = read slots q x inside was
 
   stands_here : slice_get all x ≡ Some (module_at ms k.«module», name_at t k.name)
   stands_here = pair_at ms t ks x ∙ ap (option_map (λ (j : KeptNames). (module_at ms j.«module», name_at t j.name))) (read ks x k beyond there)
 
-  pub leads_to : (b : Bool) → b ≡ is_pair m f (module_at ms k.«module», name_at t k.name) → (in_slot slots m f ≡ Some x) × (stands_at m f all (Some x) ≡ b)
-  leads_to b same = (leads, ap (is_there m f) stands_here ∙ sym same)
+  pub leads_to : (b : Bool) → b ≡ is_pair m f (module_at ms k.«module», name_at t k.name) → (slice_get slots q ≡ Some x) × (stands_at m f all (slice_get slots q) ≡ b)
+  leads_to b same = (leads, ap (stands_at m f all) leads ∙ ap (is_there m f) stands_here ∙ sym same)
 
-  pub not_led : false ≡ is_pair m f (module_at ms k.«module», name_at t k.name) → stands_at m f all (in_slot slots m f) ≡ false
+  pub not_led : false ≡ is_pair m f (module_at ms k.«module», name_at t k.name) → stands_at m f all (slice_get slots q) ≡ false
   not_led same = ap (stands_at m f all) leads ∙ ap (is_there m f) stands_here ∙ sym same
 
   -- where a pair stands its slot is not free
-  pub not_free : IsFree slots all (slot_for m f (length slots)) → ⊥
+  pub not_free : IsFree slots all q → ⊥
   not_free (y, is, free) =
       let same : x ≡ y = ap (λ (o : Option ℕ). unwrap_or o x) (sym leads ∙ is) in
       let some : slice_get all y ≡ Some (module_at ms k.«module», name_at t k.name)

@@ -15,7 +15,7 @@ use Rattle.wasm_module_validator_exports.specs.declared.names.pairs.Met.{Met}
 use Rattle.wasm_module_validator_exports.specs.declared.names.pairs.Met.TheVariants as met
 use Rattle.wasm_module_validator_exports.specs.declared.names.pairs.Sought.{Sought}
 use Rattle.wasm_module_validator_exports.specs.declared.names.pairs.Sought.TheVariants as sought
-use Rattle.wasm_module_validator_exports.specs.names.Exports.{slot_of}
+use Rattle.wasm_module_validator_exports.specs.names.Exports.{beside, slot_of}
 use Rattle.wasm_module_validator_exports.specs.names.Kept.{IsNamed, name_at}
 
 -- the bytes of the name of a module and of the name of what is imported from it, and what is imported by these names
@@ -107,12 +107,20 @@ index_of m f (p ∷ ps) = if is_pair m f p then Some 0 else option_map suc (inde
 abbrev pub number_of : List ℕ → List ℕ → ℕ
 number_of m f = (write (write initial m) f).state
 
--- the slot of a pair, among so many, and what is in it: an index, where there are slots
+-- the first of a pair's two slots, among so many; the other is beside it
 abbrev pub slot_for : List ℕ → List ℕ → ℕ → ℕ
 slot_for m f slots = slot_of (number_of m f) slots
 
-abbrev pub in_slot : List ℕ → List ℕ → List ℕ → Option ℕ
-in_slot slots m f = slice_get slots (slot_for m f (length slots))
+-- a slot is one of a pair's
+abbrev pub IsSlotOf : List ℕ → List ℕ → List ℕ → ℕ → Type 0
+IsSlotOf slots m f q = (q ≡ slot_for m f (length slots)) ⊎ (q ≡ beside (slot_for m f (length slots)))
+
+-- what is in both: an index, where there are slots
+abbrev pub in_first : List ℕ → List ℕ → List ℕ → Option ℕ
+in_first slots m f = slice_get slots (slot_for m f (length slots))
+
+abbrev pub in_other : List ℕ → List ℕ → List ℕ → Option ℕ
+in_other slots m f = slice_get slots (beside (slot_for m f (length slots)))
 
 -- whether what stands at an index is this pair
 abbrev pub is_there : List ℕ → List ℕ → Option Pair → Bool
@@ -128,12 +136,28 @@ stands_at m f ps (Some i) = is_there m f (slice_get ps i)
 abbrev pub IsFree : List ℕ → List Pair → ℕ → Type 0
 IsFree slots ps q = (x : ℕ) × (slice_get slots q ≡ Some x) × (slice_get ps x ≡ None)
 
--- what was found in the slot of a pair: nothing, so the index behind all pairs may go there; the pair itself, which stands at this index; or
--- not the pair, and the slot is not free
+-- one of a pair's slots is free
+abbrev pub HasFree : List ℕ → List Pair → List ℕ → List ℕ → Type 0
+HasFree slots ps m f = IsFree slots ps (slot_for m f (length slots)) ⊎ IsFree slots ps (beside (slot_for m f (length slots)))
+
+-- it stands at the index of neither
+abbrev pub StandsNowhere : List ℕ → List Pair → List ℕ → List ℕ → Type 0
+StandsNowhere slots ps m f = (stands_at m f ps (in_first slots m f) ≡ false) × (stands_at m f ps (in_other slots m f) ≡ false)
+
+-- what was found in a slot: nothing, so the index after all pairs may go there; the pair itself, which stands at this index; or not the pair,
+-- and the slot is not free
+abbrev pub HasMetAt : List ℕ → List Pair → List ℕ → List ℕ → ℕ → Met → Type 0
+HasMetAt slots ps m f q (met.Free p i) = (p ≡ q) × (i ≡ length ps) × IsFree slots ps q
+HasMetAt slots ps m f q (met.Same i) = (slice_get slots q ≡ Some i) × (stands_at m f ps (slice_get slots q) ≡ true)
+HasMetAt slots ps m f q met.Other = (stands_at m f ps (slice_get slots q) ≡ false) × (IsFree slots ps q → ⊥)
+
+-- what was found in the slots of a pair: not the pair, and nothing in one of them; the pair itself in the first of them that has it; or not
+-- the pair, and none is free
 abbrev pub HasMet : List ℕ → List Pair → List ℕ → List ℕ → Met → Type 0
-HasMet slots ps m f (met.Free q i) = (q ≡ slot_for m f (length slots)) × (i ≡ length ps) × IsFree slots ps q
-HasMet slots ps m f (met.Same i) = (in_slot slots m f ≡ Some i) × (stands_at m f ps (Some i) ≡ true)
-HasMet slots ps m f met.Other = (stands_at m f ps (in_slot slots m f) ≡ false) × (IsFree slots ps (slot_for m f (length slots)) → ⊥)
+HasMet slots ps m f (met.Free q i) = IsSlotOf slots m f q × (i ≡ length ps) × IsFree slots ps q × StandsNowhere slots ps m f
+HasMet slots ps m f (met.Same i) = ((stands_at m f ps (in_first slots m f) ≡ true) × (in_first slots m f ≡ Some i))
+    ⊎ ((stands_at m f ps (in_first slots m f) ≡ false) × (stands_at m f ps (in_other slots m f) ≡ true) × (in_other slots m f ≡ Some i))
+HasMet slots ps m f met.Other = StandsNowhere slots ps m f × (HasFree slots ps m f → ⊥)
 
 -- the order of pairs of names
 abbrev pub compare_names : List ℕ → List ℕ → String Global × String Global → Ordering
@@ -149,17 +173,19 @@ HasSought m f n old new sought.New = (find_names old m f ≡ None)
 HasSought m f n old new (sought.At i) = (find_names old m f ≡ Some i) × (new ≡ old)
 HasSought m f n old new sought.NoMemory = (a b : List ℕ) → find_names new a b ≡ find_names old a b
 
--- where a pair is found: at the index in its slot, if it stands there; else where the map has it
+-- where a pair is found: at the index in one of its slots, if it stands there; else where the map has it
 abbrev pub found : List ℕ → BTreeMap (String Global × String Global) ℕ → List Pair → List ℕ → List ℕ → Option ℕ
-found slots others ps m f = if stands_at m f ps (in_slot slots m f) then in_slot slots m f else find_names others m f
+found slots others ps m f =
+    if stands_at m f ps (in_first slots m f) then in_first slots m f
+    else (if stands_at m f ps (in_other slots m f) then in_other slots m f else find_names others m f)
 
 -- exactly these pairs are found, where they stand
 abbrev pub Finds : List ℕ → BTreeMap (String Global × String Global) ℕ → List Pair → Type 0
 Finds slots others ps = (m f : List ℕ) → found slots others ps m f ≡ index_of m f ps
 
--- the map has no pair whose slot is free
+-- the map has no pair that has a free slot
 abbrev pub IsBehind : List ℕ → BTreeMap (String Global × String Global) ℕ → List Pair → Type 0
-IsBehind slots others ps = (m f : List ℕ) → IsFree slots ps (slot_for m f (length slots)) → find_names others m f ≡ None
+IsBehind slots others ps = (m f : List ℕ) → HasFree slots ps m f → find_names others m f ≡ None
 
 abbrev pub Holds : List ℕ → BTreeMap (String Global × String Global) ℕ → List Pair → Type 0
 Holds slots others ps = Finds slots others ps × IsBehind slots others ps

@@ -58,9 +58,9 @@ pub struct Imports {
     modules: Vec<String>,
     names: Vec<u8>,
     pairs: Vec<KeptNames>,
-    // The index of a pair, in the slot of the number of its names; a slot without one has an index where no pair stands.
+    // The index of a pair, in one of the two slots of the number of its names; a slot without one has an index where no pair stands.
     slots: Vec<u32>,
-    // The pairs whose slot another has.
+    // The pairs whose slots others have.
     others: Others,
 }
 

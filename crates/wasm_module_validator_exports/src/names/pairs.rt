@@ -1,11 +1,12 @@
 //! Pairs of names found by numbers that are computed from their bytes.
 //!
-//! Each slot has the index of a pair of names; it is free where none stands at this index. A pair has one slot, that of its number. Where
-//! another has it already, the pair goes into a map, which finds it by its order: so pairs whose numbers meet are found no slower than by
-//! their order, whoever chooses the names.
+//! Each slot has the index of a pair of names; it is free if none stands at this index. A pair has two slots, as a name in the module
+//! `slots` has. If others have both already, the pair goes into a map, which finds it by its order: so pairs whose numbers meet are found
+//! no slower than by their order, whoever chooses the names. Of each pair in the map neither slot is free.
 
-ghost use Rattle.std.specs.Prelude.{◌≡◌, IfSome, length};
-ghost use Rattle.wasm_module_validator_exports.specs.names.Imports.{AreKept, HasMet, HasSettled, HasSought, Holds, all_named, is_pair, module_at, number_of, pairs_of};
+ghost use Rattle.std.specs.Prelude.{◌≡◌, ℕ, List, IfSome, length};
+ghost use Rattle.wasm_module_validator_exports.specs.names.Exports.{beside};
+ghost use Rattle.wasm_module_validator_exports.specs.names.Imports.{AreKept, HasMet, HasMetAt, HasSettled, HasSought, Holds, Pair, all_named, is_pair, module_at, number_of, pairs_of, slot_for};
 ghost use Rattle.wasm_module_validator_exports.specs.names.Kept.{IsNamed, name_at};
 
 use crate::names::imports::{KeptNames, module_of};
@@ -15,10 +16,11 @@ use std::alloc::Global;
 use std::collections::BTreeMap;
 use std::hash::{FoldHasher, Hasher};
 
-// The pairs whose slot another has, and where they stand.
+// The pairs whose slots others have, and where they stand.
 pub(crate) type Others = BTreeMap<(String, String), usize>;
 
-// What is in a pair's slot: nothing, so an index may go there; the pair itself, which stands at an index; or another.
+// What is in a pair's slots: in one nothing, so an index may go there; in one the pair itself, which stands at an index; or others in both.
+#[derive(Clone, Copy)]
 pub(crate) enum Met {
     Free(usize, u32),
     Same(usize),
@@ -51,20 +53,20 @@ fn has_names(modules: &[String], names: &[u8], kept: &KeptNames, module: &str, n
     module == module_of(modules, kept) && name == name_of(names, kept.name)
 }
 
-// What is in a pair's slot.
-fn meet(
+// What is in a slot, for a pair.
+fn meet_at(
     slots: &[u32],
     modules: &[String],
     names: &[u8],
     pairs: &[KeptNames],
     module: &str,
     name: &str,
+    at: usize,
 ) -> Met
     requires { AreKept modules.now names.now pairs.now }
-    ensures { HasMet slots.now (pairs_of (all_named modules.now names.now pairs.now)) «module».now name.now
+    ensures { HasMetAt slots.now (pairs_of (all_named modules.now names.now pairs.now)) «module».now name.now at
         result }
 {
-    let at = slot(number(module, name), slots.len());
     let Some(index) = slots.get(at) else {
         return Met::Other;
     };
@@ -81,7 +83,43 @@ fn meet(
     Met::Other
 }
 
-// Where a pair of those stands whose slot another has; where it is new it comes to them, at this index.
+// What is in both slots of a pair.
+fn both(first: Met, second: Met) -> Met
+    ensures { (slots : List ℕ) (ps : List Pair) (m f : List ℕ)
+        → HasMetAt slots ps m f (slot_for m f (length slots)) first
+        → HasMetAt slots ps m f (beside (slot_for m f (length slots))) second → HasMet slots ps m f result }
+{
+    match first {
+        Met::Free(at, index) => match second {
+            Met::Free(_, _) => Met::Free(at, index),
+            Met::Same(at) => Met::Same(at),
+            Met::Other => Met::Free(at, index),
+        },
+        Met::Same(at) => Met::Same(at),
+        Met::Other => second,
+    }
+}
+
+// What is in a pair's slots.
+fn meet(
+    slots: &[u32],
+    modules: &[String],
+    names: &[u8],
+    pairs: &[KeptNames],
+    module: &str,
+    name: &str,
+) -> Met
+    requires { AreKept modules.now names.now pairs.now }
+    ensures { HasMet slots.now (pairs_of (all_named modules.now names.now pairs.now)) «module».now name.now
+        result }
+{
+    let at = slot(number(module, name), slots.len());
+    let first = meet_at(slots, modules, names, pairs, module, name, at);
+    let second = meet_at(slots, modules, names, pairs, module, name, at ^ 1);
+    both(first, second)
+}
+
+// Where a pair of those stands whose slots others have; where it is new it comes to them, at this index.
 #[cold]
 #[inline(never)]
 fn seek(alloc: Global, others: &mut Others, module: &str, name: &str, index: usize) -> Sought

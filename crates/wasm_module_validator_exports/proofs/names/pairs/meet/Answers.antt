@@ -1,22 +1,14 @@
-use Rattle.std.proofs.Common.{rules, true}
-use Rattle.wasm_module_validator_exports.proofs.Finding.{leads_to, not_free, not_led}
-use Rattle.wasm_module_validator_exports.proofs.Keeping.{kept_at, read}
+use Rattle.std.proofs.Common.{◌≡◌, ◌∙◌, ℕ, ap, length, subst}
+use Rattle.wasm_module_validator_exports.specs.names.Exports.{beside, slot_of}
+use Rattle.wasm_module_validator_exports.specs.names.Imports.{HasMetAt, all_named, pairs_of, slot_for}
 use Rattle.wasm_module_validator_exports.proofs.names.pairs.meet.Goals as goal
 
-pub has_names-requires : goal.has_names-requires
-has_names-requires c =
-    kept_at c.args.modules.now c.args.names.now c.args.pairs.now c.in-Some.index.now c.in-Some-get.kept.now c.requires
-    (read c.args.pairs.now c.in-Some.index.now c.in-Some-get.kept.now (search rules) (search rules))
-
-pub returns-then-has_names : goal.returns-then-has_names
-returns-then-has_names c =
-    leads_to c.args.slots.now c.args.modules.now c.args.names.now c.args.pairs.now c.args.module.now c.args.name.now c.number.result c.slot-at.result c.in-Some.index.now
-    c.in-Some-get.kept.now c.number.ensures c.slot-at.ensures (search rules) (search rules) (search rules) (search rules) true (search rules)
-
 pub returns : goal.returns
-returns c = (
-  not_led c.args.slots.now c.args.modules.now c.args.names.now c.args.pairs.now c.args.module.now c.args.name.now c.number.result c.slot-at.result c.in-Some.index.now
-      c.in-Some-get.kept.now c.number.ensures c.slot-at.ensures (search rules) (search rules) (search rules) (search rules) (search rules),
-  not_free c.args.slots.now c.args.modules.now c.args.names.now c.args.pairs.now c.args.module.now c.args.name.now c.number.result c.slot-at.result c.in-Some.index.now
-      c.in-Some-get.kept.now c.number.ensures c.slot-at.ensures (search rules) (search rules) (search rules) (search rules),
-)
+returns c =
+    let slots = c.args.slots.now in
+    let ps = pairs_of (all_named c.args.modules.now c.args.names.now c.args.pairs.now) in
+    let m = c.args.module.now in
+    let f = c.args.name.now in
+    let at : c.slot-at.result ≡ slot_for m f (length slots) = c.slot-at.ensures ∙ ap (λ (v : ℕ). slot_of v (length slots)) c.number.ensures in
+    c.both.ensures slots ps m f (subst (λ (q : ℕ). HasMetAt slots ps m f q c.meet_at-first.result) at c.meet_at-first.ensures)
+    (subst (λ (q : ℕ). HasMetAt slots ps m f (beside q) c.meet_at-second.result) at c.meet_at-second.ensures)

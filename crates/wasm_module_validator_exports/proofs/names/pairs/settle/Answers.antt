@@ -18,7 +18,7 @@ returns-in-Free c =
     let ps = pairs_of (all_named c.args.modules.now c.args.names.now c.args.pairs.now) in
     let h : HasMet c.args.slots.now.items ps c.args.module.now c.args.name.now (met.Free c.in-Free.at c.in-Free.index) =
     subst (λ (s : List ℕ). HasMet s ps c.args.module.now c.args.name.now (met.Free c.in-Free.at c.in-Free.index)) c.as_slice.ensures.value c.in-Free.ensures in
-    settled_by_slot c.args.slots.now.items c.put.new.slots.items c.args.others.now ps c.args.module.now c.args.name.now c.in-Free.at c.in-Free.index h.0 h.1 h.2 c.put.ensures
+    settled_by_slot c.args.slots.now.items c.put.new.slots.items c.args.others.now ps c.args.module.now c.args.name.now c.in-Free.at c.in-Free.index h.0 h.1 h.2 h.3 c.put.ensures
     c.requires.holds
 
 pub returns-in-Same : goal.returns-in-Same
@@ -26,7 +26,7 @@ returns-in-Same c =
     let ps = pairs_of (all_named c.args.modules.now c.args.names.now c.args.pairs.now) in
     let h : HasMet c.args.slots.now.items ps c.args.module.now c.args.name.now (met.Same c.in-Same.at) =
     subst (λ (s : List ℕ). HasMet s ps c.args.module.now c.args.name.now (met.Same c.in-Same.at)) c.as_slice.ensures.value c.in-Same.ensures in
-    (there_by_slot c.args.slots.now.items c.args.others.now ps c.args.module.now c.args.name.now c.requires.holds c.in-Same.at h.0 h.1, c.requires.holds)
+    (there_by_slot c.args.slots.now.items c.args.others.now ps c.args.module.now c.args.name.now c.requires.holds c.in-Same.at h, c.requires.holds)
 
 pub returns : goal.returns
 returns c =
