@@ -106,7 +106,7 @@ fn with_forms<'a>(alloc: Global, command: Command<'a>) -> Result<Command<'a>, Al
     let explain = flag_argument(
         alloc,
         "explain",
-        "Say below each refusal where the fault is; not with --pieces",
+        "Say below each refusal where the fault is; with --pieces, only what helps",
     );
     let command = command.arg(vectors)?.arg(json)?.arg(explain)?;
     Ok(command)
