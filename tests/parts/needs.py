@@ -44,7 +44,7 @@ def run(program):
             "global.wasm: needs mvp,mutable-global", "--", "0"])
         it.want("needs, as JSON", ["--needs", "--json", "vector.wasm", "bad.wasm"], [
             '{"file":"vector.wasm","valid":true,"needs":"mvp,simd"}',
-            f'{{"file":"bad.wasm","valid":false,"offset":24,"kind":"other","message":"{BAD}"}}', "--", "1"])
+            f'{{"file":"bad.wasm","valid":false,"offset":24,"kind":"types","message":"{BAD}"}}', "--", "1"])
         it.want("needs, quiet", ["--needs", "--quiet", "vector.wasm"], ["--", "0"])
         it.want("needs, explained", ["--needs", "--explain", "vector.wasm"], ["vector.wasm: needs mvp,simd", "--", "0"])
         it.want("needs under a limit", ["--needs", "--limits=locals=1", "locals.wasm"], [
