@@ -10,7 +10,7 @@ use crate::indices::index_at;
 use wasm_operator_validator_fast_tables::{Opens, Stack, Tables, frame_at, inner_results};
 
 // Of a frame that gives more than so many, operators that lead away are passed over if they follow on one that did: so its results are put on
-// once for all of them, and an operator of one byte does not take the time of a thousand.
+// once for all of them, and an operator of one byte does not take the time of a thousand, if no other lies between.
 const FEW: usize = 8;
 
 /// Behind an operator that led away the innermost frame has the operands that it gives. The offset of what is judged next.

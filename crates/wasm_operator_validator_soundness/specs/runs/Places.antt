@@ -196,7 +196,7 @@ abbrev pub DerivationsAreGiven : Type 0
 DerivationsAreGiven = (p : Program) → IsValidProgram p → (D : ℕ → Option Place) × IsValidBy (places D) p
 
 -- In each state of a run of a program whose bodies have these derivations, each label is at a place of one: what its values fit is
--- what that derivation says there. The place of a label is after the block of the label within it, and the outermost is at a place of the
+-- what that derivation says there. The place of a label is after the block of the label within it, and the outermost is at a place of a
 -- derivation of the activation's whole code.
 abbrev pub StaysAtPlaces : Type 0
 StaysAtPlaces = (D : ℕ → Option Place) (p : Program) (s : State) (results : List ValueType) → IsValidBy (places D) p

@@ -28,7 +28,7 @@ use Rattle.wasm_operator_validator_soundness.specs.runs.Soundness.{step, Runs, I
 
 -- ---- which operators may trap (execution, instructions)
 
--- calls, as far as the host or a table has it so, and what finds null
+-- `unreachable`, calls, as far as the host or a table has it so, and what finds null
 abbrev pub control_can_trap : ControlOperator → Bool
 control_can_trap control.Unreachable = true
 control_can_trap (control.Call x) = true
@@ -107,6 +107,7 @@ abbrev pub atomic_can_trap : AtomicOperator → Bool
 atomic_can_trap atomic.AtomicFence = false
 atomic_can_trap o = true
 
+-- of operators that are standard
 abbrev pub can_trap : Op → Bool
 can_trap (op.Control o) = control_can_trap o
 can_trap (op.Exception o) = exception_can_trap o
@@ -129,7 +130,7 @@ next_can_trap (act ∷ acts) = code_can_trap act.innermost.code
 
 -- ---- the theorem
 
--- Something is an answer. If the run traps under it, the operator is one that may trap.
+-- Something is an answer. If the run traps under it, the operator is one that may trap. That the step is not stuck is the law of steps.
 abbrev pub HasAnswer : Program → State → Type 0
 HasAnswer p s = (a : Answer) × (step p s a).is_answer × ((step p s a).outcome ≡ trapped → IsTrue (next_can_trap s))
 

@@ -97,10 +97,11 @@ pub record Move : Type 1 where
 abbrev pub done : Outcome → Move
 done o = record { needs = Unit {0}; is_answer = Unit {0}; outcome = o }
 
--- no rule applies; no answer is one
+-- no rule applies
 abbrev pub stop : Move
 stop = done stuck
 
+-- no answer is one
 abbrev pub refused : Move
 refused = record { needs = Unit {0}; is_answer = ⊥; outcome = stuck }
 

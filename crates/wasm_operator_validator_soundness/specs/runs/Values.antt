@@ -115,7 +115,7 @@ IsStandardValue (ref_function i t) = IsStandardType t × IsFunction (expanded t)
 IsStandardValue (ref_object k t) = IsStandardType t × IsObject (expanded t)
 IsStandardValue v = Unit {0}
 
--- Some value, of whatever program, is of the type: of each type but references without null to the bottom of a hierarchy.
+-- Some value, of whatever program, is of the type: of each standard type, except references without null to the bottom of a hierarchy.
 abbrev pub HasValue : ValueType → Type 0
 HasValue t = (v : Value) × IsStandardValue v × Below (least_type v) t
 
