@@ -158,16 +158,16 @@ module _ (t : Tables) (text : List ℕ) (i e : ℕ) (o : Open) (outer : List Ope
   Here ids c = inside_all ids c t.known.flat.items (o ∷ outer)
 
   -- whatever it does to the operands of the innermost frame
-  pub took_by : (p : Op) (a b u : List ℕ) → Stands t.features.0 text i e p → role_of p ≡ Plain → ((set : Initialised) → Full t set → Full t (after p set))
+  pub took_by : (p : Op) (a b u : List ℕ) → Stands t.features.0 text i e p → role_of p ≡ Plain → ((set : Initialised) → Full t o.set set → Full t o.set (after p set))
       → v ≡ (a, u) → w ≡ (b, u)
-      → ((ids : List TypeTree) (z : Settings) (c : Context) → Fits ids z text t c → (set : Initialised) → Full t set → Steps (Here ids c) set p (operands ids a) (operands ids b))
+      → ((ids : List TypeTree) (z : Settings) (c : Context) → Fits ids z text t c → (set : Initialised) → Full t o.set set → Steps (Here ids c) set p (operands ids a) (operands ids b))
       → Leads text t i (o ∷ outer) v e (o ∷ outer) w
   took_by p a b u stands is keeps before behind steps ids z c fits =
       step ids z text t c i e (o ∷ outer) (o ∷ outer) v w fits p stands (rw (before, behind) (plain_more ids t c o outer a b u p is keeps (steps ids z c fits)))
 
-  pub took : (p : Op) (ts us r u : List ℕ) → Stands t.features.0 text i e p → role_of p ≡ Plain → ((set : Initialised) → Full t set → Full t (after p set))
+  pub took : (p : Op) (ts us r u : List ℕ) → Stands t.features.0 text i e p → role_of p ≡ Plain → ((set : Initialised) → Full t o.set set → Full t o.set (after p set))
       → v ≡ (reverse ts ++ r, u) → w ≡ (reverse us ++ r, u)
-      → ((ids : List TypeTree) (z : Settings) (c : Context) → Fits ids z text t c → (set : Initialised) → Full t set → Row (Here ids c) set p (all_known (types ids ts)) (all_known (types ids us)))
+      → ((ids : List TypeTree) (z : Settings) (c : Context) → Fits ids z text t c → (set : Initialised) → Full t o.set set → Row (Here ids c) set p (all_known (types ids ts)) (all_known (types ids us)))
       → Leads text t i (o ∷ outer) v e (o ∷ outer) w
   took p ts us r u stands is keeps before behind row =
       took_by p (reverse ts ++ r) (reverse us ++ r) u stands is keeps before behind
@@ -502,9 +502,9 @@ module _ (t : Tables) (text : List ℕ) (i e : ℕ) (o : Open) (outer : List Ope
   pub popped_all : (ls r : List ℕ) (ids : List TypeTree) → operands ids (reverse ls ++ r) ≡ reverse (reverse (operands ids r) ++ all_known (types ids ls)) ++ []
   popped_all ls r ids = on_stack ids ls r ∙ (let h : stack (types ids ls) ++ operands ids r ≡ reverse (reverse (operands ids r) ++ all_known (types ids ls)) ++ [] = grind (arith, common_steps) in h)
 
-  pub took_away : (p : Op) (a rs u : List ℕ) → Stands t.features.0 text i e p → role_of p ≡ Plain → ((set : Initialised) → Full t set → Full t (after p set))
+  pub took_away : (p : Op) (a rs u : List ℕ) → Stands t.features.0 text i e p → role_of p ≡ Plain → ((set : Initialised) → Full t o.set set → Full t o.set (after p set))
       → v ≡ (a, u) → w ≡ with_all rs ([], u) → (popped : List TypeTree → List Operand) → ((ids : List TypeTree) → operands ids a ≡ reverse (popped ids) ++ [])
-      → ((ids : List TypeTree) (z : Settings) (c : Context) → Fits ids z text t c → (set : Initialised) → Full t set → Row (Here ids c) set p (popped ids) (all_known (types ids rs)))
+      → ((ids : List TypeTree) (z : Settings) (c : Context) → Fits ids z text t c → (set : Initialised) → Full t o.set set → Row (Here ids c) set p (popped ids) (all_known (types ids rs)))
       → Leads text t i (o ∷ outer) v e (o ∷ outer) w
   took_away p a rs u stands is keeps before behind popped all row =
       took_by p a (reverse rs ++ []) u stands is keeps before behind
