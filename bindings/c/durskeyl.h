@@ -14,7 +14,7 @@
  * is proved to answer of whole bytes, or DURSKEYL_TOO_LONG, as durskeyl_take does. Between calls no more bytes are held than the cap says. All
  * calls end on all bytes, read only what they are given, and write only the fault, the rows or the handle. Except for the four calls on a handle
  * no call depends on an earlier one, keeps anything, or leaves anything to free.
- * NOT PROVED: which of several faults is told, its kind, offset and text; time, memory and stack; that the system refused, if the answer is
+ * NOT PROVED: which of several faults is told, its kind, offset, text and limit; time, memory and stack; that the system refused, if the answer is
  *   DURSKEYL_OUT_OF_MEMORY; this header; the kit's functions of memory; the C library. The file PROVED, which is installed beside LICENSE, says whether the archive was built by the
  *   toolchain from what it proved; if it was not, durskeyl_version has the bit DURSKEYL_NOT_PROVED.
  *
@@ -164,8 +164,10 @@ typedef struct {
     uint32_t text_length;         /* at most 256 */
     uint64_t offset;              /* in the bytes */
     uint64_t detail;              /* see the kinds; else 0 */
-    char text[264];               /* for people, in UTF-8, with a 0 after it; no stable wording. It may hold a name of the module, with
+    char text[260];               /* for people, in UTF-8, with a 0 after it; no stable wording. It may hold a name of the module, with
                                    * any characters: escape it before it is printed to a terminal or a log */
+    uint32_t limit;               /* if a limit refused the bytes, 1 more than its place in settings.limits (enum durskeyl_limit); else 0. In
+                                   * pieces a limit of one table or one memory is not told. A library of 0.2.0 writes 0 */
 } durskeyl_fault;
 
 /* A module whose pieces are handed over: what the library keeps of it, between durskeyl_begin and durskeyl_end or durskeyl_drop. */

@@ -58,6 +58,15 @@ type Error struct {
 	Detail uint64 // see the kinds; else 0
 	// Message is what is wrong, for people, in no stable wording. It may hold a name of the module, with any characters (see Shown).
 	Message string
+	limit   uint32
+}
+
+// Limit is the limit that refused the bytes, if one did. In pieces a limit of one table or one memory is not told.
+func (err *Error) Limit() (limit Limit, isKnown bool) {
+	if 1 <= err.limit && err.limit <= uint32(LimitTypeSize)+1 {
+		return Limit(err.limit - 1), true
+	}
+	return 0, false
 }
 
 // IsVerdict says whether the bytes were found invalid. If not, nothing is known of them.
@@ -122,7 +131,7 @@ func errorOf(kind C.uint32_t, fault *C.durskeyl_fault) error {
 	if kind == C.DURSKEYL_VALID {
 		return nil
 	}
-	err := &Error{Kind: Kind(kind), Offset: uint64(fault.offset), Detail: uint64(fault.detail)}
+	err := &Error{Kind: Kind(kind), Offset: uint64(fault.offset), Detail: uint64(fault.detail), limit: uint32(fault.limit)}
 	if err.IsVerdict() {
 		err.Message = C.GoStringN(&fault.text[0], C.int(fault.text_length))
 	}

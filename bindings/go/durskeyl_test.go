@@ -79,6 +79,10 @@ func TestSettings(t *testing.T) {
 	settings.Limits[LimitLocals] = 10
 	want(t, "ten locals", settings.Validate(withLocals(10)), nil)
 	want(t, "eleven locals", kind(settings.Validate(withLocals(11))), Invalid)
+	limit, isKnown := settings.Validate(withLocals(11)).(*Error).Limit()
+	want(t, "the limit", limit == LimitLocals && isKnown, true)
+	_, isKnown = Validate(nil).(*Error).Limit()
+	want(t, "no limit", isKnown, false)
 	want(t, "eleven locals by default", Validate(withLocals(11)), nil)
 	settings = DefaultSettings()
 	settings.Features = Wasm2.Features()

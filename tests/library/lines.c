@@ -242,7 +242,11 @@ static void calls(void) {
     other.limits[DURSKEYL_LOCALS] = 10;
     want("ten locals", durskeyl_validate(&other, locals, sizeof locals, &fault), DURSKEYL_VALID);
     locals[23] = 11;
+    want("no limit refused", fault.limit, 0);
     want("eleven locals", durskeyl_validate(&other, locals, sizeof locals, &fault), DURSKEYL_INVALID);
+    want("the limit of locals refused", fault.limit, DURSKEYL_LOCALS + 1);
+    want("eleven locals in pieces", by_pieces(&other, locals, sizeof locals, 3, 1 << 20, &fault), DURSKEYL_INVALID);
+    want("the limit of locals refused in pieces", fault.limit, DURSKEYL_LOCALS + 1);
     want("eleven locals by default", durskeyl_validate(&settings, locals, sizeof locals, &fault), DURSKEYL_VALID);
     // the same body is judged by part 0 alone, and sections by each part
     other.limits[DURSKEYL_LOCALS] = 10;
@@ -259,9 +263,14 @@ static void calls(void) {
     other = settings;
     other.features = durskeyl_features(DURSKEYL_WASM2);
     want("two memories in 2.0", durskeyl_validate(&other, memories, sizeof memories, &fault) != DURSKEYL_VALID, 1);
+    want("no limit refused two memories", fault.limit, 0);
+    other.limits[DURSKEYL_MEMORIES] = 1;
+    want("two memories of one", durskeyl_validate(&other, memories, sizeof memories, &fault) != DURSKEYL_VALID, 1);
+    want("the limit of memories refused", fault.limit, DURSKEYL_MEMORIES + 1);
     // a body with v128.const, drop
     uint8_t vectors[48] = {0, 'a', 's', 'm', 1, 0, 0, 0, 1, 4, 1, 0x60, 0, 0, 3, 2, 1, 0, 0x0a, 23, 1, 21, 0, 0xfd, 12, [41] = 0x1a, 0x0b};
     want("vectors", durskeyl_validate(&settings, vectors, 43, &fault), DURSKEYL_INVALID);
+    want("no limit refused vectors", fault.limit, 0);
     other = settings;
     other.features |= DURSKEYL_VECTORS;
     want("vectors, judged", durskeyl_validate(&other, vectors, 43, &fault), DURSKEYL_VALID);

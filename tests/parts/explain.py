@@ -7,46 +7,112 @@ from refused import BAD, THROW, VECTORS, room
 # The last line about a refusal in a body.
 RULES, SPELLING = "rules: WebAssembly 3.0, validation, instructions", "rules: WebAssembly 3.0, binary format, instructions"
 
-
+# The members of a function that takes and gives nothing; of `i32.add`; and of an empty stack.
+PLAIN = {"section": "code", "function": 0, "params": [], "results": []}
+ADD = {"takes": ["i32", "i32"], "takes_count": 2, "gives": ["i32"], "gives_count": 1}
+EMPTY = {"frame": "function", "unreachable": False, "stack": [], "stack_height": 0, "stack_below": 0}
+# What is wrong in each of these modules, the lines below it, and the members of the object.
 EXPLAINED = [
     ("mixed.wasm", [], "0x3e: type mismatch: expected i32, found f64", [
         "in the code section, function 2 `mix`", "of type (param i32 i64) (result f32)", "operator 8 of the body, i32.add at 0x3e",
-        "it takes 2 operands, top first: i32 i32; gives 1", "on the stack of the block, top first: f64 i32 i64; below the block: 3 more", RULES]),
+        "it takes 2 operands, top first: i32 i32; gives 1", "on the stack of the block, top first: f64 i32 i64; below the block: 3 more", RULES],
+        {"section": "code", "function": 2, "name": "mix", "params": ["i32", "i64"], "results": ["f32"],
+        "operator": "i32.add", "operator_number": 8, "operator_offset": 0x3e, **ADD,
+        "frame": "block", "unreachable": False, "stack": ["f64", "i32", "i64"], "stack_height": 3, "stack_below": 3}),
     ("dead.wasm", [], "0x1b: type mismatch: expected i32, found i64", [
         "in the code section, function 0", "of type (func)", "operator 3 of the body, i32.add at 0x1b",
-        "it takes 2 operands, top first: i32 i32; gives 1", "on the stack of the function (unreachable), top first: i64 unknown", RULES]),
+        "it takes 2 operands, top first: i32 i32; gives 1", "on the stack of the function (unreachable), top first: i64 unknown", RULES],
+        {**PLAIN, "operator": "i32.add", "operator_number": 3, "operator_offset": 0x1b, **ADD,
+        "frame": "function", "unreachable": True, "stack": ["i64", "unknown"], "stack_height": 2, "stack_below": 0}),
     ("local.wasm", [], "0x17: unknown local 5: local index out of bounds", [
         "in the code section, function 0", "of type (func)", "operator 0 of the body, local.get at 0x17",
-        "it takes 0 operands; gives 1", "on the stack of the function, top first: nothing", RULES]),
+        "it takes 0 operands; gives 1", "on the stack of the function, top first: nothing", RULES],
+        {**PLAIN, "operator": "local.get", "operator_number": 0, "operator_offset": 0x17,
+        "takes": [], "takes_count": 0, "gives_count": 1, **EMPTY}),
     ("table.wasm", [], "0x2d: type mismatch: br_table target labels have different number of types", [
         "in the code section, function 0", "of type (func)", "operator 11 of the body, br_table at 0x2d",
-        "it takes 2 operands, top first: i32 i32; gives 0", "on the stack of the block, top first:" + " i32" * 8 + " ..", RULES]),
+        "it takes 2 operands, top first: i32 i32; gives 0", "on the stack of the block, top first:" + " i32" * 8 + " ..", RULES],
+        {**PLAIN, "operator": "br_table", "operator_number": 11, "operator_offset": 0x2d,
+        "takes": ["i32", "i32"], "takes_count": 2, "gives": [], "gives_count": 0,
+        "frame": "block", "unreachable": False, "stack": [*["i32"] * 8, ".."], "stack_height": 9, "stack_below": 0}),
     ("null.wasm", [], "0x1e: type mismatch: expected i32, found (ref null $type)", [
         "in the code section, function 0", "of type (param (ref null 0))", "operator 1 of the body, i32.eqz at 0x1e",
-        "it takes 1 operand, top first: i32; gives 1", "on the stack of the function, top first: (ref null 0)", RULES]),
+        "it takes 1 operand, top first: i32; gives 1", "on the stack of the function, top first: (ref null 0)", RULES],
+        {"section": "code", "function": 0, "params": ["(ref null 0)"], "results": [],
+        "operator": "i32.eqz", "operator_number": 1, "operator_offset": 0x1e, "takes": ["i32"], "takes_count": 1, "gives": ["i32"], "gives_count": 1,
+        "frame": "function", "unreachable": False, "stack": ["(ref null 0)"], "stack_height": 1, "stack_below": 0}),
     ("opcode.wasm", [], "0x18: illegal opcode: 0xff", [
-        "in the code section, function 0", "of type (func)", "operator 1 of the body, at 0x18, is misspelt or out of place", SPELLING]),
+        "in the code section, function 0", "of type (func)", "operator 1 of the body, at 0x18, is misspelt or out of place", SPELLING],
+        {**PLAIN, "operator_number": 1, "operator_offset": 0x18}),
     ("open.wasm", [], "0x1a: control frames remain at end of function body or expression", [
-        "in the code section, function 0", "of type (func)", "the body ends within the function", SPELLING]),
+        "in the code section, function 0", "of type (func)", "the body ends within the function", SPELLING],
+        {**PLAIN, "body": "not ended", "frame": "function"}),
     ("late.wasm", [], "0x18: operators remaining after end of function body or expression", [
-        "in the code section, function 0", "of type (func)", "operator 1 of the body, at 0x18, is misspelt or out of place", SPELLING]),
+        "in the code section, function 0", "of type (func)", "operator 1 of the body, at 0x18, is misspelt or out of place", SPELLING],
+        {**PLAIN, "operator_number": 1, "operator_offset": 0x18}),
     ("less.wasm", [], "0x19: sections have inconsistent lengths", [
-        "after the code section", "rules: WebAssembly 3.0, binary format, modules"]),
+        "after the code section", "rules: WebAssembly 3.0, binary format, modules"],
+        {"after": "code"}),
     ("more.wasm", [], "0x19: code section entry exceeds number of functions", [
-        "in the code section, function 1", "rules: WebAssembly 3.0, binary format, modules, code section"]),
+        "in the code section, function 1", "rules: WebAssembly 3.0, binary format, modules, code section"],
+        {"section": "code", "function": 1}),
     ("short.wasm", [], "0x19: unexpected end of the code section", [
-        "in the code section (0x15 to 0x19)", "rules: WebAssembly 3.0, binary format, modules, code section"]),
+        "in the code section (0x15 to 0x19)", "rules: WebAssembly 3.0, binary format, modules, code section"],
+        {"section": "code", "section_offset": 0x15, "section_end": 0x19}),
     ("kind.wasm", [], "0x10: invalid value type", [
-        "in the type section (0xa to 0x12), item 1 of 2, counted from 0", "rules: WebAssembly 3.0, binary format, modules, type section"]),
+        "in the type section (0xa to 0x12), item 1 of 2, counted from 0", "rules: WebAssembly 3.0, binary format, modules, type section"],
+        {"section": "type", "section_offset": 0xa, "section_end": 0x12, "item": 1, "items": 2}),
     ("long.wasm", [], f"0x123: {BAD}", [
         "in the code section, function 0 `" + "x" * 254 + "`..", "of type (func)", "operator 0 of the body, i32.add at 0x123",
-        "it takes 2 operands, top first: i32 i32; gives 1", "on the stack of the function, top first: nothing", RULES]),
+        "it takes 2 operands, top first: i32 i32; gives 1", "on the stack of the function, top first: nothing", RULES],
+        {**PLAIN, "name": "x" * 254 + "\u20ac" * 2, "operator": "i32.add", "operator_number": 0, "operator_offset": 0x123, **ADD, **EMPTY}),
     ("indirect.wasm", [], "0x1f: unknown table 0: table index out of bounds", [
         "in the code section, function 0", "of type (func)", "operator 2 of the body, call_indirect at 0x1f",
-        "it takes 2 operands; gives 0", "on the stack of the function, top first: i32 i32", RULES]),
+        "it takes 2 operands; gives 0", "on the stack of the function, top first: i32 i32", RULES],
+        {**PLAIN, "operator": "call_indirect", "operator_number": 2, "operator_offset": 0x1f,
+        "takes_count": 2, "gives": [], "gives_count": 0,
+        "frame": "function", "unreachable": False, "stack": ["i32", "i32"], "stack_height": 2, "stack_below": 0}),
     ("locals.wasm", ["--limits=locals=1"], "0x17: too many locals: locals exceed maximum", [
         "--limits locals=N sets this limit", "in the code section, function 0", "of type (func)", "its locals are misspelt or too many",
-        "rules: WebAssembly 3.0, appendix, implementation limitations"]),
+        "rules: WebAssembly 3.0, appendix, implementation limitations"],
+        {**PLAIN, "body": "locals unread"}),
+    ("mixed.wasm", ["--limits=locals=1"], "0x0: too many locals: locals exceed maximum", [
+        "--limits locals=N sets this limit", "in the code section, function 2 `mix`", "of type (param i32 i64) (result f32)",
+        "its parameters are more than it may have locals", "rules: WebAssembly 3.0, appendix, implementation limitations"],
+        {"section": "code", "function": 2, "name": "mix", "params": ["i32", "i64"], "results": ["f32"], "body": "params refused"}),
+    ("fill.wasm", [], "0x22: type mismatch: expected i32, found i64", [
+        "in the code section, function 0", "of type (func)", "operator 3 of the body, memory.fill at 0x22",
+        "it takes 3 operands, top first: i32 i32 i32; gives 0", "on the stack of the function, top first: i32 i64 i32", RULES],
+        {**PLAIN, "operator": "memory.fill", "operator_number": 3, "operator_offset": 0x22,
+        "takes": ["i32", "i32", "i32"], "takes_count": 3, "gives": [], "gives_count": 0,
+        "frame": "function", "unreachable": False, "stack": ["i32", "i64", "i32"], "stack_height": 3, "stack_below": 0}),
+    ("refs.wasm", [], "0x24: type mismatch: expected (ref null $type), found (ref null $type)", [
+        "in the code section, function 0", "of type (param (ref null 0)) (result (ref null 1))", "operator 1 of the body, end at 0x24",
+        "it takes 1 operand, top first: (ref null 1); gives 1", "on the stack of the function, top first: (ref null 0)", RULES],
+        {"section": "code", "function": 0, "params": ["(ref null 0)"], "results": ["(ref null 1)"],
+        "operator": "end", "operator_number": 1, "operator_offset": 0x24,
+        "takes": ["(ref null 1)"], "takes_count": 1, "gives": ["(ref null 1)"], "gives_count": 1,
+        "frame": "function", "unreachable": False, "stack": ["(ref null 0)"], "stack_height": 1, "stack_below": 0}),
+    ("field.wasm", [], "0x21: type mismatch: expected i32, found i64", [
+        "in the code section, function 0", "of type (param (ref null 0))", "operator 2 of the body, struct.set at 0x21",
+        "it takes 2 operands, top first: i32 (ref null 0); gives 0", "on the stack of the function, top first: i64 (ref null 0)", RULES],
+        {"section": "code", "function": 0, "params": ["(ref null 0)"], "results": [],
+        "operator": "struct.set", "operator_number": 2, "operator_offset": 0x21,
+        "takes": ["i32", "(ref null 0)"], "takes_count": 2, "gives": [], "gives_count": 0,
+        "frame": "function", "unreachable": False, "stack": ["i64", "(ref null 0)"], "stack_height": 2, "stack_below": 0}),
+    ("callref.wasm", [], "0x21: type mismatch: expected i64, found i32", [
+        "in the code section, function 0", "of type (param (ref null 0))", "operator 2 of the body, call_ref at 0x21",
+        "it takes 2 operands, top first: (ref null 0) i64; gives 0", "on the stack of the function, top first: (ref null 0) i32", RULES],
+        {"section": "code", "function": 0, "params": ["(ref null 0)"], "results": [],
+        "operator": "call_ref", "operator_number": 2, "operator_offset": 0x21,
+        "takes": ["(ref null 0)", "i64"], "takes_count": 2, "gives": [], "gives_count": 0,
+        "frame": "function", "unreachable": False, "stack": ["(ref null 0)", "i32"], "stack_height": 2, "stack_below": 0}),
+    ("store.wasm", [], "0x20: type mismatch: expected i64, found i32", [
+        "in the code section, function 0", "of type (func)", "operator 2 of the body, i64.store at 0x20",
+        "it takes 2 operands, top first: i64 i32; gives 0", "on the stack of the function, top first: i32 i32", RULES],
+        {**PLAIN, "operator": "i64.store", "operator_number": 2, "operator_offset": 0x20,
+        "takes": ["i64", "i32"], "takes_count": 2, "gives": [], "gives_count": 0,
+        "frame": "function", "unreachable": False, "stack": ["i32", "i32"], "stack_height": 2, "stack_below": 0}),
 ]
 
 
@@ -59,12 +125,12 @@ def run(program):
 
 def explain_each(it):
     """The rows of EXPLAINED, as lines and as JSON."""
-    for name, words, fault, notes in EXPLAINED:
+    for name, words, fault, notes, _ in EXPLAINED:
         it.want(f"{name} explained", ["--explain", *words, name], [f"{name}: invalid at {fault}", *[f"  {line}" for line in notes], "--", "1"])
-    for name, words, _, notes in EXPLAINED:
+    for name, words, _, notes, members in EXPLAINED:
         told = json.loads(it.answered(["--json", "--explain", *words, name])[0])["explanation"]
-        lines = [line for line in notes if not line.startswith("--")]
-        it.differ += compare(f"{name} explained in JSON", [*told["lines"], f"rules: {told['rules']}"], lines)
+        wanted = {"rules": notes[-1].removeprefix("rules: "), **members}
+        it.differ += compare(f"{name} explained in JSON", *[[f"{key}: {value}" for key, value in sorted(one.items())] for one in (told, wanted)])
 
 
 def explain_more(it):

@@ -41,7 +41,7 @@ def tell_json(it):
     """Lines as JSON; a name is read back as it was."""
     it.want("JSON", ["--json", "good.wasm", "bad.wasm"], [
         '{"file":"good.wasm","valid":true}',
-        f'{{"file":"bad.wasm","valid":false,"offset":24,"kind":"other","message":"{BAD}"}}', "--", "1"])
+        f'{{"file":"bad.wasm","valid":false,"offset":24,"kind":"types","message":"{BAD}"}}', "--", "1"])
     it.want("JSON, a name", ["--json", 'q"\\.wasm', "a\n"], ['{"file":"q\\"\\\\.wasm","valid":true}', '{"file":"a\\u000a","valid":true}', "--", "0"])
     names = ['q"\\.wasm', "a\n", "a\\u{a}"]
     read = [json.loads(line)["file"] for line in it.answered(["--json", *names])[:3]]

@@ -1,4 +1,4 @@
-"""Each limit is named by the refusal of a module that is past it."""
+"""Each limit is named by the refusal of a module that is past it, and the chapter on limits by its explanation."""
 import json
 import os
 import tempfile
@@ -33,6 +33,7 @@ def run(program):
                 with open(path, "wb") as it:
                     it.write(bytes.fromhex(module))
             differ += compare(f"by default, {limit}", answered(program, ["--quiet", path]), ["--", "0"])
-            told_of = json.loads(answered(program, ["--json", f"--limits={limit}={number}", path])[0])
+            told_of = json.loads(answered(program, ["--json", "--explain", f"--limits={limit}={number}", path])[0])
             differ += compare(f"the limit {limit}", [str(told_of.get(it)) for it in ("kind", "limit", "hint")], ["limit", limit, f"--limits {limit}=N sets this limit"])
+            differ += compare(f"the chapter of {limit}", [told_of["explanation"]["rules"]], ["WebAssembly 3.0, appendix, implementation limitations"])
     return differ

@@ -14,6 +14,9 @@ from common import answered, compare
 # `i64.const`, and at 0x1b `i32.add`. local: `local.get 5` at 0x17. table: `block (result i32)`, `block`, nine `i32.const`, and at 0x2d `br_table 0 1`. null:
 # `i32.eqz` at 0x1e of a parameter (ref null 0). opcode: 0xff at 0x18, after a `nop`. open: a body whose one `end` is that of a block. locals: two i32.
 # late: an `end` at 0x18, after that of the body. less, more: a body less than functions, one more. short: a body less than the code section says.
+# refs: a parameter (ref null 0) where a result (ref null 1) is wanted, by the `end` at 0x24. field: an i64 for a field i32 of struct 0, by the `struct.set` at 0x21.
+# callref: an i32 for a parameter i64 of function type 0, by the `call_ref` at 0x21. store: an i32 for the value of `i64.store` at 0x20.
+# fill: an i64 for the value of `memory.fill` at 0x22.
 # kind: a parameter of type 0x55 at 0x10. long: an export's name of 254 bytes and two characters of three bytes. indirect: `call_indirect`, no table.
 MODULES = {
     "good.wasm": "0061736d01000000",
@@ -44,6 +47,11 @@ MODULES = {
     "kind.wasm": "0061736d010000000108026000006001550003020100",
     "long.wasm": "0061736d010000000104016000000302010007890201" + "8402" + "78" * 254 + "e282ac" * 2 + "0000" + "0a05010300" + "6a0b",
     "indirect.wasm": "0061736d0100000001080260017f00600000030201010a0b0109004100410011" + "00000b",
+    "refs.wasm": "0061736d01000000010f03" + "600000" + "60017f00" + "6001630001" + "6301" + "03020102" + "0a0601040020000b",
+    "field.wasm": "0061736d01000000010a02" + "5f017f01" + "6001630000" + "03020101" + "0a0c010a0020004200fb0500000b",
+    "callref.wasm": "0061736d01000000010a02" + "60017e00" + "6001630000" + "03020101" + "0a0a010800410020001400" + "0b",
+    "store.wasm": "0061736d01000000" + "010401600000" + "03020100" + "0503010001" + "0a0b010900410041003703000b",
+    "fill.wasm": "0061736d01000000" + "010401600000" + "03020100" + "0503010001" + "0a0d010b00410042004100fc0b000b",
 }
 BAD = "type mismatch: expected i32 but nothing on stack"
 VECTORS = "unexpected SIMD opcode: 0xfd"

@@ -127,8 +127,8 @@ Chosen = Union[Features, int, str, None]
 class InvalidModule(Exception):
     """The bytes are no valid module."""
 
-    def __init__(self, kind: Kind, offset: int, message: str, detail: int = 0) -> None:
-        super().__init__(kind, offset, message, detail)
+    def __init__(self, kind: Kind, offset: int, message: str, detail: int = 0, limit: Optional[str] = None) -> None:
+        super().__init__(kind, offset, message, detail, limit)
         self.kind = kind
         #: where the fault was found, in the bytes
         self.offset = offset
@@ -136,6 +136,8 @@ class InvalidModule(Exception):
         self.message = message
         #: at END_OF_DATA how many bytes more would be asked for at least, at MISSING_FEATURE the bits of a feature that would help; else 0
         self.detail = detail
+        #: the name in LIMITS of the limit that refused the bytes, if one did; in pieces a limit of one table or one memory is not told
+        self.limit = limit
 
     def __str__(self) -> str:
         return f"invalid at {self.offset:#x}: {shown(self.message)}"
@@ -150,7 +152,8 @@ class _Settings(ctypes.Structure):
 
 
 class _Fault(ctypes.Structure):
-    _fields_ = [("kind", ctypes.c_uint32), ("text_length", ctypes.c_uint32), ("offset", ctypes.c_uint64), ("detail", ctypes.c_uint64), ("text", ctypes.c_char * 264)]
+    _fields_ = [("kind", ctypes.c_uint32), ("text_length", ctypes.c_uint32), ("offset", ctypes.c_uint64), ("detail", ctypes.c_uint64)]
+    _fields_ += [("text", ctypes.c_char * 260), ("limit", ctypes.c_uint32)]
 
 
 class _Pieces(ctypes.Structure):
@@ -282,7 +285,8 @@ def _answer(kind: int, fault: _Fault) -> Optional[InvalidModule]:
     if kind not in (1, 2, 5):
         raise RuntimeError(f"no verdict: durskeyl answers the unknown kind {kind}")
     text = ctypes.string_at(ctypes.addressof(fault) + _Fault.text.offset, fault.text_length)
-    return InvalidModule(Kind(kind), fault.offset, text.decode("utf-8", "replace"), fault.detail)
+    limit = LIMITS[fault.limit - 1] if 1 <= fault.limit <= len(LIMITS) else None
+    return InvalidModule(Kind(kind), fault.offset, text.decode("utf-8", "replace"), fault.detail, limit)
 
 
 def _judge_part(settings: _Settings, data: bytes, part: int, parts: int) -> Optional[InvalidModule]:

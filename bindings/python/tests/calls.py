@@ -37,6 +37,7 @@ class Calls(unittest.TestCase):
         with self.assertRaises(InvalidModule) as caught:
             durskeyl.validate(HEADER[:7])
         self.assertEqual(caught.exception.kind, Kind.END_OF_DATA)
+        self.assertIsNone(fault.limit)
         self.assertNotIsInstance(fault, (ValueError, MemoryError))
 
     def test_buffers(self):
@@ -97,7 +98,7 @@ class Calls(unittest.TestCase):
             self.assertTrue(durskeyl.is_valid(with_locals(10), limits={"locals": 10}, threads=threads))
             with self.assertRaises(InvalidModule) as caught:
                 durskeyl.validate(with_locals(11), limits={"locals": 10}, threads=threads)
-            self.assertEqual(caught.exception.kind, Kind.INVALID)
+            self.assertEqual((caught.exception.kind, caught.exception.limit), (Kind.INVALID, "locals"))
             with self.assertRaises(ValueError):
                 durskeyl.validate(HEADER, limits={"locals": 1000001}, threads=threads)
         for wrong in 0, -1, 1025:

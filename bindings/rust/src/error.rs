@@ -1,6 +1,6 @@
 //! Why there is no valid module.
 
-use crate::settings::Features;
+use crate::settings::{Features, Limit};
 use crate::sys;
 use std::{fmt, io};
 
@@ -29,6 +29,7 @@ pub enum ErrorKind {
 pub struct Error {
     kind: ErrorKind,
     offset: u64,
+    limit: Option<Limit>,
     message: Box<str>,
 }
 
@@ -45,7 +46,8 @@ impl Error {
         };
         let text = fault.text.get(..fault.text_length as usize).unwrap_or_default();
         let message = if Error::tells(kind) { String::from_utf8_lossy(text).into() } else { "".into() };
-        Error { kind, offset: fault.offset, message }
+        let limit = fault.limit.checked_sub(1).and_then(Limit::at);
+        Error { kind, offset: fault.offset, limit, message }
     }
 
     fn tells(kind: ErrorKind) -> bool {
@@ -60,6 +62,11 @@ impl Error {
     /// Where it was found, in the bytes.
     pub fn offset(&self) -> u64 {
         self.offset
+    }
+
+    /// The limit that refused the bytes, if one did. In pieces a limit of one table or one memory is not told.
+    pub fn limit(&self) -> Option<Limit> {
+        self.limit
     }
 
     /// What is wrong, for people, in no stable wording. It may hold a name of the module, with any characters: `Display` escapes those

@@ -272,6 +272,37 @@ pub enum Limit {
     TypeSize,
 }
 
+impl Limit {
+    const ALL: [Limit; 21] = [
+        Limit::Types,
+        Limit::Params,
+        Limit::Results,
+        Limit::Fields,
+        Limit::StringBytes,
+        Limit::Imports,
+        Limit::Exports,
+        Limit::Functions,
+        Limit::Globals,
+        Limit::Tags,
+        Limit::Tables,
+        Limit::Memories,
+        Limit::ElementSegments,
+        Limit::DataSegments,
+        Limit::SegmentItems,
+        Limit::BodyBytes,
+        Limit::SelectTypes,
+        Limit::Locals,
+        Limit::Catches,
+        Limit::SubtypingDepth,
+        Limit::TypeSize,
+    ];
+
+    // The limit at this place of the settings, if this crate knows it.
+    pub(crate) fn at(place: u32) -> Option<Limit> {
+        Limit::ALL.get(place as usize).copied()
+    }
+}
+
 /// Features and limits. By default those of the library: WebAssembly 3.0 with threads, and the component model's.
 #[derive(Clone, Debug)]
 pub struct Settings(pub(crate) sys::Settings);

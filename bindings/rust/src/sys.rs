@@ -20,13 +20,14 @@ pub struct Fault {
     pub text_length: u32,
     pub offset: u64,
     pub detail: u64,
-    pub text: [u8; 264],
+    pub text: [u8; 260],
+    pub limit: u32,
 }
 
 impl Fault {
     /// One that says nothing, for a call to write into.
     pub(crate) fn none() -> Fault {
-        Fault { kind: 0, text_length: 0, offset: 0, detail: 0, text: [0; 264] }
+        Fault { kind: 0, text_length: 0, offset: 0, detail: 0, text: [0; 260], limit: 0 }
     }
 }
 

@@ -62,6 +62,8 @@ fn settings() {
     let ten = Settings::new().with_limit(Limit::Locals, 10);
     assert_eq!(kind(&with_locals(10), &ten), None);
     assert_eq!(kind(&with_locals(11), &ten), Some(ErrorKind::Invalid));
+    assert_eq!(ten.validate(&with_locals(11)).unwrap_err().limit(), Some(Limit::Locals));
+    assert_eq!(validate(b"").unwrap_err().limit(), None);
     assert_eq!(kind(&with_locals(11), &Settings::new()), None);
     assert_eq!(ten.limit(Limit::Locals), 10);
     assert_eq!(kind(MEMORIES, &Settings::new()), None);

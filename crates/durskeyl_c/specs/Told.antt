@@ -1,7 +1,10 @@
 -- What the number that a call answers tells C.
-use Rattle.std.specs.Prelude.{◌≡◌, ◌<◌, ◌≤◌, ℕ, List, slice_index_or}
+use Rattle.std.specs.Prelude.{◌≡◌, ◌<◌, ◌≤◌, ◌+◌, ℕ, List, slice_index_or}
 use Rattle.wasm_types.specs.decoding.declared.error.ErrorKind.{ErrorKind}
 use Rattle.wasm_types.specs.decoding.declared.error.ErrorKind.TheVariants.{EndOfData, MissingFeature, OutOfMemory, Failed, Other}
+use Rattle.wasm_check_lines.specs.declared.causes.Cause.{Cause}
+use Rattle.wasm_check_lines.specs.declared.causes.Cause.TheVariants.{Vectors, Limit, Feature, FixedLimit, Types, Another}
+use Rattle.wasm_check_lines.specs.Limits.{place_of}
 use Rattle.wasm_module_validator_import_export_places.specs.rules.Accepts.{AcceptsUnder}
 use Rattle.wasm_module_validator.specs.Parts.{AcceptsPart}
 use Rattle.wasm_module_validator_streaming.specs.declared.handing.PieceError.{PieceError}
@@ -45,6 +48,15 @@ detail_of (MissingFeature f) = f.0
 detail_of OutOfMemory = 0
 detail_of Failed = 0
 detail_of Other = 0
+
+-- what is told of the limit that refused: 1 more than its place among the limits, or 0 if none did
+abbrev pub limit_of : Cause → ℕ
+limit_of (Limit limit) = place_of limit + 1
+limit_of Vectors = 0
+limit_of (Feature features) = 0
+limit_of FixedLimit = 0
+limit_of Types = 0
+limit_of Another = 0
 
 -- the text has at most 256 bytes, and a 0 after them
 pub record IsEnded (f : DurskeylFault) : Type 0 where

@@ -1,13 +1,15 @@
 //! Why bytes were refused, as C sees it.
 
 ghost use Rattle.std.specs.Prelude.{◌≡◌, ◌≤◌, length, slice_index_or};
-ghost use Rattle.durskeyl_c.specs.Told.{detail_of, number_of, IsEnded};
+ghost use Rattle.wasm_check_lines.specs.Causes.{cause_of};
+ghost use Rattle.durskeyl_c.specs.Told.{detail_of, limit_of, number_of, IsEnded};
 
 use bitflags::Flags;
-use wasm_types::{Error, ErrorKind};
+use wasm_check_lines::{Cause, cause_of};
+use wasm_types::{Error, ErrorKind, Limits};
 
 /// How many bytes the text has room for, its closing 0 included: a message has 256 at most.
-const ROOM: usize = 264;
+const ROOM: usize = 260;
 
 /// Why bytes were refused.
 #[repr(C)]
@@ -23,6 +25,8 @@ pub struct DurskeylFault {
     pub detail: u64,
     /// What is wrong, for people: UTF-8, with a 0 after it.
     pub text: [u8; ROOM],
+    /// If a limit refused the bytes, 1 more than its place in the limits, else 0.
+    pub limit: u32,
 }
 
 /// The number of an error's kind, and what it carries.
@@ -40,10 +44,25 @@ fn number(kind: ErrorKind) -> (u32, u64)
     }
 }
 
+/// What is told of the limit that refused, if one did.
+fn limit_number(cause: Cause) -> u32
+    ensures { result ≡ limit_of cause }
+{
+    match cause {
+        Cause::Limit(limit) => limit.place() + 1,
+        Cause::Vectors => 0,
+        Cause::Feature(_) => 0,
+        Cause::FixedLimit => 0,
+        Cause::Types => 0,
+        Cause::Another => 0,
+    }
+}
+
 /// The fault of bytes that are valid: none.
 pub(crate) fn no_fault() -> DurskeylFault
     ensures kind { result.kind ≡ 0 }
     ensures detail { result.detail ≡ 0 }
+    ensures limit { result.limit ≡ 0 }
     ensures text { IsEnded result }
 {
     DurskeylFault {
@@ -52,6 +71,7 @@ pub(crate) fn no_fault() -> DurskeylFault
         offset: 0,
         detail: 0,
         text: [0; ROOM],
+        limit: 0,
     }
 }
 
@@ -70,15 +90,17 @@ pub(crate) fn too_long(fault: &mut DurskeylFault)
     ensures kind { fault.new.kind ≡ 7 }
     ensures text { IsEnded fault.new }
 {
-    write_error(&Error::new("an item is longer than may be held", 0), fault);
+    let error = Error::new("an item is longer than may be held", 0);
+    write_error(&Limits::default(), &error, fault);
     fault.kind = 7;
 }
 
-/// Writes an error as a fault.
-pub(crate) fn write_error(error: &Error, fault: &mut DurskeylFault)
+/// Writes an error as a fault, which came under these limits.
+pub(crate) fn write_error(limits: &Limits, error: &Error, fault: &mut DurskeylFault)
     ensures kind { fault.new.kind ≡ number_of error.now.kind }
     ensures detail { fault.new.detail ≡ detail_of error.now.kind }
     ensures offset { fault.new.offset ≡ error.now.offset }
+    ensures limit { fault.new.limit ≡ limit_of (cause_of limits.now error.now) }
     ensures text { IsEnded fault.new }
 {
     *fault = no_fault();
@@ -91,4 +113,5 @@ pub(crate) fn write_error(error: &Error, fault: &mut DurskeylFault)
     fault.text_length = count as u32;
     fault.offset = error.offset();
     fault.detail = detail;
+    fault.limit = limit_number(cause_of(limits, error));
 }

@@ -50,7 +50,7 @@ pub extern "C" fn durskeyl_validate_part(
             0
         }
         Err(error) => {
-            write_error(&error, fault);
+            write_error(&limits, &error, fault);
             fault.kind
         }
     }

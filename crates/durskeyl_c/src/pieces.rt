@@ -49,7 +49,8 @@ fn write_piece_error(error: &PieceError, fault: &mut DurskeylFault) -> u32
 {
     match error {
         PieceError::Refused(error) => {
-            write_error(error, fault);
+            // of one table or memory the limit is not told: which limits hold is inside
+            write_error(&Limits::default(), error, fault);
             fault.kind
         }
         PieceError::TooLong => {
@@ -132,7 +133,7 @@ fn begin(
             0
         }
         Err(_error) => {
-            write_error(&Error::out_of_memory(0), fault);
+            write_error(&limits, &Error::out_of_memory(0), fault);
             fault.kind
         }
     }

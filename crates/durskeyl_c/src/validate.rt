@@ -75,7 +75,7 @@ pub extern "C" fn durskeyl_validate(
             0
         }
         Err(error) => {
-            write_error(&error, fault);
+            write_error(&limits, &error, fault);
             fault.kind
         }
     }

@@ -1,1 +1,2 @@
--- This crate has no definitions of its own: its one call promises that it ends.
+-- Rules: what is promised of the place of a fault.
+pub mod Places

@@ -1,21 +1,25 @@
 //! What a validator knows of a function before the operator at fault.
+ghost use Rattle.std.specs.Prelude.{◌≡◌, IfOk, IfSome, None};
 ghost use Rattle.wasm_types.specs.settings.Limits.{IsWithinCeilings};
+ghost use Rattle.wasm_check_explanation.specs.Places.{BeginsBy};
 
-use crate::texts::{function_text, innermost_name, stack_text, types_text};
-use crate::wanted::wanted_types;
+use crate::judged::{Judged, payloads};
+use crate::operands::operands_of;
+use crate::place::{Note, OpenFrame, OperatorAt, Signature};
+use crate::stack::{innermost_name, open_frame};
+use crate::types::signature_of;
 use std::alloc::{AllocError, Global};
 use wasm_module_validator::{
     FuncToValidate, FuncValidator, FuncValidatorAllocations, TypesRef, ValidPayload, Validator,
     ValidatorId, ValidatorResources,
 };
-use wasm_operator_validator::OperatorArity;
 use wasm_operator_validator_state::blocks::function_at;
 use wasm_operators_reader::{Operator, OperatorsReader};
-use wasm_sections::{FunctionBody, Parser, Payload};
-use wasm_types::{Limits, ValType, WasmFeatures};
+use wasm_sections::{FunctionBody, Payload};
+use wasm_types::Limits;
 
 /// What was found of a fault in a body.
-#[derive(Clone, Copy, Debug, PartialEq, Eq)]
+#[derive(Clone, Copy, PartialEq, Eq)]
 pub(crate) enum Found {
     /// Neither the body nor an operator in it.
     Nothing,
@@ -25,181 +29,143 @@ pub(crate) enum Found {
     Spelling,
 }
 
-/// Where a walk over payloads is after one of them.
-#[derive(Clone, Copy, Debug, PartialEq, Eq)]
-enum Step {
-    /// The fault comes later.
-    Goes,
-    /// The walk ends here, with what was found.
-    Ends(Found),
+/// What is known of a fault within a body.
+#[derive(Drop)]
+pub(crate) struct Inside {
+    pub(crate) found: Found,
+    pub(crate) operator: Option<OperatorAt>,
+    pub(crate) frame: Option<OpenFrame>,
+    pub(crate) note: Option<Note>,
 }
 
-/// Adds the type of the function, if the module has it.
-fn type_note(
-    alloc: Global,
-    types: &TypesRef<'_>,
-    resources: &ValidatorResources,
-    type_index: u32,
-    notes: &mut Vec<String>,
-) -> Result<(), AllocError> {
-    let Some(function) = function_at(resources, type_index) else {
-        return Ok(());
-    };
-    let text = function_text(alloc, types, function)?;
-    let text = format!(in alloc; "of type {text}")?;
-    notes.push(text)?;
-    Ok(())
-}
-
-/// How many operands an operator takes and gives here, and of which types it takes them, if they are told.
-fn counts_text(
-    alloc: Global,
-    types: &TypesRef<'_>,
-    wanted: Option<Vec<ValType>>,
-    takes: u32,
-    gives: u32,
-) -> Result<String, AllocError> {
-    let noun = if takes == 1 { "operand" } else { "operands" };
-    let Some(wanted) = wanted else {
-        return format!(in alloc; "it takes {takes} {noun}; gives {gives}");
-    };
-    if takes == 0 || wanted.len() != takes as usize {
-        return format!(in alloc; "it takes {takes} {noun}; gives {gives}");
+impl Inside {
+    /// This was found, and no more is known.
+    pub(crate) fn of(found: Found) -> Inside
+        ensures { result.operator ≡ None }
+    {
+        Inside {
+            found,
+            operator: None,
+            frame: None,
+            note: None,
+        }
     }
-    let text = types_text(alloc, types, wanted.as_slice())?;
-    format!(in alloc; "it takes {takes} {noun}, top first:{text}; gives {gives}")
+
+    /// This was found, with a note.
+    fn noted(found: Found, note: Note) -> Inside
+        ensures { result.operator ≡ None }
+    {
+        let mut inside = Inside::of(found);
+        inside.note = Some(note);
+        inside
+    }
+
+    /// An operator, and the frame in which it is.
+    fn at(found: Found, operator: OperatorAt, frame: Option<OpenFrame>) -> Inside
+        ensures { IfSome result.operator (λ o. o.offset ≡ operator.offset) }
+    {
+        Inside {
+            found,
+            operator: Some(operator),
+            frame,
+            note: None,
+        }
+    }
 }
 
-/// Adds how many operands an operator takes and gives here, if that is told.
-fn counts_note(
-    alloc: Global,
-    types: &TypesRef<'_>,
-    validator: &FuncValidator<ValidatorResources>,
-    operator: &Operator<'_>,
-    notes: &mut Vec<String>,
-) -> Result<(), AllocError> {
-    let Some((takes, gives)) = operator.operator_arity(validator) else {
-        return Ok(());
-    };
-    let wanted = wanted_types(alloc, validator, operator, takes)?;
-    let text = counts_text(alloc, types, wanted, takes, gives)?;
-    notes.push(text)?;
-    Ok(())
+/// What is known of a function with a fault, by its type and within its body.
+#[derive(Drop)]
+pub(crate) struct KnownBody {
+    pub(crate) signature: Option<Signature>,
+    pub(crate) inside: Inside,
 }
 
-/// Adds what is on the stack.
-fn stack_note(
-    alloc: Global,
-    types: &TypesRef<'_>,
-    validator: &FuncValidator<ValidatorResources>,
-    notes: &mut Vec<String>,
-) -> Result<(), AllocError> {
-    let Some(text) = stack_text(alloc, types, validator)? else {
-        return Ok(());
-    };
-    notes.push(text)?;
-    Ok(())
+/// An operator by its number, of which nothing is known but where it begins.
+fn operator_at(number: usize, offset: u64, name: Option<&'static str>) -> OperatorAt
+    ensures { result.offset ≡ offset }
+{
+    OperatorAt {
+        number,
+        offset,
+        name,
+        takes: None,
+        gives: None,
+    }
 }
 
-/// Adds that the bytes of a body end within a frame of this name, if one is open.
-fn end_note(
-    alloc: Global,
-    innermost: Option<&str>,
-    notes: &mut Vec<String>,
-) -> Result<Found, AllocError> {
-    let Some(name) = innermost else {
-        return Ok(Found::Nothing);
-    };
-    let text = format!(in alloc; "the body ends within the {name}")?;
-    notes.push(text)?;
-    Ok(Found::Spelling)
-}
-
-/// Adds that an operator of this number cannot be read, at this offset.
-fn misspelt_note(
-    alloc: Global,
-    number: usize,
-    start: u64,
-    notes: &mut Vec<String>,
-) -> Result<(), AllocError> {
-    let text = format!(in alloc;
-        "operator {number} of the body, at 0x{start:x}, is misspelt or out of place"
-    )?;
-    notes.push(text)?;
-    Ok(())
-}
-
-/// Adds the name of an operator of this number, and its offset.
-fn name_note(
-    alloc: Global,
-    number: usize,
-    name: &str,
-    start: u64,
-    notes: &mut Vec<String>,
-) -> Result<(), AllocError> {
-    let text = format!(in alloc; "operator {number} of the body, {name} at 0x{start:x}")?;
-    notes.push(text)?;
-    Ok(())
-}
-
-/// Adds what is known of the operator of this number, which begins at this offset.
-fn operator_notes(
+/// What is known of an operator before the validator is told of it.
+fn before_operator(
     alloc: Global,
     types: &TypesRef<'_>,
     validator: &FuncValidator<ValidatorResources>,
     operator: &Operator<'_>,
     number: usize,
     start: u64,
-    notes: &mut Vec<String>,
-) -> Result<(), AllocError> {
-    let name = operator.info().name;
-    name_note(alloc, number, name, start, notes)?;
-    counts_note(alloc, types, validator, operator, notes)?;
-    stack_note(alloc, types, validator, notes)
+) -> Result<Inside, AllocError>
+    ensures { IfOk result (λ i. IfSome i.operator (λ o. o.offset ≡ start)) }
+{
+    let (takes, gives) = operands_of(alloc, types, validator, operator)?;
+    let frame = open_frame(alloc, types, validator)?;
+    let mut at = operator_at(number, start, Some(operator.info().name));
+    at.takes = takes;
+    at.gives = gives;
+    Ok(Inside::at(Found::Rule, at, frame))
 }
 
-/// Tells the validator of an operator, and adds what is known of it if it is refused.
-fn try_operator(
+/// Tells the validator of an operator. What is known of it if it is refused.
+fn tell(
     alloc: Global,
     types: &TypesRef<'_>,
     validator: &mut FuncValidator<ValidatorResources>,
     operator: Operator<'_>,
     number: usize,
     start: u64,
-    notes: &mut Vec<String>,
-) -> Result<Step, AllocError> {
+) -> Result<Option<Inside>, AllocError>
+    ensures { IfOk result (λ r. IfSome r (λ i. IfSome i.operator (λ o. o.offset ≡ start))) }
+{
     let name = operator.info().name;
     if validator.try_op(start, operator).is_ok() {
-        return Ok(Step::Goes);
+        return Ok(None);
     }
-    name_note(alloc, number, name, start, notes)?;
-    stack_note(alloc, types, validator, notes)?;
-    Ok(Step::Ends(Found::Rule))
+    let frame = open_frame(alloc, types, validator)?;
+    let at = operator_at(number, start, Some(name));
+    Ok(Some(Inside::at(Found::Rule, at, frame)))
 }
 
-/// Takes the operator of this number: if it has this offset, cannot be read or is refused, what is known of it is added.
+/// Takes the operator of this number, which begins at `start`. What is known of it if it has the offset, cannot be read or is refused.
 fn take_operator(
     alloc: Global,
     types: &TypesRef<'_>,
     validator: &mut FuncValidator<ValidatorResources>,
     operators: &mut OperatorsReader<'_>,
     number: usize,
+    start: u64,
     offset: u64,
-    notes: &mut Vec<String>,
-) -> Result<Step, AllocError> {
-    let start = operators.original_position();
+) -> Result<Option<Inside>, AllocError>
+    ensures { IfOk result (λ r. IfSome r (λ i. IfSome i.operator (λ o. o.offset ≡ start))) }
+{
     let Ok(operator) = operators.read() else {
-        misspelt_note(alloc, number, start, notes)?;
-        return Ok(Step::Ends(Found::Spelling));
+        let at = operator_at(number, start, None);
+        return Ok(Some(Inside::at(Found::Spelling, at, None)));
     };
     if operators.original_position() <= offset {
-        return try_operator(alloc, types, validator, operator, number, start, notes);
+        return tell(alloc, types, validator, operator, number, start);
     }
-    operator_notes(alloc, types, validator, &operator, number, start, notes)?;
-    Ok(Step::Ends(Found::Rule))
+    let inside = before_operator(alloc, types, validator, &operator, number, start)?;
+    Ok(Some(inside))
 }
 
-/// Adds what is known of the operator at an offset: or of the first that cannot be read, or that the validator refuses, before it.
+/// What is known of a body whose bytes end while these frames are open.
+fn at_end(validator: &FuncValidator<ValidatorResources>) -> Inside
+    ensures { result.operator ≡ None }
+{
+    match innermost_name(validator) {
+        Some(name) => Inside::noted(Found::Spelling, Note::EndsWithin(name)),
+        None => Inside::of(Found::Nothing),
+    }
+}
+
+/// What is known of the operator at an offset; or of the first that cannot be read, or that the validator refuses, before it.
 fn find_operator(
     alloc: Global,
     types: &TypesRef<'_>,
@@ -207,177 +173,209 @@ fn find_operator(
     operators: &mut OperatorsReader<'_>,
     length: usize,
     offset: u64,
-    notes: &mut Vec<String>,
-) -> Result<Found, AllocError> {
+) -> Result<Inside, AllocError>
+    ensures { IfOk result (λ i. BeginsBy offset i.operator) }
+{
     for number in 0..=length {
-        if offset < operators.original_position() {
-            return Ok(Found::Nothing);
+        let start = operators.original_position();
+        if offset < start {
+            break;
         }
         if operators.eof() {
-            let innermost = innermost_name(validator);
-            return end_note(alloc, innermost, notes);
+            return Ok(at_end(validator));
         }
-        match take_operator(alloc, types, validator, operators, number, offset, notes)? {
-            Step::Goes => (),
-            Step::Ends(found) => return Ok(found),
+        if let Some(inside) = take_operator(
+            alloc, types, validator, operators, number, start, offset,
+        )? {
+            return Ok(inside);
         }
     }
-    Ok(Found::Nothing)
+    Ok(Inside::of(Found::Nothing))
 }
 
-/// Adds a text that every module has alike.
-fn plain_note(alloc: Global, text: &str, notes: &mut Vec<String>) -> Result<(), AllocError> {
-    let text = format!(in alloc; "{text}")?;
-    notes.push(text)?;
-    Ok(())
-}
-
-/// Adds what is known of a body that has this offset, at a validator that was just made for it.
-fn body_notes(
+/// What is known of a body that has this offset, by a validator that was just made for it.
+fn inside_body(
     alloc: Global,
     types: &TypesRef<'_>,
     validator: &mut FuncValidator<ValidatorResources>,
     body: &FunctionBody<'_>,
     offset: u64,
-    notes: &mut Vec<String>,
-) -> Result<Found, AllocError> {
+) -> Result<Inside, AllocError>
+    ensures { IfOk result (λ i. BeginsBy offset i.operator) }
+{
     if body.get_binary_reader_for_operators().is_err() {
-        plain_note(alloc, "its locals are misspelt or too many", notes)?;
-        return Ok(Found::Spelling);
+        return Ok(Inside::noted(Found::Spelling, Note::LocalsUnread));
     }
     let mut reader = body.get_binary_reader();
     if validator.read_locals(&mut reader).is_err() {
-        plain_note(
-            alloc,
-            "its locals are too many, or of types that may not be there",
-            notes,
-        )?;
-        return Ok(Found::Rule);
+        return Ok(Inside::noted(Found::Rule, Note::LocalsRefused));
     }
     let mut operators = OperatorsReader::new(alloc, reader);
     let length = body.as_bytes().len();
-    find_operator(
-        alloc,
-        types,
-        validator,
-        &mut operators,
-        length,
-        offset,
-        notes,
-    )
+    find_operator(alloc, types, validator, &mut operators, length, offset)
 }
 
-/// Adds what is known of a function whose body has this offset.
-fn function_notes(
+/// The type of a function by its index, if the module has it.
+fn type_at(
+    alloc: Global,
+    types: &TypesRef<'_>,
+    resources: &ValidatorResources,
+    type_index: u32,
+) -> Result<Option<Signature>, AllocError> {
+    let Some(function) = function_at(resources, type_index) else {
+        return Ok(None);
+    };
+    let signature = signature_of(alloc, types, function)?;
+    Ok(Some(signature))
+}
+
+/// Whether a function takes more parameters than it may have locals by these limits.
+fn takes_too_many(function: &FuncToValidate<ValidatorResources>, limits: Limits) -> bool {
+    match function_at(&function.resources, function.ty) {
+        Some(ty) => ty.params().len() > limits.locals as usize,
+        None => false,
+    }
+}
+
+/// What is known of a function whose body has this offset.
+fn known_of(
     alloc: Global,
     types: &TypesRef<'_>,
     function: FuncToValidate<ValidatorResources>,
     limits: Limits,
     body: &FunctionBody<'_>,
     offset: u64,
-    notes: &mut Vec<String>,
-) -> Result<Found, AllocError>
+) -> Result<KnownBody, AllocError>
     requires within { IsWithinCeilings limits }
+    ensures { IfOk result (λ k. BeginsBy offset k.inside.operator) }
 {
-    let FuncToValidate {
-        resources,
-        index,
-        ty,
-        features,
-        limits: _,
-    } = function;
-    type_note(alloc, types, &resources, ty, notes)?;
-    let function = FuncToValidate {
-        resources,
-        index,
-        ty,
-        features,
-        limits,
+    let signature = type_at(alloc, types, &function.resources, function.ty)?;
+    if takes_too_many(&function, limits) {
+        let inside = Inside::noted(Found::Rule, Note::ParamsRefused);
+        return Ok(KnownBody { signature, inside });
+    }
+    let mut function = function;
+    function.limits = limits;
+    let inside = match function.into_validator(FuncValidatorAllocations::new(alloc)) {
+        Ok(mut validator) => inside_body(alloc, types, &mut validator, body, offset)?,
+        Err(_) => Inside::of(Found::Nothing),
     };
-    let Ok(mut validator) = function.into_validator(FuncValidatorAllocations::new(alloc)) else {
-        return Ok(Found::Nothing);
-    };
-    body_notes(alloc, types, &mut validator, body, offset, notes)
+    Ok(KnownBody { signature, inside })
 }
 
-/// Takes a body, and adds what is known of its function if it has this offset.
+/// Tells the validator of a body. What is known of its function if it has this offset.
 fn take_body(
-    alloc: Global,
+    judged: Judged<'_>,
     validator: &mut Validator,
     body: &FunctionBody<'_>,
-    limits: Limits,
     offset: u64,
-    notes: &mut Vec<String>,
-) -> Result<Step, AllocError>
-    requires within { IsWithinCeilings limits }
+) -> Result<Option<KnownBody>, AllocError>
+    requires within { IsWithinCeilings judged.limits }
+    ensures { IfOk result (λ r. IfSome r (λ k. BeginsBy offset k.inside.operator)) }
 {
     let range = body.range();
     let Ok(function) = validator.code_section_entry(body) else {
-        return Ok(Step::Ends(Found::Nothing));
+        return Ok(None);
     };
     if offset < range.start || range.end < offset {
-        return Ok(Step::Goes);
+        return Ok(None);
     }
     let Some(types) = validator.types(0) else {
-        return Ok(Step::Ends(Found::Nothing));
+        return Ok(None);
     };
-    let found = function_notes(alloc, &types, function, limits, body, offset, notes)?;
-    Ok(Step::Ends(found))
+    let known = known_of(judged.alloc, &types, function, judged.limits, body, offset)?;
+    Ok(Some(known))
 }
 
-/// Takes a payload that is no body.
-fn pass(validator: &mut Validator, payload: Payload<'_>) -> Step {
+/// Tells the validator of a payload that is no body. If it refuses one, it refuses all that follow.
+fn pass(validator: &mut Validator, payload: Payload<'_>) {
     match validator.payload(payload) {
-        Ok(ValidPayload::Ok) => Step::Goes,
-        Ok(ValidPayload::Func(_, _)) => Step::Goes,
-        Ok(ValidPayload::End(_)) => Step::Ends(Found::Nothing),
-        Err(_) => Step::Ends(Found::Nothing),
+        Ok(ValidPayload::Ok) => (),
+        Ok(ValidPayload::Func(_, _)) => (),
+        Ok(ValidPayload::End(_)) => (),
+        Err(_) => (),
     }
 }
 
-/// Takes a payload.
+/// Tells the validator of a payload. What is known of its function if it is a body with this offset.
 fn take_payload(
-    alloc: Global,
+    judged: Judged<'_>,
     validator: &mut Validator,
     payload: Payload<'_>,
-    limits: Limits,
     offset: u64,
-    notes: &mut Vec<String>,
-) -> Result<Step, AllocError>
-    requires within { IsWithinCeilings limits }
+) -> Result<Option<KnownBody>, AllocError>
+    requires within { IsWithinCeilings judged.limits }
+    ensures { IfOk result (λ r. IfSome r (λ k. BeginsBy offset k.inside.operator)) }
 {
     match payload {
-        Payload::CodeSectionEntry(body) => {
-            take_body(alloc, validator, &body, limits, offset, notes)
+        Payload::CodeSectionEntry(body) => take_body(judged, validator, &body, offset),
+        other => {
+            pass(validator, other);
+            Ok(None)
         }
-        other => Ok(pass(validator, other)),
     }
 }
 
-/// Adds what a validator knows of the function in whose body this offset is, as far as the operator there.
-pub(crate) fn find_in_body(
-    alloc: Global,
-    features: WasmFeatures,
-    limits: Limits,
-    bytes: &[u8],
-    offset: u64,
-    notes: &mut Vec<String>,
-) -> Result<Found, AllocError>
-    requires within { IsWithinCeilings limits }
+/// A validator that was told of nothing yet.
+fn new_validator(judged: Judged<'_>) -> Validator
+    requires within { IsWithinCeilings judged.limits }
 {
-    let mut parser = Parser::new(alloc, 0);
-    parser.set_features(features);
-    parser.set_limits(limits);
     let id = ValidatorId::new(0);
-    let mut validator = Validator::new_with_limits(alloc, id, features, limits);
-    for payload in parser.parse_all(bytes) {
+    Validator::new_with_limits(judged.alloc, id, judged.features, judged.limits)
+}
+
+/// Tells the validator of a payload. Where it begins, if it is the body of a function that takes more parameters than it may have locals.
+fn take_overfull(
+    judged: Judged<'_>,
+    validator: &mut Validator,
+    payload: Payload<'_>,
+) -> Option<u64> {
+    let body = match payload {
+        Payload::CodeSectionEntry(body) => body,
+        other => {
+            pass(validator, other);
+            return None;
+        }
+    };
+    let Ok(function) = validator.code_section_entry(&body) else {
+        return None;
+    };
+    if takes_too_many(&function, judged.limits) {
+        return Some(body.range().start);
+    }
+    None
+}
+
+/// Where the first body begins whose function takes more parameters than it may have locals, if there is one.
+pub(crate) fn find_overfull(judged: Judged<'_>) -> Option<u64>
+    requires within { IsWithinCeilings judged.limits }
+{
+    let mut validator = new_validator(judged);
+    for payload in payloads(judged) {
         let Ok(payload) = payload else {
-            return Ok(Found::Nothing);
+            return None;
         };
-        match take_payload(alloc, &mut validator, payload, limits, offset, notes)? {
-            Step::Goes => (),
-            Step::Ends(found) => return Ok(found),
+        if let Some(start) = take_overfull(judged, &mut validator, payload) {
+            return Some(start);
         }
     }
-    Ok(Found::Nothing)
+    None
+}
+
+/// What a validator knows of the function in whose body this offset is, as far as the operator there; nothing if it refuses what comes
+/// before the body.
+pub(crate) fn find_in_body(judged: Judged<'_>, offset: u64) -> Result<Option<KnownBody>, AllocError>
+    requires within { IsWithinCeilings judged.limits }
+    ensures { IfOk result (λ r. IfSome r (λ k. BeginsBy offset k.inside.operator)) }
+{
+    let mut validator = new_validator(judged);
+    for payload in payloads(judged) {
+        let Ok(payload) = payload else {
+            return Ok(None);
+        };
+        if let Some(known) = take_payload(judged, &mut validator, payload, offset)? {
+            return Ok(Some(known));
+        }
+    }
+    Ok(None)
 }

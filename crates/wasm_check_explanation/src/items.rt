@@ -1,30 +1,25 @@
-//! Which item of a section stands at an offset.
+//! Which item of a section has an offset.
 ghost use Rattle.wasm_types.specs.settings.Limits.{IsWithinCeilings};
+ghost use Rattle.wasm_check_explanation.specs.Places.{IsAnItem};
 
+use crate::judged::Judged;
+use crate::place::{Item, Offsets};
 use crate::sections::Part;
 use std::alloc::Global;
-use std::ops::Range;
 use wasm_sections::{Data, Element, Export, Global as GlobalItem, Import, SectionLimited, Table};
-use wasm_types::{BinaryReader, FromReader, Limits, MemoryType, RecGroup, TagType, WasmFeatures};
+use wasm_types::{BinaryReader, FromReader, MemoryType, RecGroup, TagType};
 
-/// An item of a section: its number, counted from 0, and how many there are.
-#[derive(Clone, Copy, Debug)]
-pub(crate) struct Numbered {
-    pub(crate) number: u32,
-    pub(crate) count: u32,
-}
-
-/// What stands at an offset in a section.
-#[derive(Clone, Copy, Debug)]
-pub(crate) struct Place {
+/// What is at an offset in a section.
+#[derive(Clone, Copy)]
+pub(crate) struct Spot {
     /// The item, if there is one.
-    pub(crate) item: Option<Numbered>,
+    pub(crate) item: Option<Item>,
     /// Whether it cannot be read.
     pub(crate) is_unread: bool,
 }
 
 /// No item.
-const NOWHERE: Place = Place {
+const NOWHERE: Spot = Spot {
     item: None,
     is_unread: false,
 };
@@ -34,7 +29,9 @@ fn item_at<'a, T: FromReader<'a> + Drop + 'a>(
     alloc: Global,
     reader: BinaryReader<'a>,
     offset: u64,
-) -> Place {
+) -> Spot
+    ensures { IsAnItem result.item }
+{
     let Ok(section) = SectionLimited::<'a, T>::new(alloc, reader) else {
         return NOWHERE;
     };
@@ -61,47 +58,59 @@ fn item_at<'a, T: FromReader<'a> + Drop + 'a>(
     if begun == 0 {
         return NOWHERE;
     }
-    Place {
+    Spot {
         item: item_of_count(begun - 1, count),
         is_unread: false,
     }
 }
 
 /// The item of this number, which cannot be read.
-fn unread(number: u32, count: u32) -> Place {
-    Place {
+fn unread(number: u32, count: u32) -> Spot
+    ensures { IsAnItem result.item }
+{
+    Spot {
         item: item_of_count(number, count),
         is_unread: true,
     }
 }
 
 /// An item, if there is one of this number.
-fn item_of_count(number: u32, count: u32) -> Option<Numbered> {
+fn item_of_count(number: u32, count: u32) -> Option<Item>
+    ensures { IsAnItem result }
+{
     if number < count {
-        return Some(Numbered { number, count });
+        return Some(Item { number, count });
     }
     None
 }
 
-/// Which item of this part of these bytes stands at the offset, if the part has items.
-pub(crate) fn place_of(
-    alloc: Global,
-    features: WasmFeatures,
-    limits: Limits,
-    bytes: &[u8],
-    part: Part,
-    range: Range<u64>,
-    offset: u64,
-) -> Place
-    requires within { IsWithinCeilings limits }
+/// A reader of what is between these offsets, if all of it is there.
+fn reader_between(judged: Judged<'_>, range: Offsets) -> Option<BinaryReader<'_>>
+    requires within { IsWithinCeilings judged.limits }
 {
-    let Some(contents) = bytes.get(range.start as usize..range.end as usize) else {
+    let contents = judged.bytes.get(range.start as usize..range.end as usize)?;
+    if range.start >= 0x1_0000_0000 || contents.len() >= 0x1_0000_0000 {
+        return None;
+    }
+    let reader = BinaryReader::new_limited(contents, range.start, judged.features, judged.limits);
+    Some(reader)
+}
+
+/// Which item of a part between these offsets has this one, if the part has items.
+pub(crate) fn spot_of(judged: Judged<'_>, part: Part, range: Offsets, offset: u64) -> Spot
+    requires within { IsWithinCeilings judged.limits }
+    ensures { IsAnItem result.item }
+{
+    let Some(reader) = reader_between(judged, range) else {
         return NOWHERE;
     };
-    if range.start >= 0x1_0000_0000 || contents.len() >= 0x1_0000_0000 {
-        return NOWHERE;
-    }
-    let reader = BinaryReader::new_limited(contents, range.start, features, limits);
+    spot_in(judged.alloc, part, reader, offset)
+}
+
+/// Which item of a part, of which this is a reader, has this offset, if the part has items.
+fn spot_in(alloc: Global, part: Part, reader: BinaryReader<'_>, offset: u64) -> Spot
+    ensures { IsAnItem result.item }
+{
     match part {
         Part::Types => item_at::<RecGroup>(alloc, reader, offset),
         Part::Imports => item_at::<Import<'_>>(alloc, reader, offset),

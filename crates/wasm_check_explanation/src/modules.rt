@@ -1,280 +1,223 @@
 //! Where in a module the fault is.
+ghost use Rattle.std.specs.Prelude.{◌≡◌, IfOk, IfSome, None};
 ghost use Rattle.wasm_types.specs.settings.Limits.{IsWithinCeilings};
+ghost use Rattle.wasm_check_explanation.specs.Places.{BeginsBy, IsEmpty, IsIn, IsPlaceOf};
 
-use crate::bodies::{Found, find_in_body};
-use crate::faults::Fault;
-use crate::items::{Numbered, place_of};
+use crate::bodies::{Found, Inside, KnownBody, find_in_body, find_overfull};
+use crate::items::{Spot, spot_of};
+use crate::judged::{Judged, payloads};
 use crate::names::name_of;
-use crate::sections::{Part, part_of};
+use crate::passed::Passed;
+use crate::place::{Function, Offsets, Place, Signature};
+use crate::sections::{Part, offsets_of, part_of};
 use std::alloc::{AllocError, Global};
-use std::ops::Range;
-use wasm_sections::{ImportSectionReader, Parser, Payload, TypeRef};
+use wasm_check_lines::{Cause, Limit, cause_of};
+use wasm_sections::Payload;
 use wasm_types::{Error, Limits, WasmFeatures};
 
-/// How many functions a section imports.
-fn functions_in(section: ImportSectionReader<'_>) -> u32 {
-    let mut count = 0u32;
-    for import in section {
-        let Ok(import) = import else {
-            return count;
-        };
-        match import.ty {
-            TypeRef::Func(_) => count = count.saturating_add(1),
-            TypeRef::FuncExact(_) => count = count.saturating_add(1),
-            _ => (),
-        }
-    }
-    count
-}
-
-/// How many bytes of a name are told.
-const MOST_BYTES: usize = 256;
-
-/// The function of this index, by its name if it has one.
-fn title_text(alloc: Global, index: u32, name: Option<&str>) -> Result<String, AllocError> {
-    let code = Part::Code.name();
-    let Some(name) = name else {
-        return format!(in alloc; "in {code}, function {index}");
-    };
-    if name.len() <= MOST_BYTES {
-        return format!(in alloc; "in {code}, function {index} `{name}`");
-    }
-    let front = &name[..name.floor_char_boundary(MOST_BYTES)];
-    format!(in alloc; "in {code}, function {index} `{front}`..")
-}
+/// The chapter of the standard on limits.
+const LIMITS: &str = "WebAssembly 3.0, appendix, implementation limitations";
 
 /// The chapter that has the rule of a fault in a body.
-fn chapter_of(fault: Fault, found: Found) -> &'static str {
+fn chapter_of(found: Found) -> &'static str {
     match found {
-        Found::Nothing => fault.chapter(Part::Code.spelling()),
-        Found::Rule => fault.chapter("WebAssembly 3.0, validation, instructions"),
-        Found::Spelling => fault.chapter("WebAssembly 3.0, binary format, instructions"),
+        Found::Nothing => Part::Code.spelling(),
+        Found::Rule => "WebAssembly 3.0, validation, instructions",
+        Found::Spelling => "WebAssembly 3.0, binary format, instructions",
     }
 }
 
-/// Adds the chapter that has the rule.
-fn rules_note(alloc: Global, chapter: &str, notes: &mut Vec<String>) -> Result<(), AllocError> {
-    let text = format!(in alloc; "rules: {chapter}")?;
-    notes.push(text)?;
-    Ok(())
+/// The function of this index among all of the module, of this type.
+fn function_of(
+    judged: Judged<'_>,
+    index: u32,
+    signature: Option<Signature>,
+) -> Result<Function, AllocError>
+    requires within { IsWithinCeilings judged.limits }
+{
+    let name = match name_of(judged, index) {
+        Some(name) => Some(String::from_str(judged.alloc, name)?),
+        None => None,
+    };
+    Ok(Function {
+        index,
+        name,
+        signature,
+    })
 }
 
-/// The notes of a body with the fault, of the function of this index among all of the module; none if the fault is at the body's end, and
-/// no fault is found in the body.
-fn body_notes(
-    alloc: Global,
-    features: WasmFeatures,
-    limits: Limits,
-    bytes: &[u8],
+/// The place of a fault within the body of a function.
+fn place_within(function: Function, inside: Inside) -> Place
+    ensures operator { result.operator ≡ inside.operator }
+    ensures range { result.range ≡ None }
+    ensures item { result.item ≡ None }
+{
+    let Inside {
+        found,
+        operator,
+        frame,
+        note,
+    } = inside;
+    Place {
+        part: Some(Part::Code),
+        is_after: false,
+        range: None,
+        item: None,
+        function: Some(function),
+        operator,
+        frame,
+        note,
+        chapter: chapter_of(found),
+    }
+}
+
+/// The place of a fault in the body of the function of this index among all of the module; none if the fault is at the body's end, and no
+/// fault is found in the body.
+fn body_place(
+    judged: Judged<'_>,
     index: u32,
     is_at_end: bool,
-    fault: Fault,
-) -> Result<Option<Vec<String>>, AllocError>
-    requires within { IsWithinCeilings limits }
+    offset: u64,
+) -> Result<Option<Place>, AllocError>
+    requires within { IsWithinCeilings judged.limits }
+    ensures { IfOk result (λ r. IfSome r (IsPlaceOf offset)) }
 {
-    let mut notes = Vec::new(alloc);
-    let name = name_of(alloc, features, limits, bytes, index);
-    let title = title_text(alloc, index, name)?;
-    notes.push(title)?;
-    let found = find_in_body(alloc, features, limits, bytes, fault.offset, &mut notes)?;
-    if is_at_end && found == Found::Nothing {
+    let KnownBody { signature, inside } = known_body(judged, offset)?;
+    if is_at_end && inside.found == Found::Nothing {
         return Ok(None);
     }
-    rules_note(alloc, chapter_of(fault, found), &mut notes)?;
-    Ok(Some(notes))
+    let function = function_of(judged, index, signature)?;
+    Ok(Some(place_within(function, inside)))
 }
 
-/// A part of these offsets, and its item.
-fn part_text(
-    alloc: Global,
-    part: Part,
-    start: u64,
-    end: u64,
-    item: Option<Numbered>,
-) -> Result<String, AllocError> {
-    let name = part.name();
-    if part == Part::End {
-        return format!(in alloc; "at {name} (0x{end:x})");
-    }
-    let Some(item) = item else {
-        return format!(in alloc; "in {name} (0x{start:x} to 0x{end:x})");
-    };
-    let (number, count) = (item.number, item.count);
-    format!(in alloc;
-        "in {name} (0x{start:x} to 0x{end:x}), item {number} of {count}, counted from 0"
-    )
-}
-
-/// A text, and the chapter that has the rule.
-fn two_notes(alloc: Global, text: String, chapter: &str) -> Result<Vec<String>, AllocError> {
-    let mut notes = Vec::new(alloc);
-    notes.push(text)?;
-    rules_note(alloc, chapter, &mut notes)?;
-    Ok(notes)
-}
-
-/// The notes of a part with the fault that is no body; none if the fault is at its end, and each of its items can be read.
-fn part_notes(
-    alloc: Global,
-    features: WasmFeatures,
-    limits: Limits,
-    bytes: &[u8],
-    part: Part,
-    range: Range<u64>,
-    fault: Fault,
-) -> Result<Option<Vec<String>>, AllocError>
-    requires within { IsWithinCeilings limits }
+/// What a validator knows of the body that has this offset.
+fn known_body(judged: Judged<'_>, offset: u64) -> Result<KnownBody, AllocError>
+    requires within { IsWithinCeilings judged.limits }
+    ensures { IfOk result (λ k. BeginsBy offset k.inside.operator) }
 {
-    let (start, end) = (range.start, range.end);
-    let place = place_of(alloc, features, limits, bytes, part, range, fault.offset);
-    if fault.offset == end && start < end && !place.is_unread {
-        return Ok(None);
+    match find_in_body(judged, offset)? {
+        Some(known) => Ok(known),
+        None => Ok(KnownBody {
+            signature: None,
+            inside: Inside::of(Found::Nothing),
+        }),
     }
-    let chapter = if place.is_unread {
+}
+
+/// The place of a fault in a part that is no body; none if the fault is at its end, and each of its items can be read.
+fn part_place(judged: Judged<'_>, part: Part, range: Offsets, offset: u64) -> Option<Place>
+    requires within { IsWithinCeilings judged.limits }
+    requires inside { IsIn offset range }
+    ensures { IfSome result (IsPlaceOf offset) }
+{
+    let Spot { item, is_unread } = spot_of(judged, part, range, offset);
+    if offset == range.end && range.start < range.end && !is_unread {
+        return None;
+    }
+    let chapter = if is_unread {
         part.spelling()
     } else {
         part.chapter()
     };
-    let text = part_text(alloc, part, start, end, place.item)?;
-    let notes = two_notes(alloc, text, fault.chapter(chapter))?;
-    Ok(Some(notes))
+    let mut place = Place::of(part, chapter);
+    place.range = Some(range);
+    place.item = item;
+    Some(place)
 }
 
-/// What came before the fault.
-#[derive(Clone, Copy, Debug)]
-struct Passed {
-    /// The last part.
-    last: Option<Part>,
-    /// How many functions are imported.
-    imported: u32,
-    /// How many bodies came.
-    bodies: u32,
-    /// How many bodies are still to come.
-    due: u32,
-    /// The offsets of the code section.
-    code: (u64, u64),
-}
-
-impl Passed {
-    /// Nothing.
-    fn new() -> Passed {
-        Passed {
-            last: None,
-            imported: 0,
-            bodies: 0,
-            due: 0,
-            code: (0, 0),
-        }
+/// The place of a fault in no payload.
+fn rest_place(passed: Passed, offset: u64) -> Place
+    ensures { IsPlaceOf offset result }
+{
+    if let Some(range) = passed.code_at(offset) {
+        let mut place = Place::of(Part::Code, Part::Code.spelling());
+        place.range = Some(range);
+        return place;
     }
-
-    /// This, and a section that imports so many functions.
-    fn with_imports(self, imported: u32) -> Passed {
-        let mut passed = self;
-        passed.last = Some(Part::Imports);
-        passed.imported = imported;
-        passed
-    }
-
-    /// This, and the start of a code section of so many bodies and these offsets.
-    fn with_code(self, count: u32, start: u64, end: u64) -> Passed {
-        let mut passed = self;
-        passed.last = Some(Part::Code);
-        passed.due = count;
-        passed.code = (start, end);
-        passed
-    }
-
-    /// This, and a body.
-    fn with_body(self) -> Passed {
-        let mut passed = self;
-        passed.bodies = passed.bodies.saturating_add(1);
-        passed.due = passed.due.saturating_sub(1);
-        passed
-    }
-
-    /// This, and another part.
-    fn with_part(self, part: Part) -> Passed {
-        let mut passed = self;
-        passed.last = Some(part);
-        passed
-    }
-
-    /// This, and a payload of this part.
-    fn and(self, payload: Payload<'_>, part: Part) -> Passed {
-        match payload {
-            Payload::ImportSection(section) => self.with_imports(functions_in(section)),
-            Payload::CodeSectionStart {
-                count,
-                unchecked_range,
-                size: _,
-            } => self.with_code(count, unchecked_range.start, unchecked_range.end),
-            Payload::CodeSectionEntry(_) => self.with_body(),
-            _ => self.with_part(part),
-        }
-    }
-
-    /// Whether a fault at this offset, which is in no body, is in the code section.
-    fn is_in_code(self, offset: u64) -> bool {
-        let (start, end) = self.code;
-        if offset < start {
-            return false;
-        }
-        offset < end || (offset == end && self.due > 0)
+    match passed.last {
+        Some(part) => Place::after(part, Part::Header.spelling()),
+        None => Place::of(Part::Header, Part::Header.spelling()),
     }
 }
 
-/// The notes of a fault in no payload.
-fn rest_notes(alloc: Global, passed: Passed, fault: Fault) -> Result<Vec<String>, AllocError> {
-    if passed.is_in_code(fault.offset) {
-        let (start, end) = passed.code;
-        let text = part_text(alloc, Part::Code, start, end, None)?;
-        return two_notes(alloc, text, fault.chapter(Part::Code.spelling()));
-    }
-    let text = after_text(alloc, passed.last)?;
-    two_notes(alloc, text, fault.chapter(Part::Header.spelling()))
-}
-
-/// Which part bytes come after that no parser takes for a part of a module.
-fn after_text(alloc: Global, last: Option<Part>) -> Result<String, AllocError> {
-    match last {
-        Some(part) => format!(in alloc; "after {}", part.name()),
-        None => format!(in alloc; "in {}", Part::Header.name()),
-    }
-}
-
-/// The notes of a payload, if the fault is in it.
-fn payload_notes(
-    alloc: Global,
-    features: WasmFeatures,
-    limits: Limits,
-    bytes: &[u8],
+/// The place of a fault in this payload, if it is there.
+fn payload_place(
+    judged: Judged<'_>,
     payload: &Payload<'_>,
     passed: Passed,
-    fault: Fault,
-) -> Result<Option<Vec<String>>, AllocError>
-    requires within { IsWithinCeilings limits }
+    offset: u64,
+) -> Result<Option<Place>, AllocError>
+    requires within { IsWithinCeilings judged.limits }
+    ensures { IfOk result (λ r. IfSome r (IsPlaceOf offset)) }
 {
-    let (part, range) = part_of(payload);
-    if fault.offset < range.start || range.end < fault.offset {
+    let range = offsets_of(payload);
+    if offset < range.start || range.end < offset {
         return Ok(None);
     }
     match payload {
-        Payload::CodeSectionStart {
-            count: _,
-            unchecked_range: _,
-            size: _,
-        } => Ok(None),
+        Payload::CodeSectionStart { .. } => Ok(None),
         Payload::CodeSectionEntry(_) => {
-            let index = passed.imported.saturating_add(passed.bodies);
-            let is_at_end = fault.offset == range.end;
-            body_notes(alloc, features, limits, bytes, index, is_at_end, fault)
+            body_place(judged, passed.next_index(), offset == range.end, offset)
         }
-        _ => part_notes(alloc, features, limits, bytes, part, range, fault),
+        _ => Ok(part_place(judged, part_of(payload), range, offset)),
     }
 }
 
-/// What a person needs to find the fault in these bytes, which were refused by this error under these features and limits: a text for each
-/// line.
+/// The place of this offset.
+fn place_at(judged: Judged<'_>, offset: u64) -> Result<Place, AllocError>
+    requires within { IsWithinCeilings judged.limits }
+    ensures { IfOk result (IsPlaceOf offset) }
+{
+    let mut passed = Passed::new();
+    for payload in payloads(judged) {
+        let Ok(payload) = payload else {
+            return Ok(rest_place(passed, offset));
+        };
+        if let Some(place) = payload_place(judged, &payload, passed, offset)? {
+            return Ok(place);
+        }
+        passed = passed.and(payload);
+    }
+    Ok(rest_place(passed, offset))
+}
+
+/// The place of a fault that is at no byte: the body of the first function that takes more parameters than it may have locals.
+fn overfull_place(judged: Judged<'_>) -> Result<Option<Place>, AllocError>
+    requires within { IsWithinCeilings judged.limits }
+    ensures { IfOk result (λ r. IfSome r IsEmpty) }
+{
+    let Some(start) = find_overfull(judged) else {
+        return Ok(None);
+    };
+    let mut place = place_at(judged, start)?;
+    place.range = None;
+    place.item = None;
+    place.operator = None;
+    Ok(Some(place))
+}
+
+/// Whether a fault for this cause at this offset is at no byte: parameters are refused at the offset 0, where the header is.
+fn is_at_no_byte(cause: Cause, offset: u64) -> bool {
+    match cause {
+        Cause::Limit(Limit::Locals) => offset == 0,
+        _ => false,
+    }
+}
+
+/// The place of a fault for this cause at this offset.
+fn place_of(judged: Judged<'_>, cause: Cause, offset: u64) -> Result<Place, AllocError>
+    requires within { IsWithinCeilings judged.limits }
+    ensures { IfOk result (IsPlaceOf offset) }
+{
+    if is_at_no_byte(cause, offset) {
+        if let Some(place) = overfull_place(judged)? {
+            return Ok(place);
+        }
+    }
+    place_at(judged, offset)
+}
+
+/// What is known of the place of the fault in these bytes, which were refused by this error under these features and limits.
 ///
 /// # Errors
 ///
@@ -285,25 +228,22 @@ pub fn explain(
     limits: Limits,
     bytes: &[u8],
     error: &Error,
-) -> Result<Vec<String>, AllocError>
+) -> Result<Place, AllocError>
     requires within { IsWithinCeilings limits }
+    ensures { IfOk result (IsPlaceOf error.now.offset) }
 {
-    let fault = Fault::new(error);
-    let mut parser = Parser::new(alloc, 0);
-    parser.set_features(features);
-    parser.set_limits(limits);
-    let mut passed = Passed::new();
-    for payload in parser.parse_all(bytes) {
-        let Ok(payload) = payload else {
-            return rest_notes(alloc, passed, fault);
-        };
-        let (part, _range) = part_of(&payload);
-        if let Some(notes) = payload_notes(
-            alloc, features, limits, bytes, &payload, passed, fault,
-        )? {
-            return Ok(notes);
-        }
-        passed = passed.and(payload, part);
+    let judged = Judged {
+        alloc,
+        features,
+        limits,
+        bytes,
+    };
+    let cause = cause_of(&limits, error);
+    let mut place = place_of(judged, cause, error.offset())?;
+    match cause {
+        Cause::Limit(_) => place.chapter = LIMITS,
+        Cause::FixedLimit => place.chapter = LIMITS,
+        _ => (),
     }
-    rest_notes(alloc, passed, fault)
+    Ok(place)
 }

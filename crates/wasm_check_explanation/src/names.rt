@@ -1,9 +1,9 @@
 //! The names of functions.
 ghost use Rattle.wasm_types.specs.settings.Limits.{IsWithinCeilings};
 
-use std::alloc::Global;
-use wasm_sections::{CustomSectionReader, ExportSectionReader, ExternalKind, Parser, Payload};
-use wasm_types::{BinaryReader, Limits, WasmFeatures};
+use crate::judged::{Judged, payloads};
+use wasm_sections::{CustomSectionReader, ExportSectionReader, ExternalKind, Payload};
+use wasm_types::BinaryReader;
 
 /// The name that a map of names has for an index.
 fn name_in<'a>(reader: BinaryReader<'a>, index: u32) -> Option<&'a str> {
@@ -27,18 +27,17 @@ fn name_in<'a>(reader: BinaryReader<'a>, index: u32) -> Option<&'a str> {
 
 /// The name of a function in the name section (WebAssembly 3.0, appendix, custom sections, name section): its second subsection has them.
 fn named_function<'a>(
+    judged: Judged<'a>,
     section: &CustomSectionReader<'a>,
-    features: WasmFeatures,
-    limits: Limits,
     index: u32,
 ) -> Option<&'a str>
-    requires within { IsWithinCeilings limits }
+    requires within { IsWithinCeilings judged.limits }
 {
     let data = section.data();
     if data.len() >= 0x1_0000_0000 {
         return None;
     }
-    let mut reader = BinaryReader::new_limited(data, 0, features, limits);
+    let mut reader = BinaryReader::new_limited(data, 0, judged.features, judged.limits);
     for _turn in 0..data.len() {
         let Ok(id) = reader.read_u8() else {
             return None;
@@ -66,28 +65,31 @@ fn exported_function<'a>(section: ExportSectionReader<'a>, index: u32) -> Option
     None
 }
 
-/// The name of a function: that of the name section, or one by which it is exported.
-pub(crate) fn name_of<'a>(
-    alloc: Global,
-    features: WasmFeatures,
-    limits: Limits,
-    bytes: &'a [u8],
+/// The name of a function that a payload has in the name section.
+fn named_in<'a>(
+    judged: Judged<'a>,
+    section: &CustomSectionReader<'a>,
     index: u32,
 ) -> Option<&'a str>
-    requires within { IsWithinCeilings limits }
+    requires within { IsWithinCeilings judged.limits }
 {
-    let mut parser = Parser::new(alloc, 0);
-    parser.set_features(features);
-    parser.set_limits(limits);
+    if section.name() == "name" {
+        return named_function(judged, section, index);
+    }
+    None
+}
+
+/// The name of a function: that of the name section, or one by which it is exported.
+pub(crate) fn name_of<'a>(judged: Judged<'a>, index: u32) -> Option<&'a str>
+    requires within { IsWithinCeilings judged.limits }
+{
     let mut exported = None;
-    for payload in parser.parse_all(bytes) {
+    for payload in payloads(judged) {
         match payload {
             Ok(Payload::ExportSection(section)) => exported = exported_function(section, index),
             Ok(Payload::CustomSection(section)) => {
-                if section.name() == "name" {
-                    if let Some(name) = named_function(&section, features, limits, index) {
-                        return Some(name);
-                    }
+                if let Some(name) = named_in(judged, &section, index) {
+                    return Some(name);
                 }
             }
             Ok(_) => (),

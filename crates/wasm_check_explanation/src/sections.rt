@@ -1,11 +1,12 @@
-//! The sections of a module, as a text names them.
+//! The parts of a module: their names, and the chapters of the standard that have their rules and their bytes.
 
+use crate::place::Offsets;
 use std::ops::Range;
 use wasm_sections::Payload;
 
-/// A part of a module.
-#[derive(Clone, Copy, Debug, PartialEq, Eq)]
-pub(crate) enum Part {
+/// A part of a module: its header, a section or its end.
+#[derive(Clone, Copy)]
+pub enum Part {
     Header,
     Types,
     Imports,
@@ -20,13 +21,15 @@ pub(crate) enum Part {
     DataCount,
     Data,
     Code,
+    /// A custom section.
     Custom,
+    /// A section of an id that the standard does not know.
     Unknown,
     End,
 }
 
 impl Part {
-    /// What it is called.
+    /// What it is called, in a sentence.
     pub(crate) fn name(self) -> &'static str {
         match self {
             Part::Header => "the header",
@@ -46,6 +49,29 @@ impl Part {
             Part::Custom => "a custom section",
             Part::Unknown => "a section of unknown id",
             Part::End => "the module's end",
+        }
+    }
+
+    /// Its word for programs.
+    pub(crate) fn word(self) -> &'static str {
+        match self {
+            Part::Header => "header",
+            Part::Types => "type",
+            Part::Imports => "import",
+            Part::Functions => "function",
+            Part::Tables => "table",
+            Part::Memories => "memory",
+            Part::Tags => "tag",
+            Part::Globals => "global",
+            Part::Exports => "export",
+            Part::Start => "start",
+            Part::Elements => "element",
+            Part::DataCount => "data count",
+            Part::Data => "data",
+            Part::Code => "code",
+            Part::Custom => "custom",
+            Part::Unknown => "unknown",
+            Part::End => "end",
         }
     }
 
@@ -92,38 +118,61 @@ impl Part {
     }
 }
 
-/// Which part a payload is, and its offsets.
-pub(crate) fn part_of(payload: &Payload<'_>) -> (Part, Range<u64>) {
+/// These offsets.
+fn offsets(range: Range<u64>) -> Offsets {
+    Offsets {
+        start: range.start,
+        end: range.end,
+    }
+}
+
+/// Which part a payload is.
+pub(crate) fn part_of(payload: &Payload<'_>) -> Part {
     match payload {
-        Payload::Version {
-            num: _,
-            encoding: _,
-            range,
-        } => (Part::Header, range.start..range.end),
-        Payload::TypeSection(section) => (Part::Types, section.range()),
-        Payload::ImportSection(section) => (Part::Imports, section.range()),
-        Payload::FunctionSection(section) => (Part::Functions, section.range()),
-        Payload::TableSection(section) => (Part::Tables, section.range()),
-        Payload::MemorySection(section) => (Part::Memories, section.range()),
-        Payload::TagSection(section) => (Part::Tags, section.range()),
-        Payload::GlobalSection(section) => (Part::Globals, section.range()),
-        Payload::ExportSection(section) => (Part::Exports, section.range()),
-        Payload::StartSection { func: _, range } => (Part::Start, range.start..range.end),
-        Payload::ElementSection(section) => (Part::Elements, section.range()),
-        Payload::DataCountSection { count: _, range } => (Part::DataCount, range.start..range.end),
-        Payload::DataSection(section) => (Part::Data, section.range()),
+        Payload::Version { .. } => Part::Header,
+        Payload::TypeSection(_) => Part::Types,
+        Payload::ImportSection(_) => Part::Imports,
+        Payload::FunctionSection(_) => Part::Functions,
+        Payload::TableSection(_) => Part::Tables,
+        Payload::MemorySection(_) => Part::Memories,
+        Payload::TagSection(_) => Part::Tags,
+        Payload::GlobalSection(_) => Part::Globals,
+        Payload::ExportSection(_) => Part::Exports,
+        Payload::StartSection { .. } => Part::Start,
+        Payload::ElementSection(_) => Part::Elements,
+        Payload::DataCountSection { .. } => Part::DataCount,
+        Payload::DataSection(_) => Part::Data,
+        Payload::CodeSectionStart { .. } => Part::Code,
+        Payload::CodeSectionEntry(_) => Part::Code,
+        Payload::CustomSection(_) => Part::Custom,
+        Payload::UnknownSection { .. } => Part::Unknown,
+        Payload::End(_) => Part::End,
+    }
+}
+
+/// The offsets of a payload.
+pub(crate) fn offsets_of(payload: &Payload<'_>) -> Offsets {
+    match payload {
+        Payload::Version { range, .. } => offsets(range.start..range.end),
+        Payload::TypeSection(section) => offsets(section.range()),
+        Payload::ImportSection(section) => offsets(section.range()),
+        Payload::FunctionSection(section) => offsets(section.range()),
+        Payload::TableSection(section) => offsets(section.range()),
+        Payload::MemorySection(section) => offsets(section.range()),
+        Payload::TagSection(section) => offsets(section.range()),
+        Payload::GlobalSection(section) => offsets(section.range()),
+        Payload::ExportSection(section) => offsets(section.range()),
+        Payload::StartSection { range, .. } => offsets(range.start..range.end),
+        Payload::ElementSection(section) => offsets(section.range()),
+        Payload::DataCountSection { range, .. } => offsets(range.start..range.end),
+        Payload::DataSection(section) => offsets(section.range()),
         Payload::CodeSectionStart {
-            count: _,
             unchecked_range,
-            size: _,
-        } => (Part::Code, unchecked_range.start..unchecked_range.end),
-        Payload::CodeSectionEntry(body) => (Part::Code, body.range()),
-        Payload::CustomSection(section) => (Part::Custom, section.range()),
-        Payload::UnknownSection {
-            id: _,
-            contents: _,
-            range,
-        } => (Part::Unknown, range.start..range.end),
-        Payload::End(offset) => (Part::End, *offset..*offset),
+            ..
+        } => offsets(unchecked_range.start..unchecked_range.end),
+        Payload::CodeSectionEntry(body) => offsets(body.range()),
+        Payload::CustomSection(section) => offsets(section.range()),
+        Payload::UnknownSection { range, .. } => offsets(range.start..range.end),
+        Payload::End(offset) => offsets(*offset..*offset),
     }
 }

@@ -1,5 +1,5 @@
 -- What is shown stays within its line.
-use Rattle.std.proofs.Common.{◌&&◌, bytes_eq, ◌≡◌, ◌<◌, ◌≤◌, ◌+◌, ◌/◌, ◌%◌, ◌==◌, ℕ, zero, suc, Bool, true, false, List, [], ◌∷◌, ◌++◌, cond, sym, refl, length, encode_utf8, codes, flat_map, get_or, append-nil, append_assoc, arith, nat_lt, nat_le, ◌⊎◌, inl, inr, rules}
+use Rattle.std.proofs.Common.{◌&&◌, ◌≡◌, ◌<◌, ◌≤◌, ◌+◌, ◌/◌, ◌%◌, ◌==◌, ℕ, zero, suc, Bool, true, false, List, [], ◌∷◌, ◌++◌, cond, sym, refl, length, encode_utf8, codes, flat_map, get_or, append-nil, append_assoc, arith, nat_lt, nat_le, ◌⊎◌, inl, inr, rules}
 use Rattle.std.proofs.lemmas.Bool.{cases_lt}
 use Rattle.std.proofs.lemmas.Grind.{common_steps}
 use Rattle.std.specs.List.{list_all}
@@ -10,22 +10,27 @@ use Rattle.std.proofs.lemmas.Str.{inside_one}
 use Rattle.std.proofs.lemmas.List.Elements.{All-weaker, All-append, All-cons, All-nil, All-from_get_or}
 use Rattle.wasm_check_lines.specs.Shown.{shown, shown_char, is_unshown, escape}
 use Rattle.wasm_check_lines.specs.LineLaws.{StaysInLine, IsOneLine, LinesEndOnce}
-use Rattle.std.specs.Prelude.{IfSome, Option, Some, None, String, string_bytes}
+use Rattle.std.specs.Prelude.{IfSome, Option, Some, None, String, string_bytes, option_map}
 use Rattle.wasm_types.specs.decoding.ErrorValue.{ErrorValue}
 use Rattle.wasm_types.specs.decoding.declared.error.ErrorKind.{ErrorKind}
 use Rattle.wasm_types.specs.decoding.declared.error.ErrorKind.TheVariants.{EndOfData, MissingFeature, OutOfMemory, Failed, Other}
 use Rattle.wasm_check_lines.specs.Json.{json_text, json_char, json_escape, zeros}
 use Rattle.wasm_check_lines.specs.FeatureWords.{worded, first_word, word_for, words_from_0, words_from_7, words_from_14, words_from_21}
-use Rattle.wasm_types.specs.settings.Features.{mask, ComponentModel}
 use Rattle.wasm_types.specs.settings.declared.Limits.{Limits}
-use Rattle.wasm_check_lines.specs.Causes.{Cause, Vectors, Limit, Feature, Another, allowing, begins, cause_of, content_fronts, entity_fronts, feature_cause, feature_word, kind_feature, limit_cause, limit_word, memories_message, message_feature, segment_fronts, single_limit, tables_message, type_fronts, vectors_message, worded_by}
-use Rattle.wasm_check_lines.specs.Hints.{feature_hint, is_text, limit_hint, text_hint, hint_for, hint_of}
+use Rattle.wasm_types.specs.settings.declared.WasmFeatures.{WasmFeatures}
+use Rattle.wasm_check_lines.specs.declared.limit.Limit.{Limit as Chosen}
+use Rattle.wasm_check_lines.specs.declared.limit.Limit.TheVariants as limits
+use Rattle.wasm_check_lines.specs.declared.causes.Cause.{Cause}
+use Rattle.wasm_check_lines.specs.declared.causes.Cause.TheVariants.{Vectors, Limit, Feature, FixedLimit, Types, Another}
+use Rattle.wasm_check_lines.specs.Causes.{cause_of}
+use Rattle.wasm_check_lines.specs.Limits.{word_of}
+use Rattle.wasm_check_lines.specs.Hints.{feature_hint, features_hint, framed, is_text, limit_hint, text_hint, hint_for, hint_of}
 use Rattle.wasm_check_lines.specs.Forms.{valid_line, invalid_line, hint_line, valid_object, invalid_object, error_word, kind_word, cause_member, help_members, hint_member, refusal_object}
 use Rattle.wasm_check_lines.specs.Explanations.{array_text, explanation_member, member_text, next_item, note_line, value_text}
 use Rattle.wasm_check_lines.specs.declared.notes.Explanation.{Explanation}
 use Rattle.wasm_check_lines.specs.declared.notes.Member.{Member}
 use Rattle.wasm_check_lines.specs.declared.notes.Value.{Value}
-use Rattle.wasm_check_lines.specs.declared.notes.Value.TheVariants.{Number, Text, Texts}
+use Rattle.wasm_check_lines.specs.declared.notes.Value.TheVariants.{Number, Flag, Text, Texts}
 use Rattle.std.specs.declared.alloc.Global.{Global}
 
 -- both halves of a conjunction
@@ -147,73 +152,34 @@ pub word_stays : (bits : ℕ) → stays_if (word_for bits)
 word_stays bits = first_stays _ _ (worded_stays words_from_0 bits refl)
     (first_stays _ _ (worded_stays words_from_7 bits refl) (first_stays _ _ (worded_stays words_from_14 bits refl) (worded_stays words_from_21 bits refl)))
 
--- a word that a message tells
-worded_by_stays : (rows : List (List ℕ × List ℕ)) (message : List ℕ) → list_all (λ row. list_all (λ b. nat_le 32 b) row.1) rows ≡ true
-    → stays_if (worded_by rows message)
-worded_by_stays [] message e = tt
-worded_by_stays (row ∷ rows) message e = here (begins row.0 message) (first_holds (list_all (λ b. nat_le 32 b) row.1) _ e)
-    (worded_by_stays rows message (rest_holds (list_all (λ b. nat_le 32 b) row.1) _ e))
-  where
-    here : (b : Bool) → list_all (λ b. nat_le 32 b) row.1 ≡ true → stays_if (worded_by rows message) → stays_if (cond b (Some row.1) (worded_by rows message))
-    here true p q = literal row.1 p
-    here false p q = q
-
 -- either of two
 either_stays : (b : Bool) (x y : Option (List ℕ)) → stays_if x → stays_if y → stays_if (cond b x y)
 either_stays true x y p q = p
 either_stays false x y p q = q
 
-single_stays : (l : Limits) (message : List ℕ) → stays_if (single_limit l message)
-single_stays l message = either_stays (begins tables_message message && nat_le l.tables 1) _ _ (literal (codes "tables") refl)
-    (either_stays (begins memories_message message && nat_le l.memories 1) _ _ (literal (codes "memories") refl) tt)
-
-limit_stays : (l : Limits) (message : List ℕ) → stays_if (limit_word l message)
-unfolding limit_word
-limit_stays l message = first_stays _ _ (worded_by_stays type_fronts message refl) (first_stays _ _ (worded_by_stays entity_fronts message refl)
-    (first_stays _ _ (worded_by_stays segment_fronts message refl) (first_stays _ _ (worded_by_stays content_fronts message refl) (single_stays l message))))
-
-allowing_stays : (bits : ℕ) → stays_if (allowing bits)
-allowing_stays bits = either_stays (bits == mask ComponentModel) _ _ tt (word_stays bits)
-
-kind_feature_stays : (k : ErrorKind) → stays_if (kind_feature k)
-kind_feature_stays (EndOfData n) = tt
-kind_feature_stays (MissingFeature f) = allowing_stays f.0
-kind_feature_stays OutOfMemory = tt
-kind_feature_stays Failed = tt
-kind_feature_stays Other = tt
-
-message_feature_stays : (message : List ℕ) → stays_if (message_feature message)
-message_feature_stays message = either_stays (begins tables_message message) _ _ (literal (codes "reference-types") refl)
-    (either_stays (begins memories_message message) _ _ (literal (codes "multi-memory") refl)
-    (either_stays (begins (codes "data count section requires the bulk-memory proposal") message) _ _ (literal (codes "bulk-memory") refl) tt))
-
-feature_stays : (e : ErrorValue) → stays_if (feature_word e)
-unfolding feature_word
-feature_stays e = first_stays _ _ (kind_feature_stays e.kind) (message_feature_stays e.message)
-
--- a cause
-abbrev pub cause_stays : Cause → Type 0
-cause_stays Vectors = Unit {0}
-cause_stays (Limit word) = StaysInLine word
-cause_stays (Feature word) = StaysInLine word
-cause_stays Another = Unit {0}
-
-feature_cause_stays : (o : Option (List ℕ)) → stays_if o → cause_stays (feature_cause o)
-feature_cause_stays None h = tt
-feature_cause_stays (Some word) h = h
-
-limit_cause_stays : (o q : Option (List ℕ)) → stays_if o → stays_if q → cause_stays (limit_cause o q)
-limit_cause_stays None q h i = feature_cause_stays q i
-limit_cause_stays (Some word) q h i = h
-
-this_cause : (b : Bool) (c d : Cause) → cause_stays c → cause_stays d → cause_stays (cond b c d)
-this_cause true c d p q = p
-this_cause false c d p q = q
-
-told_cause_stays : (l : Limits) (e : ErrorValue) → cause_stays (cause_of l e)
-unfolding cause_of
-told_cause_stays l e = this_cause (bytes_eq e.message vectors_message) _ _ tt
-    (limit_cause_stays _ _ (limit_stays l e.message) (feature_stays e))
+-- the word of a limit
+limit_word_stays : (l : Chosen) → StaysInLine (word_of l)
+limit_word_stays limits.Types = literal (codes "types") refl
+limit_word_stays limits.Params = literal (codes "params") refl
+limit_word_stays limits.Results = literal (codes "results") refl
+limit_word_stays limits.Fields = literal (codes "fields") refl
+limit_word_stays limits.StringBytes = literal (codes "string-bytes") refl
+limit_word_stays limits.Imports = literal (codes "imports") refl
+limit_word_stays limits.Exports = literal (codes "exports") refl
+limit_word_stays limits.Functions = literal (codes "functions") refl
+limit_word_stays limits.Globals = literal (codes "globals") refl
+limit_word_stays limits.Tags = literal (codes "tags") refl
+limit_word_stays limits.Tables = literal (codes "tables") refl
+limit_word_stays limits.Memories = literal (codes "memories") refl
+limit_word_stays limits.ElementSegments = literal (codes "element-segments") refl
+limit_word_stays limits.DataSegments = literal (codes "data-segments") refl
+limit_word_stays limits.SegmentItems = literal (codes "segment-items") refl
+limit_word_stays limits.BodyBytes = literal (codes "body-bytes") refl
+limit_word_stays limits.SelectTypes = literal (codes "select-types") refl
+limit_word_stays limits.Locals = literal (codes "locals") refl
+limit_word_stays limits.Catches = literal (codes "catches") refl
+limit_word_stays limits.SubtypingDepth = literal (codes "subtyping-depth") refl
+limit_word_stays limits.TypeSize = literal (codes "type-size") refl
 
 between : (a word b : List ℕ) → list_all (λ b. nat_le 32 b) a ≡ true → StaysInLine word → list_all (λ b. nat_le 32 b) b ≡ true → StaysInLine (a ++ word ++ b)
 between a word b p h q = both (a ++ word) b (both a word (literal a p) h) (literal b q)
@@ -232,14 +198,23 @@ feature_hint_stays : (word : List ℕ) → StaysInLine word → StaysInLine (fea
 unfolding feature_hint
 feature_hint_stays word h = between (codes "--features ") word (codes " allows it") refl h refl
 
-hint_for_stays : (c : Cause) (front : List ℕ) → cause_stays c → stays_if (hint_for c front)
-hint_for_stays Vectors front h = literal (codes "--vectors judges operators on vectors") refl
-hint_for_stays (Limit word) front h = limit_hint_stays word h
-hint_for_stays (Feature word) front h = feature_hint_stays word h
-hint_for_stays Another front h = text_hint_stays front
+mapped_stays : (o : Option (List ℕ)) → stays_if o → stays_if (option_map feature_hint o)
+mapped_stays None h = tt
+mapped_stays (Some word) h = feature_hint_stays word h
+
+features_hint_stays : (f : WasmFeatures) → stays_if (features_hint f)
+features_hint_stays f = mapped_stays (word_for f.0) (word_stays f.0)
+
+hint_for_stays : (c : Cause) (front : List ℕ) → stays_if (hint_for c front)
+hint_for_stays Vectors front = literal (codes "--vectors judges operators on vectors") refl
+hint_for_stays (Limit limit) front = limit_hint_stays (word_of limit) (limit_word_stays limit)
+hint_for_stays (Feature features) front = features_hint_stays features
+hint_for_stays FixedLimit front = tt
+hint_for_stays Types front = tt
+hint_for_stays Another front = text_hint_stays front
 
 pub hint_stays : (l : Limits) (e : ErrorValue) (front : List ℕ) → stays_if (hint_of l e front)
-hint_stays l e front = hint_for_stays (cause_of l e) front (told_cause_stays l e)
+hint_stays l e front = hint_for_stays (cause_of l e) front
 
 -- ---- the lines
 
@@ -290,19 +265,27 @@ error_stays Other = literal (codes "other") refl
 
 kind_stays : (c : Cause) (k : ErrorKind) → StaysInLine (kind_word c k)
 kind_stays Vectors k = literal (codes "vectors") refl
-kind_stays (Limit word) k = literal (codes "limit") refl
-kind_stays (Feature word) k = literal (codes "missing-feature") refl
+kind_stays (Limit limit) k = literal (codes "limit") refl
+kind_stays (Feature features) k = literal (codes "missing-feature") refl
+kind_stays FixedLimit k = error_stays k
+kind_stays Types k = literal (codes "types") refl
 kind_stays Another k = error_stays k
 
-member_stays : (c : Cause) → cause_stays c → StaysInLine (cause_member c)
-member_stays Vectors h = nothing
-member_stays (Limit word) h = between (codes ",\"limit\":\"") word (codes "\"") refl h refl
-member_stays (Feature word) h = between (codes ",\"feature\":\"") word (codes "\"") refl h refl
-member_stays Another h = nothing
+framed_stays : (a : List ℕ) (o : Option (List ℕ)) (b : List ℕ) → list_all (λ b. nat_le 32 b) a ≡ true → stays_if o
+    → list_all (λ b. nat_le 32 b) b ≡ true → StaysInLine (framed a o b)
+framed_stays a None b p h q = nothing
+framed_stays a (Some text) b p h q = between a text b p h q
+
+member_stays : (c : Cause) → StaysInLine (cause_member c)
+member_stays Vectors = nothing
+member_stays (Limit limit) = between (codes ",\"limit\":\"") (word_of limit) (codes "\"") refl (limit_word_stays limit) refl
+member_stays (Feature features) = framed_stays (codes ",\"feature\":\"") (word_for features.0) (codes "\"") refl (word_stays features.0) refl
+member_stays FixedLimit = nothing
+member_stays Types = nothing
+member_stays Another = nothing
 
 hint_member_stays : (o : Option (List ℕ)) → stays_if o → StaysInLine (hint_member o)
-hint_member_stays None h = nothing
-hint_member_stays (Some hint) h = between (codes ",\"hint\":\"") hint (codes "\"") refl h refl
+hint_member_stays o h = framed_stays (codes ",\"hint\":\"") o (codes "\"") refl h refl
 
 item_stays : (text : List ℕ) → StaysInLine (next_item text)
 item_stays text = both (codes ",\"" ++ json_text text) (codes "\"") (both (codes ",\"") (json_text text) (literal (codes ",\"") refl) (json_stays text)) (literal (codes "\"") refl)
@@ -319,6 +302,7 @@ array_stays (text ∷ texts) = let rest = flat_map (λ n. next_item (string_byte
 
 value_stays : (v : Value) → StaysInLine (value_text v)
 value_stays (Number n) = digits_stay 10 n
+value_stays (Flag flag) = chosen flag _ _ (literal (codes "true") refl) (literal (codes "false") refl)
 value_stays (Text text) = between (codes "\"") (json_text (string_bytes text)) (codes "\"") refl (json_stays (string_bytes text)) refl
 value_stays (Texts texts) = array_stays texts.items
 
@@ -339,9 +323,9 @@ explanation_stays (Some x) = between_texts (codes ",\"explanation\":{\"rules\":\
 decimal_stays : (n : ℕ) → StaysInLine (decimal n)
 decimal_stays n = digits_stay 10 n
 
-members_stay : (c : Cause) (front : List ℕ) (x : Option Explanation) → cause_stays c → StaysInLine (help_members c front x)
-members_stay c front x h = both (cause_member c ++ hint_member (hint_for c front)) (explanation_member x)
-    (both (cause_member c) (hint_member (hint_for c front)) (member_stays c h) (hint_member_stays (hint_for c front) (hint_for_stays c front h))) (explanation_stays x)
+members_stay : (c : Cause) (front : List ℕ) (x : Option Explanation) → StaysInLine (help_members c front x)
+members_stay c front x = both (cause_member c ++ hint_member (hint_for c front)) (explanation_member x)
+    (both (cause_member c) (hint_member (hint_for c front)) (member_stays c) (hint_member_stays (hint_for c front) (hint_for_stays c front))) (explanation_stays x)
 
 object_told : (name : List ℕ) (offset : ℕ) (kind message members : List ℕ) → StaysInLine kind → StaysInLine members
     → IsOneLine (refusal_object name offset kind message members)
@@ -366,7 +350,7 @@ object_told name offset kind message members in_kind in_members =
 
 refusal_ends : (name : List ℕ) (l : Limits) (e : ErrorValue) (front : List ℕ) (x : Option Explanation) → IsOneLine (invalid_object name l e front x)
 refusal_ends name l e front x = object_told name e.offset (kind_word (cause_of l e) e.kind) e.message (help_members (cause_of l e) front x)
-    (kind_stays (cause_of l e) e.kind) (members_stay (cause_of l e) front x (told_cause_stays l e))
+    (kind_stays (cause_of l e) e.kind) (members_stay (cause_of l e) front x)
 
 pub lines_end_once : LinesEndOnce
 lines_end_once = record {

@@ -4,4 +4,5 @@ pub mod FormLemmas
 pub mod HintLemmas
 pub mod InLine
 pub mod Rows
+pub mod CauseRows
 pub mod ShownApart

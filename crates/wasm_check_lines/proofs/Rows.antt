@@ -5,7 +5,7 @@ use Rattle.std.specs.Str.{chars}
 use Rattle.wasm_check_lines.specs.Shown.{shown}
 use Rattle.wasm_check_lines.specs.Json.{json_text}
 use Rattle.wasm_types.specs.settings.Limits.{default_limits}
-use Rattle.wasm_check_lines.specs.Causes.{cause_of, feature_word, limit_word}
+use Rattle.wasm_check_lines.specs.Causes.{cause_of, feature_lacking, limit_meant}
 use Rattle.wasm_check_lines.specs.Hints.{feature_hint, is_text, limit_hint}
 use Rattle.wasm_check_lines.specs.ShownRows.{ShownRows}
 use Rattle.wasm_check_lines.specs.FormRows.{FormRows}
@@ -27,21 +27,14 @@ shown_rows = record {
 }
 
 pub form_rows : FormRows
-unfolding shown json_text is_text cause_of limit_word feature_word limit_hint feature_hint default_limits chars digits lib.Utf8.encode
+unfolding shown json_text is_text cause_of limit_meant feature_lacking limit_hint feature_hint default_limits chars digits lib.Utf8.encode
 form_rows = record {
   named = refl;
   refused = refl;
   vectors = refl;
   locals = refl;
-  count = refl;
-  named_alike = refl;
-  tables = refl;
-  one_table = refl;
   memories = refl;
-  one_memory = refl;
-  data_count = refl;
-  lacks = refl;
-  component_model = refl;
+  types = refl;
   text = refl;
   other = refl;
   hint = refl;
@@ -59,5 +52,7 @@ form_rows = record {
   note = refl;
   valid_json = refl;
   invalid_json = refl;
+  types_json = refl;
+  feature_json = refl;
   limit_json = refl;
 }

@@ -5,70 +5,77 @@ use Rattle.std.specs.List.{starts_with}
 use Rattle.wasm_types.specs.decoding.ErrorValue.{ErrorValue}
 use Rattle.wasm_types.specs.decoding.declared.error.ErrorKind.{ErrorKind}
 use Rattle.wasm_types.specs.decoding.declared.error.ErrorKind.TheVariants.{EndOfData, MissingFeature, OutOfMemory, Failed, Other}
-use Rattle.wasm_types.specs.settings.Features.{mask, ComponentModel}
+use Rattle.wasm_types.specs.settings.Features.{mask, ReferenceTypes, MultiMemory, BulkMemory, ComponentModel}
 use Rattle.wasm_types.specs.settings.declared.Limits.{Limits}
-use Rattle.wasm_check_lines.specs.declared.causes.Cause as told
-use Rattle.wasm_check_lines.specs.declared.causes.Cause.TheVariants as variants
-use Rattle.wasm_check_lines.specs.FeatureWords.{first_word, word_for}
+use Rattle.wasm_types.specs.settings.declared.WasmFeatures.{WasmFeatures}
+use Rattle.wasm_check_lines.specs.declared.limit.Limit.{Limit}
+use Rattle.wasm_check_lines.specs.declared.limit.Limit.TheVariants as limits
+use Rattle.wasm_check_lines.specs.declared.causes.Cause.{Cause}
+use Rattle.wasm_check_lines.specs.declared.causes.Cause.TheVariants as causes
 
 -- the message begins so
 abbrev pub begins : List ℕ → List ℕ → Bool
 begins front message = starts_with eqb message front
 
--- the word beside the first of these texts with which a message begins
-abbrev pub worded_by : List (List ℕ × List ℕ) → List ℕ → Option (List ℕ)
-worded_by [] message = None
-worded_by (row ∷ rows) message = if begins row.0 message then Some row.1 else worded_by rows message
+-- the limit beside the first of these texts with which a message begins
+abbrev pub meant_by : List (List ℕ × Limit) → List ℕ → Option Limit
+meant_by [] message = None
+meant_by (row ∷ rows) message = if begins row.0 message then Some row.1 else meant_by rows message
 
--- ---- limits, by their names in `--limits`
+-- the first of two that is there
+abbrev pub first_of : {A : Type 0} → Option A → Option A → Option A
+first_of (Some a) other = Some a
+first_of None other = other
+
+-- ---- limits
 
 -- those of types
-abbrev pub type_fronts : List (List ℕ × List ℕ)
-type_fronts = (codes "types count exceeds limit of ", codes "types")
-    ∷ (codes "multiple types", codes "types")
-    ∷ (codes "rec group types size is out of bounds", codes "types")
-    ∷ (codes "function params size is out of bounds", codes "params")
-    ∷ (codes "function returns size is out of bounds", codes "results")
-    ∷ (codes "struct fields size is out of bounds", codes "fields")
-    ∷ (codes "sub type hierarchy too deep: ", codes "subtyping-depth")
-    ∷ (codes "effective type size exceeds the limit of ", codes "type-size")
+abbrev pub type_fronts : List (List ℕ × Limit)
+type_fronts = (codes "types count exceeds limit of ", limits.Types)
+    ∷ (codes "multiple types", limits.Types)
+    ∷ (codes "rec group types size is out of bounds", limits.Types)
+    ∷ (codes "function params size is out of bounds", limits.Params)
+    ∷ (codes "function returns size is out of bounds", limits.Results)
+    ∷ (codes "struct fields size is out of bounds", limits.Fields)
+    ∷ (codes "sub type hierarchy too deep: ", limits.SubtypingDepth)
+    ∷ (codes "effective type size exceeds the limit of ", limits.TypeSize)
     ∷ []
 
 -- those of what a module declares and imports
-abbrev pub entity_fronts : List (List ℕ × List ℕ)
-entity_fronts = (codes "imports count exceeds limit of ", codes "imports")
-    ∷ (codes "multiple imports", codes "imports")
-    ∷ (codes "functions count exceeds limit of ", codes "functions")
-    ∷ (codes "multiple functions", codes "functions")
-    ∷ (codes "globals count exceeds limit of ", codes "globals")
-    ∷ (codes "multiple globals", codes "globals")
-    ∷ (codes "tags count exceeds limit of ", codes "tags")
-    ∷ (codes "multiple tags", codes "tags")
-    ∷ (codes "tables count exceeds limit of ", codes "tables")
-    ∷ (codes "memories count exceeds limit of ", codes "memories")
+abbrev pub entity_fronts : List (List ℕ × Limit)
+entity_fronts = (codes "imports count exceeds limit of ", limits.Imports)
+    ∷ (codes "multiple imports", limits.Imports)
+    ∷ (codes "functions count exceeds limit of ", limits.Functions)
+    ∷ (codes "multiple functions", limits.Functions)
+    ∷ (codes "globals count exceeds limit of ", limits.Globals)
+    ∷ (codes "multiple globals", limits.Globals)
+    ∷ (codes "tags count exceeds limit of ", limits.Tags)
+    ∷ (codes "multiple tags", limits.Tags)
+    ∷ (codes "tables count exceeds limit of ", limits.Tables)
+    ∷ (codes "memories count exceeds limit of ", limits.Memories)
     ∷ []
 
 -- those of exports and segments
-abbrev pub segment_fronts : List (List ℕ × List ℕ)
-segment_fronts = (codes "exports count exceeds limit of ", codes "exports")
-    ∷ (codes "multiple exports", codes "exports")
-    ∷ (codes "element segments count exceeds limit of ", codes "element-segments")
-    ∷ (codes "multiple element segments", codes "element-segments")
-    ∷ (codes "data segments count exceeds limit of ", codes "data-segments")
-    ∷ (codes "multiple data segments", codes "data-segments")
-    ∷ (codes "data count section specifies too many data segments", codes "data-segments")
-    ∷ (codes "number of elements is out of bounds", codes "segment-items")
+abbrev pub segment_fronts : List (List ℕ × Limit)
+segment_fronts = (codes "exports count exceeds limit of ", limits.Exports)
+    ∷ (codes "multiple exports", limits.Exports)
+    ∷ (codes "element segments count exceeds limit of ", limits.ElementSegments)
+    ∷ (codes "multiple element segments", limits.ElementSegments)
+    ∷ (codes "data segments count exceeds limit of ", limits.DataSegments)
+    ∷ (codes "multiple data segments", limits.DataSegments)
+    ∷ (codes "data count section specifies too many data segments", limits.DataSegments)
+    ∷ (codes "number of elements is out of bounds", limits.SegmentItems)
     ∷ []
 
 -- those of names and bodies
-abbrev pub content_fronts : List (List ℕ × List ℕ)
-content_fronts = (codes "string size out of bounds", codes "string-bytes")
-    ∷ (codes "function body size count exceeds limit of ", codes "body-bytes")
-    ∷ (codes "br_table size is out of bounds", codes "body-bytes")
-    ∷ (codes "select types size is out of bounds", codes "select-types")
-    ∷ (codes "too many locals: ", codes "locals")
-    ∷ (codes "catches size is out of bounds", codes "catches")
-    ∷ (codes "resume table size is out of bounds", codes "catches")
+abbrev pub content_fronts : List (List ℕ × Limit)
+content_fronts = (codes "string size out of bounds", limits.StringBytes)
+    ∷ (codes "function body size count exceeds limit of ", limits.BodyBytes)
+    ∷ (codes "br_table size is out of bounds", limits.BodyBytes)
+    ∷ (codes "select types size is out of bounds", limits.SelectTypes)
+    ∷ (codes "too many locals: ", limits.Locals)
+    ∷ (codes "catches size is out of bounds", limits.Catches)
+    ∷ (codes "resume table size is out of bounds", limits.Catches)
     ∷ []
 
 -- Several tables or memories are refused for the want of a feature, or because the limit allows but one.
@@ -78,68 +85,60 @@ tables_message = codes "multiple tables"
 abbrev pub memories_message : List ℕ
 memories_message = codes "multiple memories"
 
-abbrev pub single_limit : Limits → List ℕ → Option (List ℕ)
-single_limit l message = if begins tables_message message && nat_le l.tables 1 then Some (codes "tables")
-    else (if begins memories_message message && nat_le l.memories 1 then Some (codes "memories") else None)
+abbrev pub single_limit : Limits → List ℕ → Option Limit
+single_limit l message = if begins tables_message message && nat_le l.tables 1 then Some limits.Tables
+    else (if begins memories_message message && nat_le l.memories 1 then Some limits.Memories else None)
 
--- the name of the limit that refused it, if one did
-unfoldable pub limit_word : Limits → List ℕ → Option (List ℕ)
-limit_word l message = first_word (worded_by type_fronts message) (first_word (worded_by entity_fronts message)
-    (first_word (worded_by segment_fronts message) (first_word (worded_by content_fronts message) (single_limit l message))))
+-- the limit that refused it, if one did
+unfoldable pub limit_meant : Limits → List ℕ → Option Limit
+limit_meant l message = first_of (meant_by type_fronts message) (first_of (meant_by entity_fronts message)
+    (first_of (meant_by segment_fronts message) (first_of (meant_by content_fronts message) (single_limit l message))))
 
--- ---- features, by their words in `--features`
+-- ---- features
 
--- The word that allows these features. No word has components judged.
-abbrev pub allowing : ℕ → Option (List ℕ)
-allowing bits = if bits == mask ComponentModel then None else word_for bits
+-- These features, if allowing them helps. No feature has components judged.
+abbrev pub allowing : WasmFeatures → Option WasmFeatures
+allowing features = if features.0 == mask ComponentModel then None else Some features
 
 -- by the kind of the error
-abbrev pub kind_feature : ErrorKind → Option (List ℕ)
-kind_feature (MissingFeature features) = allowing features.0
+abbrev pub kind_feature : ErrorKind → Option WasmFeatures
+kind_feature (MissingFeature features) = allowing features
 kind_feature (EndOfData needed) = None
 kind_feature OutOfMemory = None
 kind_feature Failed = None
 kind_feature Other = None
 
 -- by its message
-abbrev pub message_feature : List ℕ → Option (List ℕ)
-message_feature message = if begins tables_message message then Some (codes "reference-types")
-    else (if begins memories_message message then Some (codes "multi-memory")
-    else (if begins (codes "data count section requires the bulk-memory proposal") message then Some (codes "bulk-memory") else None))
+abbrev pub message_feature : List ℕ → Option WasmFeatures
+message_feature message = if begins tables_message message then Some (record { 0 = mask ReferenceTypes })
+    else (if begins memories_message message then Some (record { 0 = mask MultiMemory })
+    else (if begins (codes "data count section requires the bulk-memory proposal") message then Some (record { 0 = mask BulkMemory }) else None))
 
--- the word that allows it, if one does
-unfoldable pub feature_word : ErrorValue → Option (List ℕ)
-feature_word e = first_word (kind_feature e.kind) (message_feature e.message)
+-- the features that are lacking, if some are
+unfoldable pub feature_lacking : ErrorValue → Option WasmFeatures
+feature_lacking e = first_of (kind_feature e.kind) (message_feature e.message)
 
 -- ---- causes
-
--- Why it was refused: for want of the switch for vectors, by a limit, for want of a feature, or for another reason.
-pub data Cause : Type 0 where
-  Vectors : Cause
-  Limit : List ℕ → Cause
-  Feature : List ℕ → Cause
-  Another : Cause
 
 -- what the library says of an operator on vectors while the switch for them is off
 abbrev pub vectors_message : List ℕ
 vectors_message = codes "unexpected SIMD opcode: 0xfd"
 
-abbrev pub feature_cause : Option (List ℕ) → Cause
-feature_cause (Some word) = Feature word
-feature_cause None = Another
+-- the cause by the message alone
+abbrev pub message_cause : List ℕ → Cause
+message_cause message = if begins (codes "type mismatch") message then causes.Types
+    else (if begins (codes "implementation limit: ") message then causes.FixedLimit
+    else (if begins (codes "type index greater than implementation limits") message then causes.FixedLimit else causes.Another))
 
-abbrev pub limit_cause : Option (List ℕ) → Option (List ℕ) → Cause
-limit_cause (Some word) feature = Limit word
-limit_cause None feature = feature_cause feature
+abbrev pub feature_cause : Option WasmFeatures → List ℕ → Cause
+feature_cause (Some features) message = causes.Feature features
+feature_cause None message = message_cause message
+
+abbrev pub limit_cause : Option Limit → Option WasmFeatures → List ℕ → Cause
+limit_cause (Some limit) features message = causes.Limit limit
+limit_cause None features message = feature_cause features message
 
 -- the cause of an error under these limits
 unfoldable pub cause_of : Limits → ErrorValue → Cause
-cause_of l e = if bytes_eq e.message vectors_message then Vectors
-    else limit_cause (limit_word l e.message) (feature_word e)
-
--- a cause as the code has it
-abbrev pub cause_seen : told.Cause → Cause
-cause_seen variants.Vectors = Vectors
-cause_seen (variants.Limit word) = Limit word.now
-cause_seen (variants.Feature word) = Feature word.now
-cause_seen variants.Another = Another
+cause_of l e = if bytes_eq e.message vectors_message then causes.Vectors
+    else limit_cause (limit_meant l e.message) (feature_lacking e) e.message

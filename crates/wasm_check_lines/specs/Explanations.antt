@@ -1,11 +1,11 @@
 -- Explanations: what is known of the place of a fault.
-use Rattle.std.specs.Prelude.{ℕ, List, [], ◌∷◌, ◌++◌, flat_map, codes, Option, Some, None, String, string_bytes}
+use Rattle.std.specs.Prelude.{ℕ, List, [], ◌∷◌, ◌++◌, flat_map, codes, Option, Some, None, String, string_bytes, if◌then◌else◌}
 use Rattle.std.specs.Fmt.{decimal}
 use Rattle.std.specs.declared.alloc.Global.{Global}
 use Rattle.wasm_check_lines.specs.declared.notes.Explanation.{Explanation}
 use Rattle.wasm_check_lines.specs.declared.notes.Member.{Member}
 use Rattle.wasm_check_lines.specs.declared.notes.Value.{Value}
-use Rattle.wasm_check_lines.specs.declared.notes.Value.TheVariants.{Number, Text, Texts}
+use Rattle.wasm_check_lines.specs.declared.notes.Value.TheVariants.{Number, Flag, Text, Texts}
 use Rattle.wasm_check_lines.specs.Shown.{shown}
 use Rattle.wasm_check_lines.specs.Json.{json_text}
 
@@ -34,6 +34,7 @@ array_text (text ∷ texts) = codes "[\"" ++ json_text (string_bytes text) ++ co
 -- what a member has
 abbrev pub value_text : Value → List ℕ
 value_text (Number n) = decimal n
+value_text (Flag flag) = if flag then codes "true" else codes "false"
 value_text (Text text) = codes "\"" ++ json_text (string_bytes text) ++ codes "\""
 value_text (Texts texts) = array_text texts.items
 

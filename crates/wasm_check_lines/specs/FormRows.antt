@@ -3,7 +3,7 @@ use Rattle.std.specs.Prelude.{◌≡◌, ℕ, [], List, Option, codes}
 use Rattle.wasm_types.specs.decoding.ErrorValue.{ErrorValue}
 use Rattle.wasm_types.specs.decoding.declared.error.ErrorKind.TheVariants.{Other, MissingFeature}
 use Rattle.wasm_types.specs.settings.Limits.{default_limits}
-use Rattle.wasm_check_lines.specs.Causes.{Cause, Vectors, Limit, Feature, Another, cause_of, kind_feature}
+use Rattle.wasm_check_lines.specs.declared.causes.Cause.TheVariants.{Another}
 use Rattle.wasm_check_lines.specs.Hints.{is_text, hint_for, hint_of}
 use Rattle.wasm_check_lines.specs.Explanations.{note_line}
 use Rattle.wasm_check_lines.specs.FeatureWords.{word_for}
@@ -14,27 +14,20 @@ use Rattle.std.specs.Prelude.{true, false, Some, None}
 abbrev pub other_at : ℕ → List ℕ → ErrorValue
 other_at offset message = record { kind = Other; offset = offset; message = message }
 
--- the cause of an error of content under the limits by default, and what a person can do about it
-abbrev pub told_of : List ℕ → Cause × Option (List ℕ)
-told_of message = (cause_of default_limits (other_at 0 message), hint_of default_limits (other_at 0 message) [])
+-- what a person can do about an error of content under the limits by default
+abbrev pub helped : List ℕ → Option (List ℕ)
+helped message = hint_of default_limits (other_at 0 message) []
 
 pub record FormRows : Type 0 where
   pub named : valid_line (codes "a\n") ≡ codes "a\\u{a}: valid\n"
   pub refused : invalid_line (codes "a") (other_at 37 (codes "duplicate export name `\nv: valid\n` already defined"))
       ≡ codes "a: invalid at 0x25: duplicate export name `\\u{a}v: valid\\u{a}` already defined\n"
-  pub vectors : told_of (codes "unexpected SIMD opcode: 0xfd") ≡ (Vectors, Some (codes "--vectors judges operators on vectors"))
-  pub locals : told_of (codes "too many locals: locals exceed maximum") ≡ (Limit (codes "locals"), Some (codes "--limits locals=N sets this limit"))
-  pub count : cause_of default_limits (other_at 0 (codes "multiple types")) ≡ Limit (codes "types")
-  pub named_alike : cause_of default_limits (other_at 0 (codes "duplicate export name `too many locals: ` already defined")) ≡ Another
-  pub tables : cause_of default_limits (other_at 0 (codes "multiple tables")) ≡ Feature (codes "reference-types")
-  pub one_table : cause_of (record default_limits { tables = 1 }) (other_at 0 (codes "multiple tables")) ≡ Limit (codes "tables")
-  pub memories : told_of (codes "multiple memories") ≡ (Feature (codes "multi-memory"), Some (codes "--features multi-memory allows it"))
-  pub one_memory : cause_of (record default_limits { memories = 1 }) (other_at 0 (codes "multiple memories")) ≡ Limit (codes "memories")
-  pub data_count : cause_of default_limits (other_at 0 (codes "data count section requires the bulk-memory proposal")) ≡ Feature (codes "bulk-memory")
-  pub lacks : kind_feature (MissingFeature (record { 0 = 0x80000 })) ≡ Some (codes "gc")
-  pub component_model : kind_feature (MissingFeature (record { 0 = 0x10000 })) ≡ None
+  pub vectors : helped (codes "unexpected SIMD opcode: 0xfd") ≡ Some (codes "--vectors judges operators on vectors")
+  pub locals : helped (codes "too many locals: locals exceed maximum") ≡ Some (codes "--limits locals=N sets this limit")
+  pub memories : helped (codes "multiple memories") ≡ Some (codes "--features multi-memory allows it")
+  pub types : helped (codes "type mismatch: expected i32, found i64") ≡ None
   pub text : hint_for Another (codes " \n(module)") ≡ Some (codes "this is the text format; wasm-check judges the binary format")
-  pub other : told_of (codes "x") ≡ (Another, None)
+  pub other : helped (codes "x") ≡ None
   pub hint : hint_line (Some (codes "x")) ≡ codes "  x\n"
   pub no_hint : hint_line None ≡ []
   pub spaced : is_text (codes "\t\r\n (module $m)") ≡ true
@@ -51,5 +44,9 @@ pub record FormRows : Type 0 where
   pub valid_json : valid_object (codes "a\"\\\n") ≡ codes "{\"file\":\"a\\\"\\\\\\u000a\",\"valid\":true}\n"
   pub invalid_json : invalid_object (codes "a") default_limits (other_at 255 (codes "m")) [] None
       ≡ codes "{\"file\":\"a\",\"valid\":false,\"offset\":255,\"kind\":\"other\",\"message\":\"m\"}\n"
+  pub types_json : invalid_object (codes "a") default_limits (other_at 1 (codes "type mismatch")) [] None
+      ≡ codes "{\"file\":\"a\",\"valid\":false,\"offset\":1,\"kind\":\"types\",\"message\":\"type mismatch\"}\n"
+  pub feature_json : invalid_object (codes "a") default_limits (record { kind = MissingFeature (record { 0 = 0x80000 }); offset = 1; message = codes "m" }) [] None
+      ≡ codes "{\"file\":\"a\",\"valid\":false,\"offset\":1,\"kind\":\"missing-feature\",\"message\":\"m\",\"feature\":\"gc\",\"hint\":\"--features gc allows it\"}\n"
   pub limit_json : invalid_object (codes "a") default_limits (other_at 1 (codes "struct fields size is out of bounds")) [] None
       ≡ codes "{\"file\":\"a\",\"valid\":false,\"offset\":1,\"kind\":\"limit\",\"message\":\"struct fields size is out of bounds\",\"limit\":\"fields\",\"hint\":\"--limits fields=N sets this limit\"}\n"

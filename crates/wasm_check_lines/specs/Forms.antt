@@ -7,7 +7,11 @@ use Rattle.wasm_types.specs.decoding.declared.error.ErrorKind.TheVariants.{EndOf
 use Rattle.wasm_check_lines.specs.declared.forms.Form.{Form}
 use Rattle.wasm_check_lines.specs.declared.forms.Form.TheVariants.{Lines, Json, Quiet}
 use Rattle.wasm_types.specs.settings.declared.Limits.{Limits}
-use Rattle.wasm_check_lines.specs.Causes.{Cause, Vectors, Limit, Feature, Another, cause_of}
+use Rattle.wasm_check_lines.specs.declared.causes.Cause.{Cause}
+use Rattle.wasm_check_lines.specs.declared.causes.Cause.TheVariants.{Vectors, Limit, Feature, FixedLimit, Types, Another}
+use Rattle.wasm_check_lines.specs.Causes.{cause_of}
+use Rattle.wasm_check_lines.specs.Limits.{word_of}
+use Rattle.wasm_check_lines.specs.FeatureWords.{word_for}
 use Rattle.wasm_check_lines.specs.Shown.{shown}
 use Rattle.wasm_check_lines.specs.Json.{json_text}
 use Rattle.wasm_check_lines.specs.declared.notes.Explanation.{Explanation}
@@ -50,15 +54,19 @@ error_word Other = codes "other"
 -- the word of a cause
 abbrev pub kind_word : Cause → ErrorKind → List ℕ
 kind_word Vectors kind = codes "vectors"
-kind_word (Limit word) kind = codes "limit"
-kind_word (Feature word) kind = codes "missing-feature"
+kind_word (Limit limit) kind = codes "limit"
+kind_word (Feature features) kind = codes "missing-feature"
+kind_word FixedLimit kind = error_word kind
+kind_word Types kind = codes "types"
 kind_word Another kind = error_word kind
 
 -- the member with the word of `--features` that allows it, or of the limit that refused it
 abbrev pub cause_member : Cause → List ℕ
 cause_member Vectors = []
-cause_member (Limit word) = codes ",\"limit\":\"" ++ word ++ codes "\""
-cause_member (Feature word) = codes ",\"feature\":\"" ++ word ++ codes "\""
+cause_member (Limit limit) = codes ",\"limit\":\"" ++ word_of limit ++ codes "\""
+cause_member (Feature features) = framed (codes ",\"feature\":\"") (word_for features.0) (codes "\"")
+cause_member FixedLimit = []
+cause_member Types = []
 cause_member Another = []
 
 -- the member with a hint, if there is one

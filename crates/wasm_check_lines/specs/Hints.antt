@@ -1,8 +1,13 @@
 -- What a person can do about a refusal, as its cause and the first bytes of the input tell it.
-use Rattle.std.specs.Prelude.{ℕ, Bool, false, ◌==◌, ◌||◌, List, [], ◌∷◌, ◌++◌, take, Option, Some, None, codes, bytes_eq, if◌then◌else◌}
+use Rattle.std.specs.Prelude.{ℕ, Bool, false, ◌==◌, ◌||◌, List, [], ◌∷◌, ◌++◌, take, Option, Some, None, option_map, codes, bytes_eq, if◌then◌else◌}
 use Rattle.wasm_types.specs.decoding.ErrorValue.{ErrorValue}
 use Rattle.wasm_types.specs.settings.declared.Limits.{Limits}
-use Rattle.wasm_check_lines.specs.Causes.{Cause, Vectors, Limit, Feature, Another, cause_of}
+use Rattle.wasm_types.specs.settings.declared.WasmFeatures.{WasmFeatures}
+use Rattle.wasm_check_lines.specs.declared.causes.Cause.{Cause}
+use Rattle.wasm_check_lines.specs.declared.causes.Cause.TheVariants.{Vectors, Limit, Feature, FixedLimit, Types, Another}
+use Rattle.wasm_check_lines.specs.Causes.{cause_of}
+use Rattle.wasm_check_lines.specs.Limits.{word_of}
+use Rattle.wasm_check_lines.specs.FeatureWords.{word_for}
 
 -- a space of the text format: a space, a tab, a line feed or a carriage return (WebAssembly 3.0, 6.2.3)
 abbrev pub is_space : ℕ → Bool
@@ -24,11 +29,17 @@ limit_hint word = codes "--limits " ++ word ++ codes "=N sets this limit"
 unfoldable pub feature_hint : List ℕ → List ℕ
 feature_hint word = codes "--features " ++ word ++ codes " allows it"
 
+-- which allows these features, if they have a word
+abbrev pub features_hint : WasmFeatures → Option (List ℕ)
+features_hint features = option_map feature_hint (word_for features.0)
+
 -- what to do about a cause, in a module that begins with these bytes
 abbrev pub hint_for : Cause → List ℕ → Option (List ℕ)
 hint_for Vectors front = Some (codes "--vectors judges operators on vectors")
-hint_for (Limit word) front = Some (limit_hint word)
-hint_for (Feature word) front = Some (feature_hint word)
+hint_for (Limit limit) front = Some (limit_hint (word_of limit))
+hint_for (Feature features) front = features_hint features
+hint_for FixedLimit front = None
+hint_for Types front = None
 hint_for Another front = text_hint front
 
 -- what to do about a refusal by this error under these limits

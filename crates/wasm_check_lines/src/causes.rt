@@ -1,24 +1,28 @@
-//! Why a module was refused, as far as a program or a person can do something about it.
+//! Which cause an error has.
 //!
-//! An error has a kind, and a message in which most limits are told. No message begins with a text that a module chose, so how it begins tells
-//! which limit it is.
-ghost use Rattle.std.specs.Prelude.{◌≡◌, bytes_eq, option_map};
-ghost use Rattle.wasm_check_lines.specs.Causes.{begins, type_fronts, entity_fronts, segment_fronts, content_fronts, worded_by, single_limit, limit_word};
-ghost use Rattle.wasm_check_lines.specs.Causes.{allowing, kind_feature, message_feature, feature_word, cause_of, cause_seen, limit_cause, vectors_message};
+//! Most limits are told by the message alone. No message begins with a text that a module chose, so how it begins tells which limit it is.
+ghost use Rattle.std.specs.Prelude.{◌≡◌};
+ghost use Rattle.wasm_check_lines.specs.Causes.{begins, type_fronts, entity_fronts, segment_fronts, content_fronts, meant_by};
+ghost use Rattle.wasm_check_lines.specs.Causes.{single_limit, limit_meant, allowing, kind_feature, message_feature, feature_lacking};
+ghost use Rattle.wasm_check_lines.specs.Causes.{message_cause, limit_cause, cause_of};
 
-use crate::words::word_for;
+use crate::limit::Limit;
 use bitflags::Flags;
 use wasm_types::{Error, ErrorKind, Limits, WasmFeatures};
 
-/// Why it was refused.
+/// Why a module was refused.
 #[derive(Clone, Copy, Debug)]
-pub(crate) enum Cause {
+pub enum Cause {
     /// Operators on vectors are not judged.
     Vectors,
-    /// The limit of this name.
-    Limit(&'static str),
-    /// The feature that this word allows is off.
-    Feature(&'static str),
+    /// This limit is too low for it.
+    Limit(Limit),
+    /// These features, or one of them, are off.
+    Feature(WasmFeatures),
+    /// A limit that nobody chooses: on the types of a validator, or on the index of a type.
+    FixedLimit,
+    /// A type is not the one that is wanted.
+    Types,
     /// Another reason.
     Another,
 }
@@ -34,181 +38,181 @@ fn begins(message: &str, front: &str) -> bool
 }
 
 // The limit that a message tells, of those of types.
-fn type_limit(message: &str) -> Option<&'static str>
-    ensures { option_map (λ w. w.now) result ≡ worded_by type_fronts message.now }
+fn type_limit(message: &str) -> Option<Limit>
+    ensures { result ≡ meant_by type_fronts message.now }
 {
     if begins(message, "types count exceeds limit of ") {
-        return Some("types");
+        return Some(Limit::Types);
     }
     if begins(message, "multiple types") {
-        return Some("types");
+        return Some(Limit::Types);
     }
     if begins(message, "rec group types size is out of bounds") {
-        return Some("types");
+        return Some(Limit::Types);
     }
     if begins(message, "function params size is out of bounds") {
-        return Some("params");
+        return Some(Limit::Params);
     }
     if begins(message, "function returns size is out of bounds") {
-        return Some("results");
+        return Some(Limit::Results);
     }
     if begins(message, "struct fields size is out of bounds") {
-        return Some("fields");
+        return Some(Limit::Fields);
     }
     if begins(message, "sub type hierarchy too deep: ") {
-        return Some("subtyping-depth");
+        return Some(Limit::SubtypingDepth);
     }
     if begins(message, "effective type size exceeds the limit of ") {
-        return Some("type-size");
+        return Some(Limit::TypeSize);
     }
     None
 }
 
 // The limit that a message tells, of those of what a module declares and imports.
-fn entity_limit(message: &str) -> Option<&'static str>
-    ensures { option_map (λ w. w.now) result ≡ worded_by entity_fronts message.now }
+fn entity_limit(message: &str) -> Option<Limit>
+    ensures { result ≡ meant_by entity_fronts message.now }
 {
     if begins(message, "imports count exceeds limit of ") {
-        return Some("imports");
+        return Some(Limit::Imports);
     }
     if begins(message, "multiple imports") {
-        return Some("imports");
+        return Some(Limit::Imports);
     }
     if begins(message, "functions count exceeds limit of ") {
-        return Some("functions");
+        return Some(Limit::Functions);
     }
     if begins(message, "multiple functions") {
-        return Some("functions");
+        return Some(Limit::Functions);
     }
     if begins(message, "globals count exceeds limit of ") {
-        return Some("globals");
+        return Some(Limit::Globals);
     }
     if begins(message, "multiple globals") {
-        return Some("globals");
+        return Some(Limit::Globals);
     }
     if begins(message, "tags count exceeds limit of ") {
-        return Some("tags");
+        return Some(Limit::Tags);
     }
     if begins(message, "multiple tags") {
-        return Some("tags");
+        return Some(Limit::Tags);
     }
     if begins(message, "tables count exceeds limit of ") {
-        return Some("tables");
+        return Some(Limit::Tables);
     }
     if begins(message, "memories count exceeds limit of ") {
-        return Some("memories");
+        return Some(Limit::Memories);
     }
     None
 }
 
 // The limit that a message tells, of those of exports and segments.
-fn segment_limit(message: &str) -> Option<&'static str>
-    ensures { option_map (λ w. w.now) result ≡ worded_by segment_fronts message.now }
+fn segment_limit(message: &str) -> Option<Limit>
+    ensures { result ≡ meant_by segment_fronts message.now }
 {
     if begins(message, "exports count exceeds limit of ") {
-        return Some("exports");
+        return Some(Limit::Exports);
     }
     if begins(message, "multiple exports") {
-        return Some("exports");
+        return Some(Limit::Exports);
     }
     if begins(message, "element segments count exceeds limit of ") {
-        return Some("element-segments");
+        return Some(Limit::ElementSegments);
     }
     if begins(message, "multiple element segments") {
-        return Some("element-segments");
+        return Some(Limit::ElementSegments);
     }
     if begins(message, "data segments count exceeds limit of ") {
-        return Some("data-segments");
+        return Some(Limit::DataSegments);
     }
     if begins(message, "multiple data segments") {
-        return Some("data-segments");
+        return Some(Limit::DataSegments);
     }
     if begins(
         message,
         "data count section specifies too many data segments",
     ) {
-        return Some("data-segments");
+        return Some(Limit::DataSegments);
     }
     if begins(message, "number of elements is out of bounds") {
-        return Some("segment-items");
+        return Some(Limit::SegmentItems);
     }
     None
 }
 
 // The limit that a message tells, of those of names and bodies.
-fn content_limit(message: &str) -> Option<&'static str>
-    ensures { option_map (λ w. w.now) result ≡ worded_by content_fronts message.now }
+fn content_limit(message: &str) -> Option<Limit>
+    ensures { result ≡ meant_by content_fronts message.now }
 {
     if begins(message, "string size out of bounds") {
-        return Some("string-bytes");
+        return Some(Limit::StringBytes);
     }
     if begins(message, "function body size count exceeds limit of ") {
-        return Some("body-bytes");
+        return Some(Limit::BodyBytes);
     }
     if begins(message, "br_table size is out of bounds") {
-        return Some("body-bytes");
+        return Some(Limit::BodyBytes);
     }
     if begins(message, "select types size is out of bounds") {
-        return Some("select-types");
+        return Some(Limit::SelectTypes);
     }
     if begins(message, "too many locals: ") {
-        return Some("locals");
+        return Some(Limit::Locals);
     }
     if begins(message, "catches size is out of bounds") {
-        return Some("catches");
+        return Some(Limit::Catches);
     }
     if begins(message, "resume table size is out of bounds") {
-        return Some("catches");
+        return Some(Limit::Catches);
     }
     None
 }
 
 // The limit that a message tells of several tables or memories, if these limits allow but one.
-fn single_limit(limits: &Limits, message: &str) -> Option<&'static str>
-    ensures { option_map (λ w. w.now) result ≡ single_limit limits.now message.now }
+fn single_limit(limits: &Limits, message: &str) -> Option<Limit>
+    ensures { result ≡ single_limit limits.now message.now }
 {
     if begins(message, "multiple tables") && limits.tables <= 1 {
-        return Some("tables");
+        return Some(Limit::Tables);
     }
     if begins(message, "multiple memories") && limits.memories <= 1 {
-        return Some("memories");
+        return Some(Limit::Memories);
     }
     None
 }
 
-// The name of the limit that a message tells.
-#[tactic(auto, unfolding(crate::specs::Causes::limit_word))]
-fn limit_word(limits: &Limits, message: &str) -> Option<&'static str>
-    ensures { option_map (λ w. w.now) result ≡ limit_word limits.now message.now }
+// The limit that a message tells.
+#[tactic(auto, unfolding(crate::specs::Causes::limit_meant))]
+fn limit_meant(limits: &Limits, message: &str) -> Option<Limit>
+    ensures { result ≡ limit_meant limits.now message.now }
 {
-    if let Some(word) = type_limit(message) {
-        return Some(word);
+    if let Some(limit) = type_limit(message) {
+        return Some(limit);
     }
-    if let Some(word) = entity_limit(message) {
-        return Some(word);
+    if let Some(limit) = entity_limit(message) {
+        return Some(limit);
     }
-    if let Some(word) = segment_limit(message) {
-        return Some(word);
+    if let Some(limit) = segment_limit(message) {
+        return Some(limit);
     }
-    if let Some(word) = content_limit(message) {
-        return Some(word);
+    if let Some(limit) = content_limit(message) {
+        return Some(limit);
     }
     single_limit(limits, message)
 }
 
-// The word that allows these features.
-fn allowing(features: WasmFeatures) -> Option<&'static str>
-    ensures { option_map (λ w. w.now) result ≡ allowing features.0 }
+// These features, if allowing them helps.
+fn allowing(features: WasmFeatures) -> Option<WasmFeatures>
+    ensures { result ≡ allowing features }
 {
     if features.bits() == WasmFeatures::COMPONENT_MODEL.bits() {
         return None;
     }
-    word_for(features)
+    Some(features)
 }
 
-// The word that allows what an error of this kind lacks.
-fn kind_feature(kind: ErrorKind) -> Option<&'static str>
-    ensures { option_map (λ w. w.now) result ≡ kind_feature kind }
+// What an error of this kind lacks.
+fn kind_feature(kind: ErrorKind) -> Option<WasmFeatures>
+    ensures { result ≡ kind_feature kind }
 {
     match kind {
         ErrorKind::MissingFeature(features) => allowing(features),
@@ -219,56 +223,77 @@ fn kind_feature(kind: ErrorKind) -> Option<&'static str>
     }
 }
 
-// The word that allows what a message says is lacking.
-fn message_feature(message: &str) -> Option<&'static str>
-    ensures { option_map (λ w. w.now) result ≡ message_feature message.now }
+// What a message says is lacking.
+fn message_feature(message: &str) -> Option<WasmFeatures>
+    ensures { result ≡ message_feature message.now }
 {
     if begins(message, "multiple tables") {
-        return Some("reference-types");
+        return Some(WasmFeatures::REFERENCE_TYPES);
     }
     if begins(message, "multiple memories") {
-        return Some("multi-memory");
+        return Some(WasmFeatures::MULTI_MEMORY);
     }
     if begins(
         message,
         "data count section requires the bulk-memory proposal",
     ) {
-        return Some("bulk-memory");
+        return Some(WasmFeatures::BULK_MEMORY);
     }
     None
 }
 
-// The word that allows what an error says is lacking.
-#[tactic(auto, unfolding(crate::specs::Causes::feature_word))]
-fn feature_word(error: &Error) -> Option<&'static str>
-    ensures { option_map (λ w. w.now) result ≡ feature_word error.now }
+// What an error says is lacking.
+#[tactic(auto, unfolding(crate::specs::Causes::feature_lacking))]
+fn feature_lacking(error: &Error) -> Option<WasmFeatures>
+    ensures { result ≡ feature_lacking error.now }
 {
-    if let Some(word) = kind_feature(error.kind()) {
-        return Some(word);
+    if let Some(features) = kind_feature(error.kind()) {
+        return Some(features);
     }
     message_feature(error.message())
 }
 
-// The cause by the limit that refused it, or else by the feature that is lacking.
-fn limit_cause(limit: Option<&'static str>, feature: Option<&'static str>) -> Cause
-    ensures { cause_seen result ≡ limit_cause (option_map (λ w. w.now) limit.entry) (option_map (λ w. w.now) feature.entry) }
+// The cause by a message that tells neither a limit nor a feature.
+fn message_cause(message: &str) -> Cause
+    ensures { result ≡ message_cause message.now }
 {
-    if let Some(word) = limit {
-        return Cause::Limit(word);
+    if begins(message, "type mismatch") {
+        return Cause::Types;
     }
-    match feature {
-        Some(word) => Cause::Feature(word),
-        None => Cause::Another,
+    if begins(message, "implementation limit: ") {
+        return Cause::FixedLimit;
+    }
+    if begins(message, "type index greater than implementation limits") {
+        return Cause::FixedLimit;
+    }
+    Cause::Another
+}
+
+// The cause by the limit that refused it, or else by the features that are lacking, or else by the message.
+fn limit_cause(limit: Option<Limit>, features: Option<WasmFeatures>, message: &str) -> Cause
+    ensures { result ≡ limit_cause limit features message.now }
+{
+    if let Some(limit) = limit {
+        return Cause::Limit(limit);
+    }
+    match features {
+        Some(features) => Cause::Feature(features),
+        None => message_cause(message),
     }
 }
 
 /// Why this error came under these limits.
 #[tactic(auto, unfolding(crate::specs::Causes::cause_of))]
-pub(crate) fn cause_of(limits: &Limits, error: &Error) -> Cause
-    ensures { cause_seen result ≡ cause_of limits.now error.now }
+pub fn cause_of(limits: &Limits, error: &Error) -> Cause
+    ensures { result ≡ cause_of limits.now error.now }
 {
-    if error.message() == VECTORS_MESSAGE {
+    let message = error.message();
+    if message == VECTORS_MESSAGE {
         return Cause::Vectors;
     }
-    limit_cause(limit_word(limits, error.message()), feature_word(error))
+    limit_cause(
+        limit_meant(limits, message),
+        feature_lacking(error),
+        message,
+    )
 }

@@ -1,15 +1,15 @@
 //! What is written of a file in each form.
 ghost use Rattle.std.specs.Fmt.{WritesOnOk};
 ghost use Rattle.std.specs.Prelude.{◌≡◌, ◌++◌, IfOk, option_map, string_bytes};
-ghost use Rattle.wasm_check_lines.specs.Causes.{cause_seen};
 ghost use Rattle.wasm_check_lines.specs.Forms.{cause_member, error_word, help_members, kind_word, lines_below, refusal_line, refusal_object, refused_text, valid_text};
 ghost use Rattle.wasm_check_lines.specs.Hints.{hint_for};
 
 use crate::causes::{Cause, cause_of};
-use crate::hints::write_hint;
+use crate::hints::{write_framed, write_hint};
 use crate::json::Quoted;
 use crate::notes::{Explanation, write_explanation, write_explanation_member};
 use crate::shown::Shown;
+use crate::words::word_for;
 use std::alloc::{AllocError, Global};
 use std::fmt;
 use wasm_types::{Error, ErrorKind, Limits};
@@ -68,11 +68,10 @@ struct LinesBelow<'a> {
 
 impl fmt::Display for LinesBelow<'_> {
     ghost use Rattle.std.specs.Prelude.{Some, option_map};
-    ghost use Rattle.wasm_check_lines.specs.Causes.{cause_seen};
     ghost use Rattle.wasm_check_lines.specs.Forms.{lines_below};
     ghost use Rattle.wasm_check_lines.specs.Hints.{hint_for};
 
-    ghost output = { λ l. Some (lines_below l.explains (hint_for (cause_seen l.cause) l.front.now) (option_map (λ x. x.now) l.explanation)) };
+    ghost output = { λ l. Some (lines_below l.explains (hint_for l.cause l.front.now) (option_map (λ x. x.now) l.explanation)) };
 
     fn fmt<W: fmt::Write>(&self, f: &mut fmt::Formatter<W>) -> fmt::Result {
         if !self.explains {
@@ -92,7 +91,7 @@ fn refusal_lines(
     below: LinesBelow<'_>,
 ) -> Result<String, AllocError>
     ensures { IfOk result (λ line. string_bytes line ≡ refusal_line name.now offset message.now
-        ++ lines_below below.entry.explains (hint_for (cause_seen below.entry.cause) below.entry.front.now) (option_map (λ x. x.now) below.entry.explanation)) }
+        ++ lines_below below.entry.explains (hint_for below.entry.cause below.entry.front.now) (option_map (λ x. x.now) below.entry.explanation)) }
 {
     let name = Shown(name);
     let message = Shown(message);
@@ -108,16 +107,17 @@ struct KindWord {
 
 impl fmt::Display for KindWord {
     ghost use Rattle.std.specs.Prelude.{Some};
-    ghost use Rattle.wasm_check_lines.specs.Causes.{cause_seen};
     ghost use Rattle.wasm_check_lines.specs.Forms.{kind_word};
 
-    ghost output = { λ k. Some (kind_word (cause_seen k.cause) k.kind) };
+    ghost output = { λ k. Some (kind_word k.cause k.kind) };
 
     fn fmt<W: fmt::Write>(&self, f: &mut fmt::Formatter<W>) -> fmt::Result {
         match self.cause {
             Cause::Vectors => f.write_str("vectors"),
             Cause::Limit(_) => f.write_str("limit"),
             Cause::Feature(_) => f.write_str("missing-feature"),
+            Cause::FixedLimit => f.write_str(error_word(self.kind)),
+            Cause::Types => f.write_str("types"),
             Cause::Another => f.write_str(error_word(self.kind)),
         }
     }
@@ -146,10 +146,9 @@ struct HelpMembers<'a> {
 
 impl fmt::Display for HelpMembers<'_> {
     ghost use Rattle.std.specs.Prelude.{Some, option_map};
-    ghost use Rattle.wasm_check_lines.specs.Causes.{cause_seen};
     ghost use Rattle.wasm_check_lines.specs.Forms.{help_members};
 
-    ghost output = { λ m. Some (help_members (cause_seen m.cause) m.front.now (option_map (λ x. x.now) m.explanation)) };
+    ghost output = { λ m. Some (help_members m.cause m.front.now (option_map (λ x. x.now) m.explanation)) };
 
     fn fmt<W: fmt::Write>(&self, f: &mut fmt::Formatter<W>) -> fmt::Result {
         write_cause_member(f, self.cause)?;
@@ -160,12 +159,14 @@ impl fmt::Display for HelpMembers<'_> {
 
 // The member that has the word of a feature or of a limit.
 fn write_cause_member<W: fmt::Write>(f: &mut fmt::Formatter<W>, cause: Cause) -> fmt::Result
-    ensures { WritesOnOk W.write_str_gives f.old result (cause_member (cause_seen cause)) f.new }
+    ensures { WritesOnOk W.write_str_gives f.old result (cause_member cause) f.new }
 {
     match cause {
         Cause::Vectors => Ok(()),
-        Cause::Limit(word) => write!(f, ",\"limit\":\"{word}\""),
-        Cause::Feature(word) => write!(f, ",\"feature\":\"{word}\""),
+        Cause::Limit(limit) => write!(f, ",\"limit\":\"{}\"", limit.word()),
+        Cause::Feature(features) => write_framed(f, ",\"feature\":\"", word_for(features), "\""),
+        Cause::FixedLimit => Ok(()),
+        Cause::Types => Ok(()),
         Cause::Another => Ok(()),
     }
 }
@@ -180,8 +181,8 @@ fn refusal_object(
     members: HelpMembers<'_>,
 ) -> Result<String, AllocError>
     ensures { IfOk result (λ line. string_bytes line ≡ refusal_object name.now offset
-        (kind_word (cause_seen kind.cause) kind.kind) message.now
-        (help_members (cause_seen members.entry.cause) members.entry.front.now
+        (kind_word kind.cause kind.kind) message.now
+        (help_members members.entry.cause members.entry.front.now
         (option_map (λ x. x.now) members.entry.explanation))) }
 {
     let name = Quoted(name);

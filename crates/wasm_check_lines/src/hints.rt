@@ -1,11 +1,14 @@
 //! What a person can do about a refusal.
 ghost use Rattle.std.specs.Fmt.{WritesOnOk};
 ghost use Rattle.std.specs.Prelude.{◌≡◌, Some, bytes_eq, take, codes, option_map};
-ghost use Rattle.wasm_check_lines.specs.Causes.{cause_seen};
-ghost use Rattle.wasm_check_lines.specs.Hints.{feature_hint, framed, hint_for, is_space, is_text, limit_hint, text_hint};
+ghost use Rattle.wasm_check_lines.specs.Limits.{word_of};
+ghost use Rattle.wasm_check_lines.specs.Hints.{feature_hint, features_hint, framed, hint_for, is_space, is_text, limit_hint, text_hint};
 
 use crate::causes::Cause;
+use crate::limit::Limit;
+use crate::words::word_for;
 use std::fmt;
+use wasm_types::WasmFeatures;
 
 // Whether a byte is a space of the text format.
 fn is_space(byte: u8) -> bool
@@ -50,7 +53,8 @@ pub fn write_framed<W: fmt::Write>(
     text: Option<&str>,
     after: &str,
 ) -> fmt::Result
-    ensures { WritesOnOk W.write_str_gives f.old result (framed before.now (option_map (λ t. t.now) text.entry) after.now) f.new }
+    ensures { WritesOnOk W.write_str_gives f.old result
+        (framed before.now (option_map (λ t. t.now) text.entry) after.now) f.new }
 {
     let Some(text) = text else {
         return Ok(());
@@ -80,25 +84,29 @@ fn write_feature<W: fmt::Write>(f: &mut fmt::Formatter<W>, word: &str) -> fmt::R
 fn write_limit_hint<W: fmt::Write>(
     f: &mut fmt::Formatter<W>,
     before: &str,
-    word: &str,
+    limit: Limit,
     after: &str,
 ) -> fmt::Result
-    ensures { WritesOnOk W.write_str_gives f.old result (framed before.now (Some (limit_hint word.now)) after.now) f.new }
+    ensures { WritesOnOk W.write_str_gives f.old result
+        (framed before.now (Some (limit_hint (word_of limit))) after.now) f.new }
 {
     f.write_str(before)?;
-    write_limit(f, word)?;
+    write_limit(f, limit.word())?;
     f.write_str(after)
 }
 
-// Writes which option allows a feature, between two texts.
+// Writes which option allows a feature, if it has a word, between two texts.
 fn write_feature_hint<W: fmt::Write>(
     f: &mut fmt::Formatter<W>,
     before: &str,
-    word: &str,
+    features: WasmFeatures,
     after: &str,
 ) -> fmt::Result
-    ensures { WritesOnOk W.write_str_gives f.old result (framed before.now (Some (feature_hint word.now)) after.now) f.new }
+    ensures { WritesOnOk W.write_str_gives f.old result (framed before.now (features_hint features) after.now) f.new }
 {
+    let Some(word) = word_for(features) else {
+        return Ok(());
+    };
     f.write_str(before)?;
     write_feature(f, word)?;
     f.write_str(after)
@@ -112,15 +120,17 @@ pub(crate) fn write_hint<W: fmt::Write>(
     front: &[u8],
     after: &str,
 ) -> fmt::Result
-    ensures { WritesOnOk W.write_str_gives f.old result (framed before.now (hint_for (cause_seen cause) front.now) after.now) f.new }
+    ensures { WritesOnOk W.write_str_gives f.old result (framed before.now (hint_for cause front.now) after.now) f.new }
 {
     match cause {
         Cause::Vectors => {
             let hint = "--vectors judges operators on vectors";
             write_framed(f, before, Some(hint), after)
         }
-        Cause::Limit(word) => write_limit_hint(f, before, word, after),
-        Cause::Feature(word) => write_feature_hint(f, before, word, after),
+        Cause::Limit(limit) => write_limit_hint(f, before, limit, after),
+        Cause::Feature(features) => write_feature_hint(f, before, features, after),
+        Cause::FixedLimit => Ok(()),
+        Cause::Types => Ok(()),
         Cause::Another => write_framed(f, before, text_hint(front), after),
     }
 }

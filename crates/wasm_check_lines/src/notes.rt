@@ -12,6 +12,8 @@ use std::fmt;
 pub enum Value {
     /// A number.
     Number(u64),
+    /// Yes or no.
+    Flag(bool),
     /// A text.
     Text(String),
     /// Texts, in order.
@@ -94,6 +96,7 @@ fn write_value<W: fmt::Write>(f: &mut fmt::Formatter<W>, value: &Value) -> fmt::
 {
     match value {
         Value::Number(number) => write!(f, "{number}"),
+        Value::Flag(flag) => f.write_str(if *flag { "true" } else { "false" }),
         Value::Text(text) => {
             let text = Quoted(text.as_str());
             write!(f, "\"{text}\"")

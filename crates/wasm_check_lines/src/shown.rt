@@ -5,6 +5,7 @@ ghost use Rattle.wasm_check_lines.specs.Shown.{is_unshown, shown_char, turns};
 ghost use Rattle.wasm_check_lines.specs.LineLaws.{IsShownApart, LinesEndOnce};
 ghost use Rattle.wasm_check_lines.specs.ShownRows.{ShownRows};
 ghost use Rattle.wasm_check_lines.specs.FormRows.{FormRows};
+ghost use Rattle.wasm_check_lines.specs.CauseRows.{CauseRows};
 
 use std::fmt;
 
@@ -61,12 +62,13 @@ fn write_shown<W: fmt::Write>(f: &mut fmt::Formatter<W>, c: char) -> fmt::Result
     }
 }
 
-/// Each line is one line, whatever the file's name and the reason of a refusal hold; and worked texts, as they are written.
-#[tactic(auto, using(crate::proofs::InLine::lines_end_once, crate::proofs::Rows::shown_rows, crate::proofs::Rows::form_rows))]
+/// Each line is one line, whatever the file's name and the reason of a refusal hold; worked texts, as they are written; and worked causes.
+#[tactic(auto, using(crate::proofs::InLine::lines_end_once, crate::proofs::Rows::shown_rows, crate::proofs::Rows::form_rows, crate::proofs::CauseRows::cause_rows))]
 pub fn lines_end_once()
     ensures laws { LinesEndOnce }
     ensures rows { ShownRows }
     ensures forms { FormRows }
+    ensures causes { CauseRows }
 {}
 
 /// Texts that are shown alike are the same text.

@@ -7,11 +7,10 @@ ghost use Rattle.wasm_check_command.specs.Modes.{HasPieces, ruling_by};
 ghost use Rattle.wasm_check_command.specs.Reports.{sources_of, IsReported, Stops};
 ghost use Rattle.wasm_check_program.specs.Faults.{unjudged};
 
-use crate::explaining::explanation_of;
 use std::alloc::{AllocError, Global};
 use std::io::{Read, Write};
 use wasm_check_command::{Input, Judge, MAX_BYTES, Mode, Status, Unjudged, check_by};
-use wasm_check_explanation::explain;
+use wasm_check_explanation::{explain, told};
 use wasm_check_faults::CheckError;
 use wasm_check_lines::Explanation;
 use wasm_module_validator::{Validator, ValidatorId};
@@ -67,8 +66,8 @@ impl Judge for Validating {
         bytes: &[u8],
         error: &Error,
     ) -> Result<Option<Explanation>, AllocError> {
-        let texts = explain(alloc, features, limits, bytes, error)?;
-        let explanation = explanation_of(alloc, texts)?;
+        let place = explain(alloc, features, limits, bytes, error)?;
+        let explanation = told(alloc, place)?;
         Ok(Some(explanation))
     }
 }

@@ -9,7 +9,6 @@
 
 mod arguments;
 mod command;
-mod explaining;
 mod judging;
 
 pub use arguments::words;

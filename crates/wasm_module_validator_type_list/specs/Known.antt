@@ -78,7 +78,7 @@ CanLearn canonical types g (Some known) = AllPairs (Precedes types) known.alone
     × (IsTrue canonical → NoneDeclares types known.alone (declared_types g))
 
 -- a group of the number `id`, whose types are stored so from the id `start` on, becomes known: by the id of its only type
--- where what is stored of it is what the group says, and else by a copy
+-- where what is stored of it is what the group says, and else whole
 pub data Gains (types stored : List SubType) (start : ℕ) (g : RecGroup) (id : RecGroupId) (m n : Known) : Type 0 where
   by_id : (ty : SubType) → stored ≡ ty ∷ [] → declared_types g ≡ declared_of ty ∷ [] → IsPut (beside types ty) start m.alone n.alone
       → FindsTheSame m.numbers n.numbers
@@ -86,7 +86,7 @@ pub data Gains (types stored : List SubType) (start : ℕ) (g : RecGroup) (id : 
   by_copy : (length stored ≡ 1 → declared_types g ≡ map declared_of stored → ⊥) → Learns m.numbers n.numbers g id → n.alone ≡ m.alone
       → Gains types stored start g id m n
 
--- the same groups are known: the ids are the same, and each group that is kept as a copy has the number that it had
+-- the same groups are known: the ids are the same, and each group that is kept whole has the number that it had
 abbrev pub StaysKnown : Option Known → Option Known → Type 0
 StaysKnown None None = Unit {0}
 StaysKnown None (Some n) = ⊥

@@ -1,7 +1,7 @@
 //! What a list knows of its groups in canonical form: which it has, and their numbers.
 
-ghost use Rattle.std.specs.Prelude.{◌≡◌, ◌∷◌, [], length, map, false, IsTrue, Some, MatchOption, AllPairs, IsOk, OnOk, OnErr};
-ghost use Rattle.wasm_types.specs.Entries.{declared_of, declared_types};
+ghost use Rattle.std.specs.Prelude.{◌≡◌, ◌∷◌, [], length, map, false, IsTrue, Some, MatchOption, AllPairs, IsOk, IfOk, OnOk, OnErr};
+ghost use Rattle.wasm_types.specs.Entries.{declared_of, declared_types, subtypes};
 ghost use Rattle.wasm_module_validator_type_list.specs.Beside.{Precedes};
 ghost use Rattle.wasm_module_validator_type_list.specs.Known.{Numbers, number_in, Learns, FindsTheSame, Declares, NoneDeclares, CanLearn, Gains, StaysKnown, KnowsMore};
 
@@ -11,13 +11,13 @@ use std::alloc::{AllocError, Global};
 use std::collections::BTreeMap;
 use wasm_module_validator_type_storage::ordered::Ordered;
 use wasm_module_validator_type_storage::snapshots::SnapshotList;
-use wasm_types::laws::{clones_declare_the_same, equality_is_of_declarations, order_is_of_types};
+use wasm_types::laws::{equality_is_of_declarations, order_is_of_types};
 use wasm_types::{RecGroup, SubType};
 
 /// The groups in canonical form of a list.
 ///
 /// Most groups are a type alone that names no place of its own group. What the list stores of such a type is what the group
-/// says, so its id is kept in the order of the types, and no copy of it. Any other group is kept once more, with its number.
+/// says, so its id is kept in the order of the types, and no copy of it. Any other group is kept whole, with its number.
 #[derive(Drop)]
 pub(crate) struct Known {
     alone: Ordered,
@@ -36,7 +36,7 @@ impl Known {
         }
     }
 
-    /// The number of a group that is kept as a copy.
+    /// The number of a group that is kept whole.
     pub(crate) fn number_of(&self, group: &RecGroup) -> Option<RecGroupId>
         ensures { result ≡ number_in self.now.numbers group.now }
     {
@@ -57,24 +57,24 @@ impl Known {
         self.alone.find(&Beside { types, ty })
     }
 
-    // Keeps a group that is none of those which are kept: by the id of its only type, or as a copy.
+    // Keeps a group that is none of those which are kept: by the id of its only type, or whole.
     fn keep(
         &mut self,
         types: &SnapshotList<SubType>,
         stored: &[SubType],
         start: u32,
-        group: &RecGroup,
+        group: RecGroup,
         id: RecGroupId,
     ) -> Result<(), AllocError>
         requires ordered { AllPairs (Precedes types.now.items) self.old.alone }
-        requires new { NoneDeclares types.now.items self.old.alone (declared_types group.now) }
-        ensures ok { OnOk result (Gains types.now.items stored.now start group.now id self.old self.new) }
+        requires new { NoneDeclares types.now.items self.old.alone (declared_types group) }
+        ensures ok { OnOk result (Gains types.now.items stored.now start group id self.old self.new) }
         ensures err { OnErr result (StaysKnown (Some self.old) (Some self.new)) }
     {
         equality_is_of_declarations();
         match only_type(group.types(), stored) {
             Some(ty) => self.alone.insert(&Beside { types, ty }, start),
-            None => keep_copy(&mut self.numbers, group, id),
+            None => keep_whole(&mut self.numbers, group, id),
         }
     }
 }
@@ -92,19 +92,29 @@ fn only_type<'a>(types: &[SubType], stored: &'a [SubType]) -> Option<&'a SubType
     if *ty == types[0] { Some(ty) } else { None }
 }
 
-// Gives a group a number. The map has a copy, which takes no more memory than it needs: lists that grew by `push` have room for
-// up to four times their items.
-fn keep_copy(
+// The same types as a group for the map, in no more memory than they need: lists that grew by `push` have room for up to four times
+// their items. The map does not look at offsets.
+fn cut(group: RecGroup) -> Result<RecGroup, AllocError>
+    ensures { IfOk result (λ g. subtypes g ≡ subtypes group) }
+{
+    let mut types = group.into_types();
+    types.shrink_to_fit();
+    let mut offsets = Vec::new(*types.allocator());
+    offsets.resize(types.len(), 0)?;
+    Ok(RecGroup::explicit(types, offsets))
+}
+
+// Gives a group a number. The map takes its types.
+fn keep_whole(
     numbers: &mut BTreeMap<RecGroup, RecGroupId>,
-    group: &RecGroup,
+    group: RecGroup,
     id: RecGroupId,
 ) -> Result<(), AllocError>
-    ensures ok { OnOk result (Learns numbers.old numbers.new group.now id) }
+    ensures ok { OnOk result (Learns numbers.old numbers.new group id) }
     ensures err { OnErr result (FindsTheSame numbers.old numbers.new) }
 {
     order_is_of_types();
-    clones_declare_the_same();
-    let key = group.clone()?;
+    let key = cut(group)?;
     numbers.insert(key, id)?;
     Ok(())
 }
@@ -117,11 +127,11 @@ pub(crate) fn learn(
     types: &SnapshotList<SubType>,
     stored: &[SubType],
     start: u32,
-    group: &RecGroup,
+    group: RecGroup,
     id: RecGroupId,
 ) -> Result<(), AllocError>
-    requires { CanLearn is_canonical types.now.items group.now known.old }
-    ensures ok { OnOk result (KnowsMore is_canonical types.now.items stored.now start group.now id
+    requires { CanLearn is_canonical types.now.items group known.old }
+    ensures ok { OnOk result (KnowsMore is_canonical types.now.items stored.now start group id
         known.old known.new) }
     ensures err { OnErr result (StaysKnown known.old known.new) }
     ensures sure { (is_canonical ≡ false) → IsOk result }

@@ -167,7 +167,7 @@ impl TypeList {
             &self.lists.types,
             types.as_slice(),
             start,
-            &group,
+            group,
             id,
         )?;
         let elements = Range {

@@ -115,6 +115,20 @@ fn push_in_room<X: Drop>(items: &mut Vec<X>, item: X)
     let _ = items.push(item);
 }
 
+// Appends all of these items. If there were none before, the others are taken as they lie in memory, unless their room is less.
+fn append_all<X: Drop>(items: &mut Vec<X>, others: &mut Vec<X>) -> Result<(), AllocError>
+    ensures items { items.new.items ≡ (if is_ok result then items.old.items ++ others.old.items else items.old.items) }
+    ensures taken { others.new.items ≡ (if is_ok result then [] else others.old.items) }
+    ensures room { vec_capacity items.old ≤ vec_capacity items.new }
+    ensures succeeds { vec_len items.old + vec_len others.old ≤ vec_capacity items.old → IsOk result }
+{
+    if items.is_empty() && items.capacity() <= others.capacity() {
+        mem::swap(items, others);
+        return Ok(());
+    }
+    items.append(others)
+}
+
 // Puts what was pushed since the last commit among the snapshots, which then have this many items. Where there is no memory
 // for it, both stay.
 fn seal<T: Drop>(
@@ -193,7 +207,7 @@ impl<T: Drop> SnapshotList<T> {
         if self.len().checked_add(items.len()).is_none() {
             return Err(AllocError);
         }
-        self.current.append(items)
+        append_all(&mut self.current, items)
     }
 
     /// A list of the same items, which are shared from now on. This list keeps them too, whether there is memory for the

@@ -222,9 +222,9 @@ twice ts y t u e f = cc
 pub callee_known : (ids : List TypeTree) (m : Module) (flat fs : List ℕ) (ss hs : List Sig) (x : ℕ) (s : Sig) → AreFunctionsIn m fs
     → ((y : ℕ) (k : Sig) → slice_get ss y ≡ Some k → IsTypeIn ids m flat y k) → AreCalleesOf fs ss hs → slice_get hs x ≡ Some s → IsCalleeIn ids m flat x s
 callee_known ids m flat fs ss hs x s functions types callees at le =
-    let (y, function, type) = callees x s at in
-    let (f, there, also) = functions x y function in
-    let (h, other, is) = types y s type le in
+    let (y, indexed, signed) = callees x s at in
+    let (f, there, also) = functions x y indexed in
+    let (h, other, is) = types y s signed le in
     (f, there, subst (λ (t : TypeTree). IsFunctionType t (signature_in ids flat s)) (twice m.types y h f other also) is)
 
 pub table_known : (m : Meaning) (t : Table) (b : Bool) → Some t ≡ slice_get m.«module».tables 0 → t.table64 ≡ false → IsTrue b ↔ Below t.element (ref true (abstract false func)) → b ≡ true

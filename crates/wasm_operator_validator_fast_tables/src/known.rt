@@ -191,12 +191,12 @@ fn callees_of(alloc: Global, functions: &[u32], types: &[Sig]) -> Vec<Sig>
     ensures { AreCalleesOf functions.now types.now result.items }
 {
     let mut callees = Vec::new(alloc);
-    for ty in functions {
-        let index = *ty as usize;
-        if index >= types.len() {
+    for x in 0..functions.len() {
+        let ty = functions[x] as usize;
+        if ty >= types.len() {
             return callees;
         }
-        let Ok(()) = callees.push(types[index]) else {
+        let Ok(()) = callees.push(types[ty]) else {
             return callees;
         };
     }

@@ -80,7 +80,8 @@ impl<T: Copy + Drop> Pile<T> {
     /// Puts items on by one copy, the last on top, where there are places for them.
     #[inline(always)]
     pub fn put_all(&mut self, items: &[T]) -> bool
-        ensures { result ≡ true → self.new ≡ reverse items.now ++ self.old }
+        ensures put { result ≡ true → self.new ≡ reverse items.now ++ self.old }
+        ensures stays { result ≡ false → self.new ≡ self.old }
     {
         let count = self.count;
         if items.len() > self.places.as_slice().len() - count {

@@ -1,15 +1,20 @@
 //! The parser of a module as payloads.
 
-ghost use Rattle.std.specs.Prelude.{◌≡◌, ◌+◌, ◌<◌, ◌≤◌, ◌^◌, length, false};
+ghost use Rattle.std.specs.Prelude.{◌≡◌, ◌+◌, ◌<◌, ◌≤◌, ◌^◌, length, Bool, false, Ok, IfNone, IfSome};
 ghost use Rattle.wasm_types.specs.settings.Sets.{bits_of, default_features};
 ghost use Rattle.wasm_types.specs.settings.Limits.{default_limits, IsWithinCeilings};
 ghost use Rattle.wasm_types.specs.reader.Reading.{NeedsNoMemory};
+ghost use Rattle.wasm_sections_parser.specs.Parsing.{between};
+ghost use Rattle.wasm_sections_parser.specs.Steps.{counted};
 ghost use Rattle.wasm_sections_parser.specs.runs.calls.Runs.{fresh};
+ghost use Rattle.wasm_sections.specs.declared.parser.Chunk.TheVariants.{Parsed};
+ghost use Rattle.wasm_sections.specs.declared.payload.Payload.TheVariants.{CodeSectionEntry};
 ghost use Rattle.wasm_sections.specs.Parsing.{taken, ParsesPayload};
 
 use crate::walk::walk_from;
 use crate::{ParseAll, Payload};
 use std::alloc::Global;
+use wasm_operators_bodies::FunctionBody;
 use wasm_sections_parser::{Chunk as FrameChunk, Parser as FrameParser};
 use wasm_types::{Limits, Result, WasmFeatures};
 
@@ -116,6 +121,48 @@ impl Parser {
                 Err(error)
             }
         }
+    }
+
+    /// The next body, if a body comes next and its bytes are all at the front of these, and how many bytes it takes with its size: what `parse`
+    /// gives then, in few steps. Else none: the parser stays as it is, and `parse` tells what comes.
+    #[inline(always)]
+    pub fn next_body<'d>(&mut self, data: &'d [u8]) -> Option<(FunctionBody<'d>, usize)>
+        requires { self.old.frames.offset + length data.now < 2 ^ 64 }
+        ensures body { IfSome result (λ x. (eof : Bool) → ParsesPayload self.old.frames data.now eof
+            (Ok (Parsed x.1 (CodeSectionEntry x.0))) self.new.frames) }
+        ensures stays { IfNone result (self.new.frames ≡ self.old.frames) }
+    {
+        let Some((part, consumed)) = self.frames.next_body(data) else {
+            return None;
+        };
+        Some((FunctionBody::new(self.alloc, part), consumed))
+    }
+
+    /// The offset where it stands.
+    pub fn offset(&self) -> u64
+        ensures { result ≡ self.now.frames.offset }
+    {
+        self.frames.offset()
+    }
+
+    /// Whether a section, or the end, may come here.
+    pub fn is_between(&self) -> bool
+        ensures { result ≡ between self.now.frames.progress.stage self.now.frames.offset }
+    {
+        self.frames.is_between()
+    }
+
+    /// Goes past a section of this id, which counts so many items, and which takes so many bytes with its id and its size: if the caller has
+    /// read it, or does without its contents. Nothing is checked of it, neither that it is there nor that it is in order.
+    pub fn pass_section(&mut self, id: u8, count: u32, bytes: u64)
+        requires { self.old.frames.offset + bytes < 2 ^ 64 }
+        ensures { self.new.frames ≡ record {
+          offset = self.old.frames.offset + bytes;
+          settings = self.old.frames.settings;
+          progress = counted self.old.frames.progress id count;
+        } }
+    {
+        self.frames.pass_section(id, count, bytes);
     }
 
     /// The payloads of these bytes, which are all that is left of the module.

@@ -43,6 +43,27 @@ impl Parser {
         self.progress = counted(progress, 0, 0);
         Some((section, reader.current_position()))
     }
+
+    /// The offset where it stands.
+    pub fn offset(&self) -> u64
+        ensures { result ≡ self.now.offset }
+    {
+        self.offset
+    }
+
+    /// Goes past a section of this id, which counts so many items, and which takes so many bytes with its id and its size: if the caller has
+    /// read it, or does without its contents. Nothing is checked of it, neither that it is there nor that it is in order.
+    pub fn pass_section(&mut self, id: u8, count: u32, bytes: u64)
+        requires { self.old.offset + bytes < 2 ^ 64 }
+        ensures { self.new ≡ record {
+          offset = self.old.offset + bytes;
+          settings = self.old.settings;
+          progress = counted self.old.progress id count;
+        } }
+    {
+        self.offset += bytes;
+        self.progress = counted(self.progress, id, count);
+    }
 }
 
 /// Whether a section may come next.

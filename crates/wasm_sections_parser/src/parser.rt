@@ -150,8 +150,8 @@ impl Parser {
         self.next(data, eof)
     }
 
-    // Whether a section, or the end, may come here.
-    fn is_between(&self) -> bool
+    /// Whether a section, or the end, may come here.
+    pub fn is_between(&self) -> bool
         ensures { result ≡ between self.now.progress.stage self.now.offset }
     {
         match self.progress.stage {

@@ -1,5 +1,6 @@
-use Rattle.std.proofs.Common.{◌<◌, List, sym, subst, arith, length}
+use Rattle.std.proofs.Common.{◌≡◌, ◌<◌, ℕ, List, Some, sym, subst, arith, length, slice_get}
 use Rattle.wasm_operator_validator_fast_tables.specs.declared.order.Step.{Step}
+use Rattle.wasm_operator_validator_fast_tables.specs.declared.tables.Sig.{Sig}
 use Rattle.wasm_operator_validator_fast_tables.specs.Values.{AreSteps}
 use Rattle.wasm_operator_validator_fast_tables.proofs.Knowing.{alone_more, callee_known, placed_more, sigs_stay, then_more, type_known}
 use Rattle.wasm_operator_validator_fast_tables.proofs.Tagging.{tag_known}
@@ -13,7 +14,7 @@ returns g c =
     let last = c.sign_tags.new.flat.items in
     let few : length last < 0xffffffff = omega (arith, c.sign_tags.ensures.within, c.if-most-ge-NO_CODE.false) in
     let more = then_more first second last _ _ c.args.most c.sign_all.ensures.more c.sign_tags.ensures.more c.sign_tags.ensures.within in
-    let types = λ y s at. type_known m.ids m.«module» last y s few
+    let types = λ (y : ℕ) (s : Sig) (at : slice_get c.sign_all.new.types.items y ≡ Some s). type_known m.ids m.«module» last y s few
     (sigs_stay m.ids m.«module» second last _ c.sign_all.new.types.items c.sign_tags.ensures.more c.sign_all.ensures.types y s at) in
     record {
       alone = alone_more first last _ more c.name_all.ensures.alone;

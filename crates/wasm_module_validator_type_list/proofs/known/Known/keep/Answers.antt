@@ -9,7 +9,7 @@ insert-requires-clause-ascends c = ordered_beside c.args.types.now.items c.in-So
 
 pub insert-requires-clause-misses : goal.insert-requires-clause-misses
 insert-requires-clause-misses c =
-    missed_none c.equality_is_of_declarations.ensures.subtypes c.args.types.now.items c.args.self.now.alone c.in-Some.ty.now (declared_types c.args.group.now)
+    missed_none c.equality_is_of_declarations.ensures.subtypes c.args.types.now.items c.args.self.now.alone c.in-Some.ty.now (declared_types c.args.group)
     (ap (map declared_of) (sym c.types.ensures) ∙ c.in-Some.ensures.1) c.requires.new
 
 pub returns-in-Some-clause-ok : goal.returns-in-Some-clause-ok
@@ -18,4 +18,4 @@ returns-in-Some-clause-ok c =
 
 pub returns-in-None-clause-ok : goal.returns-in-None-clause-ok
 returns-in-None-clause-ok c =
-    ok_so c.keep_copy.result (λ learns. by_copy (λ one same. c.in-None.ensures one (ap (map declared_of) c.types.ensures ∙ same)) learns refl) c.keep_copy.ensures.ok
+    ok_so c.keep_whole.result (λ learns. by_copy (λ one same. c.in-None.ensures one (ap (map declared_of) c.types.ensures ∙ same)) learns refl) c.keep_whole.ensures.ok

@@ -1,0 +1,90 @@
+//! The limits that a caller chooses, by name.
+ghost use Rattle.std.specs.Prelude.{◌≡◌, ◌<◌};
+ghost use Rattle.wasm_check_lines.specs.Limits.{place_of, word_of};
+
+/// A limit that a caller chooses: the field of `Limits` of this name. They are in the order of the fields.
+#[derive(Clone, Copy, Debug)]
+pub enum Limit {
+    Types,
+    Params,
+    Results,
+    Fields,
+    StringBytes,
+    Imports,
+    Exports,
+    Functions,
+    Globals,
+    Tags,
+    Tables,
+    Memories,
+    ElementSegments,
+    DataSegments,
+    SegmentItems,
+    BodyBytes,
+    SelectTypes,
+    Locals,
+    Catches,
+    SubtypingDepth,
+    TypeSize,
+}
+
+impl Limit {
+    /// Its name among the words of `--limits`.
+    pub fn word(self) -> &'static str
+        ensures { result.now ≡ word_of self }
+    {
+        match self {
+            Limit::Types => "types",
+            Limit::Params => "params",
+            Limit::Results => "results",
+            Limit::Fields => "fields",
+            Limit::StringBytes => "string-bytes",
+            Limit::Imports => "imports",
+            Limit::Exports => "exports",
+            Limit::Functions => "functions",
+            Limit::Globals => "globals",
+            Limit::Tags => "tags",
+            Limit::Tables => "tables",
+            Limit::Memories => "memories",
+            Limit::ElementSegments => "element-segments",
+            Limit::DataSegments => "data-segments",
+            Limit::SegmentItems => "segment-items",
+            Limit::BodyBytes => "body-bytes",
+            Limit::SelectTypes => "select-types",
+            Limit::Locals => "locals",
+            Limit::Catches => "catches",
+            Limit::SubtypingDepth => "subtyping-depth",
+            Limit::TypeSize => "type-size",
+        }
+    }
+
+    /// Its place among the fields of `Limits`, counted from 0.
+    pub fn place(self) -> u32
+        ensures place { result ≡ place_of self }
+        ensures few { result < 21 }
+    {
+        match self {
+            Limit::Types => 0,
+            Limit::Params => 1,
+            Limit::Results => 2,
+            Limit::Fields => 3,
+            Limit::StringBytes => 4,
+            Limit::Imports => 5,
+            Limit::Exports => 6,
+            Limit::Functions => 7,
+            Limit::Globals => 8,
+            Limit::Tags => 9,
+            Limit::Tables => 10,
+            Limit::Memories => 11,
+            Limit::ElementSegments => 12,
+            Limit::DataSegments => 13,
+            Limit::SegmentItems => 14,
+            Limit::BodyBytes => 15,
+            Limit::SelectTypes => 16,
+            Limit::Locals => 17,
+            Limit::Catches => 18,
+            Limit::SubtypingDepth => 19,
+            Limit::TypeSize => 20,
+        }
+    }
+}
