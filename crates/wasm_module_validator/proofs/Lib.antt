@@ -3,3 +3,4 @@ pub mod Validity
 pub mod Whole
 pub mod WorkedModule
 pub mod WorkedLinked
+mod WorkedPart

@@ -1,7 +1,7 @@
 -- When modules that are validated one after the other are accepted or refused as each is alone: while one list has room for the types of all of
 -- them and then for each group that comes, whole, even if the list has it. If types are kept in canonical form, types that are the same count
 -- once (WebAssembly 3.0, appendix, implementation limitations).
-use Rattle.std.specs.Prelude.{◌≡◌, ◌+◌, ◌≤◌, ◌++◌, ℕ, true, false, List, [], ◌∷◌, length, Contains}
+use Rattle.std.specs.Prelude.{◌≡◌, ◌+◌, ◌<◌, ◌≤◌, ◌^◌, ◌++◌, ℕ, true, false, List, [], ◌∷◌, length, Contains}
 use Rattle.wasm_types.specs.settings.Settings.{Settings}
 use Rattle.wasm_types.specs.settings.Features.{needs_canonical_types}
 use Rattle.wasm_types.specs.trees.Trees.{TypeTree}
@@ -12,8 +12,10 @@ use Rattle.wasm_module_validator_type_groups.specs.adding.Interned.{space_of, id
 use Rattle.wasm_module_validator_type_groups.specs.composites.Composites.{WhereCanonical}
 use Rattle.wasm_module_validator_section_order.specs.rules_in_order.Steps.{SoFar}
 use Rattle.wasm_module_validator_drivers.specs.reading.Reading.{HasGroupIn, IsReadAs}
-use Rattle.wasm_module_validator_rules.specs.Accepts.{AcceptsUnder, IsValidOutsideBodies}
+use Rattle.wasm_module_validator_rules.specs.Accepts.{AcceptsUnder, IsValidOutsideBodies, JudgesOutsideBodies}
 use Rattle.wasm_module_validator_rules.specs.Spaces.{types_behind}
+use Rattle.wasm_module_validator_rules.specs.Syntax.{ModuleTree}
+use Rattle.wasm_module_validator_rules.specs.Valid.{Each}
 use Rattle.wasm_module_validator.specs.declared.lists.Verdict.{Verdict}
 use Rattle.wasm_module_validator.specs.declared.lists.Verdict.TheVariants.{Accepted, Refused}
 use Rattle.wasm_module_validator.specs.Lists.{goes_on}
@@ -57,6 +59,17 @@ abbrev pub AreAtMost : ℕ → Settings → ℕ → List (List ℕ) → Type 0
 AreAtMost most z n [] = Unit {0}
 AreAtMost most z n (x ∷ xs) = ((before : List TypeTree) (own : ℕ) → HasGroupIn z x before own → n + length before + own ≤ most)
     × ((q : SoFar) → IsReadAs z x q → AreAtMost most z (n + length (types_behind [] q.tree.types)) xs)
+
+-- After so many types there are no more than the most, with all those of each of these inputs in turn, in the terms of the rules alone: those of
+-- whatever module it spells that is valid outside its bodies. An input that spells none ends the list, so nothing is asked of it and of others.
+abbrev pub HaveFewTypes : ℕ → Settings → ℕ → List (List ℕ) → Type 0
+HaveFewTypes most z n [] = Unit {0}
+HaveFewTypes most z n (x ∷ xs) = (m : ModuleTree) → JudgesOutsideBodies z x m
+    → (n + length (types_behind [] m.types) ≤ most) × HaveFewTypes most z (n + length (types_behind [] m.types)) xs
+
+-- each input has fewer bytes than a number of 64 bits counts, as every slice has
+abbrev pub AreCounted : List (List ℕ) → Type 0
+AreCounted xs = Each (λ (x : List ℕ). length x < 2 ^ 64) xs
 
 -- ---- verdicts
 

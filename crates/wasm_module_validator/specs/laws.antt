@@ -4,6 +4,8 @@ pub mod StateRows
 pub mod Ids
 pub mod Lists
 pub mod ListRows
+pub mod GroupsIn
 pub mod Alone
 pub mod Unasked
 pub mod Parts
+pub mod PartRows

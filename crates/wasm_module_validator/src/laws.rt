@@ -4,6 +4,7 @@ ghost use Rattle.wasm_types.specs.settings.Settings.{Settings};
 ghost use Rattle.std.specs.Prelude.{◌≡◌, ◌<◌, ◌≤◌, ◌∷◌, ℕ, List, [], length};
 ghost use Rattle.wasm_types.specs.decoding.ErrorValue.{ErrorValue};
 ghost use Rattle.wasm_types.specs.trees.Trees.{TypeTree};
+ghost use Rattle.wasm_module_validator_rules.specs.Syntax.{ModuleTree};
 ghost use Rattle.wasm_module_validator_index_spaces.specs.declared.view.validator_id.ValidatorId.{ValidatorId};
 ghost use Rattle.wasm_module_validator_drivers.specs.state.invariant.Standing.{IsGrown};
 ghost use Rattle.wasm_module_validator_section_order.specs.rules_in_order.Steps.{nothing};
@@ -11,10 +12,10 @@ ghost use Rattle.wasm_module_validator_type_storage.specs.trees.Groups.{Group, c
 ghost use Rattle.wasm_module_validator_type_list.specs.List.{max_types};
 ghost use Rattle.wasm_module_validator_drivers.specs.Sharing.{Reached, renewed_behind, IsReached};
 ghost use Rattle.wasm_module_validator.specs.Shown.{Learned};
-ghost use Rattle.wasm_module_validator.specs.Alone.{AreAlone, AreAmong, AreAtMost, AreDifferent, IsWithinTotal};
+ghost use Rattle.wasm_module_validator.specs.Alone.{AreAlone, AreAmong, AreAtMost, AreCounted, AreDifferent, HaveFewTypes, IsWithinTotal};
 ghost use Rattle.wasm_module_validator.specs.Lists.{AreVerdicts};
 ghost use Rattle.wasm_module_validator.specs.declared.lists.Verdict.{Verdict};
-ghost use Rattle.wasm_module_validator.specs.laws.Alone.{AloneRows};
+ghost use Rattle.wasm_module_validator.specs.laws.Alone.{AloneRows, FewRows};
 ghost use Rattle.wasm_module_validator.specs.laws.ListRows.{ListRows};
 ghost use Rattle.wasm_module_validator.specs.laws.StateRows.{LeftRows, AcceptedRows, RenewedRows};
 ghost use Rattle.wasm_module_validator.specs.Unasked.{VectorsAreAskedFor};
@@ -36,6 +37,7 @@ pub const fn lists_are_worked()
 /// Modules that are validated one after the other are accepted or refused as each is alone, while one list has room for the types of all of them
 /// and then for each group that comes, whole. It has for one module that is the first, and for all that have no more than 2^20 types together.
 /// If types are kept in canonical form only different types need room: there are at most as many different ones as there are types (`once`).
+/// In the terms of the rules alone it is enough that the types so far and those of each module are together at most 2^20 (`modules`).
 pub const fn verdicts_are_isolated()
     ensures alone { (z : Settings) (id : ValidatorId) (held : List Group) (xs : List (List ℕ)) (vs : List Verdict)
         → AreVerdicts z id held xs vs → IsWithinTotal z held xs → AreAlone z xs vs }
@@ -43,8 +45,11 @@ pub const fn verdicts_are_isolated()
     ensures few { (z : Settings) (held : List Group) (xs : List (List ℕ)) → AreAtMost max_types z (count held) xs
         → IsWithinTotal z held xs }
     ensures once { (some all : List TypeTree) → AreDifferent some → AreAmong some all → length some ≤ length all }
+    ensures modules { (z : Settings) (id : ValidatorId) (held : List Group) (xs : List (List ℕ)) (vs : List Verdict)
+        → AreCounted xs → AreVerdicts z id held xs vs → HaveFewTypes max_types z (count held) xs → AreAlone z xs vs }
     ensures rows { (z : Settings) (types : List TypeTree) (own : ℕ) (x : List ℕ) (t : Learned) (e : ErrorValue)
         → AloneRows z types own x t e }
+    ensures few_rows { (z : Settings) (x y : List ℕ) (m : ModuleTree) (n : ℕ) → FewRows z x y m n }
 {}
 
 /// A validator behind a header stands for a module of which nothing was judged, whatever it read before.

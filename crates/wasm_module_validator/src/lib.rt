@@ -29,7 +29,7 @@ pub use laws::{
     verdicts_are_isolated,
 };
 pub use lists::Verdict;
-pub use parts::{parts_are_whole, validate_part};
+pub use parts::{parts_are_whole, parts_are_worked, validate_part};
 pub use payloads::ValidPayload;
 pub use soundness::{accepted_is_sound, default_is_standard, modules_are_sound};
 pub use types::Types;

@@ -9,6 +9,7 @@ ghost use Rattle.wasm_types.specs.settings.Limits.{IsWithinCeilings};
 ghost use Rattle.wasm_types.specs.settings.Settings.{Settings};
 ghost use Rattle.wasm_module_validator_rules.specs.Accepts.{AcceptsUnder};
 ghost use Rattle.wasm_module_validator.specs.Parts.{AcceptsPart};
+ghost use Rattle.wasm_module_validator.specs.laws.PartRows.{PartRows};
 
 use std::alloc::Global;
 use wasm_module_validator_drivers::{HeldSettings, SharedProgress};
@@ -50,4 +51,9 @@ pub fn validate_part(
 pub const fn parts_are_whole()
     ensures { (z : Settings) (parts : ℕ) (bytes : List ℕ) → 0 < parts
         → ((part : ℕ) → part < parts → AcceptsPart z part parts bytes) → AcceptsUnder z bytes }
+{}
+
+/// A module whose only body is none, judged in one part and in two.
+pub const fn parts_are_worked()
+    ensures { PartRows }
 {}

@@ -1,5 +1,7 @@
 mod Growing
+mod Kept
+mod Listing
 mod Keeping
 mod Taking
-mod Naming
+mod Finding
 mod Functions

@@ -12,7 +12,7 @@ pub mod laws;
 pub mod names;
 mod sizes;
 
-pub use crate::names::{Exports, Imports, NamedExport, NamedImports, Place, Tried};
+pub use crate::names::{Exports, Imports, NamedExport, NamedExports, NamedImports, Place, Tried};
 pub use exports::check_export;
 pub use imports::check_import;
 pub use sizes::{

@@ -5,12 +5,12 @@
 //! and in the order in which they came first, as those who link modules ask for them.
 
 mod exports;
-mod groups;
 mod imports;
+mod kept;
 pub mod laws;
+mod pairs;
 mod slots;
 
-pub use exports::{Exports, NamedExport};
-pub use groups::NamedImports;
-pub use imports::{Imports, Place};
+pub use exports::{Exports, NamedExport, NamedExports};
+pub use imports::{Imports, NamedImports, Place};
 pub use slots::Tried;

@@ -265,8 +265,10 @@ fn certain_of(locals: &[u32], params: usize) -> usize
 fn put_times(locals: &mut Vec<u32>, count: u32, code: u32) -> bool
     ensures { result ≡ true → locals.new.items ≡ locals.old.items ++ replicate count code }
 {
-    let held = locals.as_slice().len();
-    locals
-        .resize(held.saturating_add(count as usize), code)
-        .is_ok()
+    for i in 0..count {
+        let Ok(()) = locals.push(code) else {
+            return false;
+        };
+    }
+    true
 }

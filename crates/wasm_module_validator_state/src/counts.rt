@@ -129,7 +129,7 @@ impl ModuleState {
         ensures refused { IfErr result (λ e. (e.kind ≡ Other) × (e.offset ≡ offset)) }
     {
         let most = self.settings().limits().exports;
-        let exports = self.exports.as_slice().len();
+        let exports = self.exports.len();
         check_max(exports, count, most, "exports", offset)
     }
 

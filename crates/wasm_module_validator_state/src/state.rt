@@ -1,7 +1,6 @@
 //! The state of a module that is being judged.
 
-ghost use Rattle.std.specs.Prelude.{◌≡◌, map};
-ghost use Rattle.wasm_module_validator_exports.specs.names.Exports.{export_of};
+ghost use Rattle.std.specs.Prelude.{◌≡◌};
 ghost use Rattle.wasm_module_validator_type_groups.specs.adding.Modules.{settings_of};
 ghost use Rattle.wasm_module_validator_resources.specs.Named.{IsReadOver};
 ghost use Rattle.wasm_module_validator_resources.specs.Reading.{meaning_of};
@@ -10,7 +9,7 @@ ghost use Rattle.wasm_module_validator_state.specs.Items.{no_items};
 use std::alloc::Global;
 use std::marker::Model;
 use wasm_module_validator_checks::externs::Settings;
-use wasm_module_validator_exports::{Exports, Imports, NamedExport};
+use wasm_module_validator_exports::{Exports, Imports};
 use wasm_module_validator_resources::{Module, OperatorValidatorResources};
 use wasm_module_validator_type_list::TypeList;
 use wasm_operator_validator_stacks::OperatorValidatorAllocations;
@@ -81,10 +80,10 @@ impl ModuleState {
     }
 
     /// Its exports, in their order.
-    pub fn exports(&self) -> &[NamedExport]
-        ensures { map export_of result.now ≡ self.now.exports }
+    pub fn exports(&self) -> &Exports
+        ensures { result.now ≡ self.now.exports }
     {
-        self.exports.as_slice()
+        &self.exports
     }
 
     /// The sum of the sizes of the types of its imports and exports, and one.

@@ -22,7 +22,7 @@ use Rattle.wasm_module_validator_initialisers.specs.state.Contexts.{AreNamesKnow
 use Rattle.wasm_module_validator_initialisers.specs.resources.Named.{IsFunctionId}
 use Rattle.wasm_module_validator_initialisers.specs.index_spaces.Spaces.{nothing_read, own_function}
 use Rattle.wasm_module_validator_exports.specs.declared.names.exports.NamedExport.{NamedExport}
-use Rattle.wasm_module_validator_exports.specs.declared.names.groups.NamedImports.{NamedImports}
+use Rattle.wasm_module_validator_exports.specs.declared.names.imports.NamedImports.{NamedImports}
 use Rattle.wasm_module_validator_initialisers.specs.resources.referring.Referring.{type_in}
 use Rattle.wasm_module_validator_initialisers.specs.state.Items.{IsRefusedBy}
 use Rattle.wasm_module_validator_tests.specs.Items.{referring, ImportsNamed, NamesKept, RoomFor, Importable, Exportable, one_memory, second, imported_at, Imported, NextPlaces, exported_as, Exported, with_code, NextCode, RefusedBy, NamesKnown, ReadOver}

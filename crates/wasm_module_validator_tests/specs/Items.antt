@@ -21,7 +21,7 @@ use Rattle.wasm_module_validator_exports.specs.Imports.{IsNamedImport}
 use Rattle.wasm_module_validator_exports.specs.names.Exports.{export_of, names_of}
 use Rattle.wasm_module_validator_exports.specs.names.Imports.{named_of}
 use Rattle.wasm_module_validator_exports.specs.declared.names.exports.NamedExport.{NamedExport}
-use Rattle.wasm_module_validator_exports.specs.declared.names.groups.NamedImports.{NamedImports}
+use Rattle.wasm_module_validator_exports.specs.declared.names.imports.NamedImports.{NamedImports}
 use Rattle.wasm_module_validator_exports.specs.declared.names.imports.Place.{Place}
 use Rattle.wasm_module_validator_initialisers.specs.index_spaces.Spaces.{Spaces, nothing_read, own_function}
 use Rattle.wasm_operator_validator_state.specs.resources.Meaning.{Meaning}
@@ -67,7 +67,7 @@ pub record ImportsNamed : Type 0 where
 pub record NamesKept (e : NamedExport) (n : NamedImports) : Type 0 where
   pub its_kind : (export_of e).kind ≡ e.kind
   pub its_index : (export_of e).index ≡ e.index
-  pub its_places : (named_of n).places ≡ n.places.items
+  pub its_places : (named_of n).places ≡ n.first ∷ n.others.now
   pub names : names_of (record { name = 0x61 ∷ []; kind = kind.Func; index = 3 } ∷ record { name = 0x62 ∷ []; kind = kind.Table; index = 0 } ∷ []) ≡ (0x61 ∷ []) ∷ (0x62 ∷ []) ∷ []
 
 -- ---- which items may be added

@@ -15,7 +15,7 @@ ghost use Rattle.wasm_operator_validator_rules.specs.Context.{Module};
 ghost use Rattle.wasm_operator_validator_state.specs.resources.Meaning.{Meaning};
 ghost use Rattle.wasm_operator_validator_state.specs.State.{State};
 ghost use Rattle.wasm_module_validator_exports.specs.declared.names.exports.NamedExport.{NamedExport};
-ghost use Rattle.wasm_module_validator_exports.specs.declared.names.groups.NamedImports.{NamedImports};
+ghost use Rattle.wasm_module_validator_exports.specs.declared.names.imports.NamedImports.{NamedImports};
 ghost use Rattle.wasm_module_validator.specs.drivers.Sharing.{Handed};
 ghost use Rattle.wasm_module_validator.specs.module_validator_payloads.Progress.{Kept, Progress};
 ghost use Rattle.wasm_module_validator_section_order.specs.declared.items.bodies.Body.{Body};

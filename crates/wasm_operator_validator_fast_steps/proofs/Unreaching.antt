@@ -32,6 +32,13 @@ module _ (t : Tables) (text : List ℕ) where
       let (qs, sooner) = first under rs in
       (qs, leads_then i j k opens opens opens (with_all qs ([], under)) (with_all rs ([], under)) (with_all ws ([], under)) sooner later)
 
+  -- operands were put on for what is behind several operators
+  pub unreached_then : (opens : List Open) (i j : ℕ) (under ws : List ℕ) (w : Values) → IsPassed text t opens i j → w ≡ with_all ws ([], under)
+      → (rs : List ℕ) × Leads text t i opens (with_all rs ([], under)) j opens w
+  unreached_then opens i j under ws w passed e =
+      let (rs, leads) = passed under ws in
+      (rs, subst (λ (x : Values). Leads text t i opens (with_all rs ([], under)) j opens x) (sym e) leads)
+
   -- ---- one
 
   module _ (i e : ℕ) (o : Open) (outer : List Open) where

@@ -5,12 +5,12 @@ ghost use Rattle.wasm_operators_frequent.specs.Short.{Begins};
 ghost use Rattle.wasm_operator_validator_fast_tables.specs.Loop.{Leads, Goes, Enters, Leaves, all};
 ghost use Rattle.wasm_types.specs.settings.Settings.{Settings};
 ghost use Rattle.wasm_types.specs.trees.Trees.{TypeTree};
-ghost use Rattle.wasm_operator_validator_fast_tables.specs.Stacks.{Values};
+ghost use Rattle.wasm_operator_validator_fast_tables.specs.Stacks.{Values, lying};
 ghost use Rattle.wasm_operator_validator_fast_tables.specs.Values.{IsLowered};
 ghost use Rattle.wasm_operator_validator_rules.specs.Context.{Context};
 ghost use Rattle.wasm_operator_validator_rules.specs.Typed.{MayClose};
 ghost use Rattle.wasm_types.specs.values.Decode.{begins_index};
-ghost use Rattle.wasm_operator_validator_fast_tables.specs.Tables.{Fits, signature_in};
+ghost use Rattle.wasm_operator_validator_fast_tables.specs.Tables.{Fits, results_in, signature_in};
 ghost use Rattle.wasm_operator_validator_fast_tables.specs.Written.{IsBlockAt};
 
 use wasm_operator_validator_fast_tables::{
@@ -310,14 +310,6 @@ fn may_close(frame: &Open) -> bool
     }
 }
 
-// Whether a frame gives one number, whose code is the place at which it stands.
-#[inline(always)]
-fn is_of_number(sig: Sig) -> bool
-    ensures { result ≡ true → (sig.result_count ≡ 1) × (sig.results < 4) }
-{
-    sig.result_count == 1 && sig.results < 4
-}
-
 // The innermost frame's operands are its results alone, which lie on those under it then.
 #[inline(always)]
 fn leave(tables: &Tables, frame: &Open, stack: &mut Stack) -> bool
@@ -330,9 +322,8 @@ fn leave(tables: &Tables, frame: &Open, stack: &mut Stack) -> bool
     if !may_close(frame) {
         return false;
     }
-    if is_of_number(frame.sig) {
-        let number = frame.sig.results;
-        return stack.take(number) && stack.leave(frame.base) && stack.put(number);
+    if frame.sig.result_count == 1 {
+        return leave_one(tables, frame, stack);
     }
     let Some(results) = part(
         tables.known.flat.as_slice(),
@@ -345,6 +336,27 @@ fn leave(tables: &Tables, frame: &Open, stack: &mut Stack) -> bool
         return false;
     }
     stack.put_all(results)
+}
+
+// The same of a frame that gives one operand, which needs no list.
+#[inline(always)]
+fn leave_one(tables: &Tables, frame: &Open, stack: &mut Stack) -> bool
+    requires { frame.now.sig.result_count ≡ 1 }
+    ensures { result ≡ true → (code : ℕ) × (m : Values)
+        × (code ∷ [] ≡ results_in tables.now.known.flat.items frame.now.sig)
+        × IsLowered tables.now.known.order stack.old (code ∷ m.0, m.1)
+        × (m.0 ≡ []) × (stack.new ≡ (code ∷ (lying frame.now.base m.1).0, (lying frame.now.base m.1).1)) }
+{
+    let flat = tables.known.flat.as_slice();
+    let place = frame.sig.results as usize;
+    if place >= flat.len() {
+        return false;
+    }
+    let code = flat[place];
+    if !stack.take_below(&tables.known.order, code) || !stack.leave(frame.base) {
+        return false;
+    }
+    stack.put(code)
 }
 
 /// The innermost frame ends, and is not the last.

@@ -7,9 +7,7 @@ ghost use Rattle.wasm_operator_validator_fast_tables.specs.Loop.{Leads, all};
 use crate::indices::near_index_at;
 use crate::labels::labels_at;
 use crate::unreached::unreached;
-use wasm_operator_validator_fast_tables::{
-    Opens, Stack, Tables, frame_at, is_bare, label, part,
-};
+use wasm_operator_validator_fast_tables::{Opens, Stack, Tables, frame_at, is_bare, label, part};
 
 /// A branch. Behind it nothing is reached.
 #[inline(always)]

@@ -14,9 +14,7 @@ ghost use Rattle.wasm_operator_validator_fast_tables.specs.Loop.{Leads, all};
 use crate::indices::index_at;
 use crate::labels::same;
 use crate::unreached::unreached;
-use wasm_operator_validator_fast_tables::{
-    FUNC, NO_CODE, Opens, Sig, Stack, Tables, part,
-};
+use wasm_operator_validator_fast_tables::{FUNC, NO_CODE, Opens, Sig, Stack, Tables, part};
 use wasm_operators_frequent::zero_at;
 use wasm_types::WasmFeatures;
 
@@ -54,7 +52,10 @@ fn pass(tables: &Tables, sig: Sig, stack: &mut Stack) -> bool
         × IsLowered tables.now.known.order stack.old (with_all (params_in tables.now.known.flat.items sig) m)
         × (stack.new ≡ with_all (results_in tables.now.known.flat.items sig) m) }
 {
-    take_params(tables, sig, stack) && put_results(tables, sig, stack)
+    if !take_params(tables, sig, stack) {
+        return false;
+    }
+    put_results(tables, sig, stack)
 }
 
 // The operands that a signature takes are taken off. Many take none, and nothing is looked up then.
@@ -80,6 +81,14 @@ fn put_results(tables: &Tables, sig: Sig, stack: &mut Stack) -> bool
 {
     if sig.result_count == 0 {
         return true;
+    }
+    if sig.result_count == 1 {
+        let flat = tables.known.flat.as_slice();
+        let place = sig.results as usize;
+        if place >= flat.len() {
+            return false;
+        }
+        return stack.put(flat[place]);
     }
     let Some(results) = part(tables.known.flat.as_slice(), sig.results, sig.result_count) else {
         return false;

@@ -1,7 +1,7 @@
 -- Operands in memory: those of the innermost frame, and those under them.
-use Rattle.std.proofs.Common.{◌≡◌, ◌≤◌, ◌<◌, ◌-◌, ◌∙◌, ℕ, suc, Bool, true, false, List, [], ◌∷◌, Some, refl, sym, ap, subst, arith, ◌++◌, length, take, drop, reverse, get_or, slice_get, drop-cons}
+use Rattle.std.proofs.Common.{◌≡◌, ◌≤◌, ◌<◌, ◌-◌, ◌∙◌, ℕ, suc, List, [], ◌∷◌, Some, refl, sym, ap, subst, arith, ◌++◌, length, take, drop, reverse, get_or, slice_get, drop-cons}
 use Rattle.std.proofs.lemmas.Grind.{common_steps}
-use Rattle.std.proofs.lemmas.List.{length-append, length-drop, drop_all}
+use Rattle.std.proofs.lemmas.List.{length-drop, drop_all}
 use Rattle.wasm_operator_validator_fast_tables.specs.declared.order.Step.{Step}
 use Rattle.wasm_operator_validator_fast_tables.specs.Stacks.{Values, lying, with_all}
 use Rattle.wasm_operator_validator_fast_tables.specs.Values.{AreBelow, IsLowered}
@@ -13,27 +13,6 @@ one_more b x xs l = let e : suc (length xs) - b ≡ suc (length xs - b) = omega 
 -- one is put on
 pub put_on : (b t : ℕ) (xs ys : List ℕ) (now : Values) → b ≤ length xs → lying b xs ≡ now → ys ≡ t ∷ xs → lying b ys ≡ (t ∷ now.0, now.1)
 put_on b t xs ys now l h e = ap (lying b) e ∙ one_more b t xs l ∙ ap (λ n. (t ∷ n.0, n.1)) h
-
--- several are put on
-several_more : (b : ℕ) (ts xs : List ℕ) → b ≤ length xs → lying b (ts ++ xs) ≡ (ts ++ (lying b xs).0, (lying b xs).1)
-several_more b [] xs l = refl
-several_more b (t ∷ ts) xs l =
-    let n = length-append ts xs in
-    let m : b ≤ length (ts ++ xs) = omega (arith, l, n) in
-    one_more b t (ts ++ xs) m ∙ ap (λ (v : Values). (t ∷ v.0, v.1)) (several_more b ts xs l)
-
-pub put_several : (b : ℕ) (ts xs ys : List ℕ) (now : Values) → b ≤ length xs → lying b xs ≡ now → ys ≡ reverse ts ++ xs → lying b ys ≡ with_all ts now
-put_several b ts xs ys now l h e = ap (lying b) e ∙ several_more b (reverse ts) xs l ∙ ap (with_all ts) h
-
--- or none are
-pub still_over : (done : Bool) (b : ℕ) (ts xs ys : List ℕ) → b ≤ length xs → (done ≡ true → ys ≡ reverse ts ++ xs) → (done ≡ false → ys ≡ xs) → b ≤ length ys
-still_over true b ts xs ys l put stays =
-    let same = ap (λ (zs : List ℕ). length zs) (put refl) in
-    let n = length-append (reverse ts) xs in
-    omega (arith, l, same, n)
-still_over false b ts xs ys l put stays =
-    let same = ap (λ (zs : List ℕ). length zs) (stays refl) in
-    omega (arith, l, same)
 
 -- one is taken off
 pub take_off : (b t : ℕ) (xs ys : List ℕ) (now : Values) → b < length xs → lying b xs ≡ now → slice_get xs 0 ≡ Some t → ys ≡ drop 1 xs → now ≡ (t ∷ (lying b ys).0, (lying b ys).1)

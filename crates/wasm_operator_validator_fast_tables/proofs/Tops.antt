@@ -1,5 +1,5 @@
 -- The top of a list whose last item is on top.
-use Rattle.std.proofs.Common.{◌≡◌, ℕ, zero, suc, List, [], ◌∷◌, ◌++◌, ◌<◌, ◌≤◌, ◌+◌, ◌-◌, length, take, drop, reverse, refl, ap, ◌∙◌, sym, arith}
+use Rattle.std.proofs.Common.{◌≡◌, ℕ, zero, suc, List, [], ◌∷◌, ◌++◌, ◌<◌, ◌≤◌, ◌-◌, length, take, drop, reverse, refl, ap, ◌∙◌, sym, arith}
 use Rattle.std.proofs.lemmas.List.{reverse-append, take-append-drop, take-take, length-reverse, length-drop, length-take-le}
 
 -- the first so many and one more
@@ -38,26 +38,3 @@ kept {T} xs n m now view there le =
     let few : m ≤ length (take n xs) = omega (arith, le, many, same) in
     let under : m ≤ n = omega (arith, few, has) in
     ap reverse (sym (take-take m n xs under)) ∙ fewer (take n xs) m few ∙ ap (λ (l : List T). drop (length l - m) l) view
-
--- ---- items that are put on by one copy
-
--- all of some, before others
-take_first : {T : Type 0} → (xs ys : List T) → take (length xs) (xs ++ ys) ≡ xs
-take_first [] ys = refl
-take_first (x ∷ xs) ys = ap (λ l. x ∷ l) (take_first xs ys)
-
--- some and the next
-take_both : {T : Type 0} → (xs ys zs : List T) → take (length xs + length ys) (xs ++ (ys ++ zs)) ≡ xs ++ ys
-take_both [] ys zs = let n : length ys ≡ 0 + length ys = omega arith in ap (λ k. take k (ys ++ zs)) (sym n) ∙ take_first ys zs
-take_both (x ∷ xs) ys zs =
-    let n : suc (length xs) + length ys ≡ suc (length xs + length ys) = omega arith in
-    ap (λ k. take k (x ∷ xs ++ (ys ++ zs))) n ∙ ap (λ l. x ∷ l) (take_both xs ys zs)
-
-pub put_copied : {T : Type 0} → (xs items copied rest now : List T) (n : ℕ) → n ≤ length xs → reverse (take n xs) ≡ now → copied ≡ items
-    → reverse (take (n + length items) (take n xs ++ (copied ++ rest))) ≡ reverse items ++ now
-put_copied xs items copied rest now n there view same =
-    let has = length-take-le n xs there in
-    let k : n + length items ≡ length (take n xs) + length items = omega (arith, has) in
-    ap (λ l. reverse (take (n + length items) (take n xs ++ (l ++ rest)))) same
-    ∙ ap (λ m. reverse (take m (take n xs ++ (items ++ rest)))) k ∙ ap reverse (take_both (take n xs) items rest)
-    ∙ reverse-append (take n xs) items ∙ ap (λ l. reverse items ++ l) view

@@ -1,6 +1,6 @@
 //! A stack whose places are made before.
 
-ghost use Rattle.std.specs.Prelude.{◌≡◌, true, false, [], ◌∷◌, ◌++◌, ◌+◌, ◌-◌, ◌<◌, ◌≤◌, length, reverse, Some, drop, slice_get};
+ghost use Rattle.std.specs.Prelude.{◌≡◌, true, false, [], ◌∷◌, ◌+◌, ◌-◌, ◌<◌, ◌≤◌, length, Some, drop, slice_get};
 
 use std::alloc::Global;
 use std::marker::Model;
@@ -74,22 +74,6 @@ impl<T: Copy + Drop> Pile<T> {
         }
         self.places[self.count] = item;
         self.count += 1;
-        true
-    }
-
-    /// Puts items on by one copy, the last on top, where there are places for them.
-    #[inline(always)]
-    pub fn put_all(&mut self, items: &[T]) -> bool
-        ensures put { result ≡ true → self.new ≡ reverse items.now ++ self.old }
-        ensures stays { result ≡ false → self.new ≡ self.old }
-    {
-        let count = self.count;
-        if items.len() > self.places.as_slice().len() - count {
-            return false;
-        }
-        let end = count + items.len();
-        self.places.as_mut_slice()[count..end].copy_from_slice(items);
-        self.count = end;
         true
     }
 

@@ -9,9 +9,6 @@ use crate::pile::Pile;
 use std::alloc::Global;
 use std::marker::Model;
 
-// So many are put on one by one in no more time than by a copy.
-const FEW: usize = 8;
-
 /// All operands, and how many of them lie under the innermost frame. A contract sees that frame's, and those under them.
 #[derive(Drop)]
 pub struct Stack {
@@ -189,9 +186,6 @@ impl Stack {
     pub fn put_all(&mut self, types: &[u32]) -> bool
         ensures { result ≡ true → self.new ≡ with_all types.now self.old }
     {
-        if types.len() > FEW {
-            return self.items.put_all(types);
-        }
         for ty in types {
             if !self.put(*ty) {
                 return false;

@@ -1,5 +1,5 @@
 -- While one list has room for the types of all modules, each has the verdict that it has alone.
-use Rattle.std.proofs.Common.{◌≡◌, ◌∙◌, ◌⊎◌, ◌<◌, ◌≤◌, ◌+◌, ℕ, zero, suc, Bool, true, false, IsTrue, List, [], ◌∷◌, ◌++◌, length, refl, sym, ap, subst, arith, inl, inr, ⊎_elim}
+use Rattle.std.proofs.Common.{◌≡◌, ◌∙◌, ◌⊎◌, ◌<◌, ◌≤◌, ◌+◌, ◌^◌, ℕ, zero, suc, Bool, true, false, IsTrue, List, [], ◌∷◌, ◌++◌, length, refl, sym, ap, subst, arith, inl, inr, ⊎_elim}
 use Rattle.std.specs.Prelude.{Contains}
 use Rattle.std.proofs.lemmas.Bool.{cases_lt}
 use Rattle.std.proofs.lemmas.List.{length-append, length-map}
@@ -20,13 +20,15 @@ use Rattle.wasm_module_validator_drivers.specs.reading.Reading.{HasGroupIn}
 use Rattle.wasm_module_validator_drivers.specs.state.invariant.Standing.{IsGrown}
 use Rattle.wasm_module_validator_drivers.specs.state.invariant.laws.Growing.{ids_contain, ids_counted}
 use Rattle.wasm_module_validator_drivers.specs.state.Items.{no_items}
-use Rattle.wasm_module_validator_rules.specs.Accepts.{AcceptsUnder, IsValidOutsideBodies}
+use Rattle.wasm_module_validator_rules.specs.Accepts.{AcceptsUnder, IsValidOutsideBodies, JudgesOutsideBodies}
 use Rattle.wasm_module_validator_rules.specs.Spaces.{types_behind}
+use Rattle.wasm_module_validator_rules.specs.Syntax.{ModuleTree}
 use Rattle.wasm_module_validator.specs.declared.lists.Verdict.{Verdict}
 use Rattle.wasm_module_validator.specs.declared.lists.Verdict.TheVariants.{Accepted, Refused}
-use Rattle.wasm_module_validator.specs.Alone.{all_types, AreDifferent, AreAmong, HasRoomAfter, HasRoomForAll, IsWithinTotal, AreAtMost, AreAlone}
+use Rattle.wasm_module_validator.specs.Alone.{all_types, AreDifferent, AreAmong, HasRoomAfter, HasRoomForAll, IsWithinTotal, AreAtMost, AreCounted, HaveFewTypes, AreAlone}
 use Rattle.wasm_module_validator.specs.Lists.{AreVerdicts}
 use Rattle.wasm_module_validator.specs.Shown.{Learned}
+use Rattle.wasm_module_validator.specs.laws.GroupsIn.{groups_within, read_judges}
 use Rattle.wasm_module_validator.specs.laws.Ids.{ids_stay}
 use Rattle.wasm_module_validator.specs.laws.Verdict.{accepted_is_read, outside_is_read}
 
@@ -170,7 +172,70 @@ pub first_has_room : (z : Settings) (x : List ℕ) → z.limits.types ≤ max_ty
 unfolding type_count
 first_has_room z x few = (λ before own has within. roomy z before own (omega (arith, within, few)), λ q read. tt)
 
+-- ---- inputs whose modules have few types
+
+module _ (z : Settings) (id : ValidatorId) where
+  -- a module that is valid outside its bodies passes no total
+  not_past_few : (types : List TypeTree) (now : List Group) (x : List ℕ) (xs : List (List ℕ)) (e : ErrorValue) → AreKnown types now → length x < 2 ^ 64
+      → HaveFewTypes max_types z (length types) (x ∷ xs) → IsPastTotal now (no_items z) (HasGroupIn z x) e ⊎ (IsValidOutsideBodies z x → ⊥) → IsValidOutsideBodies z x → ⊥
+  not_past_few types now x xs e k short w (inr none) valid = none valid
+  not_past_few types now x xs e k short w (inl past) valid =
+      let read = (outside_is_read z x).0 valid in
+      let few : length types + length (types_behind [] read.0.tree.types) ≤ max_types = (w (record read.0.tree { code = [] }) (read_judges z x read.0 read.1)).0 in
+      not_past z types now (HasGroupIn z x) k
+      (λ before own has within.
+      let some = groups_within z x before own read.0 short has read.1 in
+      let whole = length-append types before in
+      roomy z (types ++ before) own (omega (arith, few, some, whole)))
+      e past
+
+  few_from : (types : List TypeTree) (now : List Group) (xs : List (List ℕ)) (vs : List Verdict) → AreKnown types now → AreCounted xs
+      → HaveFewTypes max_types z (length types) xs → AreVerdicts z id now xs vs → AreAlone z xs vs
+  few_from types now [] [] k s w h = tt
+  few_from types now [] (v ∷ vs) k s w h = h
+  few_from types now (x ∷ xs) [] k s w h = h
+  few_from types now (x ∷ xs) (Accepted t ∷ vs) k s w (is, (next, left, rest)) =
+      let read = accepted_is_read z x is.0 in
+      let more = types_behind [] read.0.tree.types in
+      let took = left.2 read.0 read.1 in
+      let few = (w (record read.0.tree { code = [] }) (read_judges z x read.0 read.1)).1 in
+      let behind : HaveFewTypes max_types z (length (types ++ more)) xs = subst (λ (n : ℕ). HaveFewTypes max_types z n xs) (sym (length-append types more)) few in
+      (is.0, few_from (types ++ more) next xs vs (known_further types now more next k left.0 took.0 took.1) s.1 behind rest)
+  few_from types now (x ∷ xs) (Refused e true ∷ vs) k s w (is, (next, left, rest)) =
+      let read = (outside_is_read z x).0 is.2 in
+      let more = types_behind [] read.0.tree.types in
+      let took = left.1 read.0 read.1 in
+      let few = (w (record read.0.tree { code = [] }) (read_judges z x read.0 read.1)).1 in
+      let behind : HaveFewTypes max_types z (length (types ++ more)) xs = subst (λ (n : ℕ). HaveFewTypes max_types z n xs) (sym (length-append types more)) few in
+      ((is.0, is.2), few_from (types ++ more) next xs vs (known_further types now more next k left.0 took.0 took.1) s.1 behind rest)
+  few_from types now (x ∷ xs) (Refused e false ∷ vs) k s w (is, ends) =
+      let none = not_past_few types now x xs e k s.0 w is.1 in
+      ((λ a. let read = accepted_is_read z x a in none ((outside_is_read z x).1 (read.0, read.1)), none), ends)
+
+  pub few_are_alone : (held : List Group) (xs : List (List ℕ)) (vs : List Verdict) → AreCounted xs → AreVerdicts z id held xs vs → HaveFewTypes max_types z (count held) xs
+      → AreAlone z xs vs
+  few_are_alone held xs vs s h w =
+      few_from (all_types held) held xs vs (known_first held) s (subst (λ (n : ℕ). HaveFewTypes max_types z n xs) (sym (counted held)) w) h
+
 -- ---- worked rows
+
+-- An input has room if the types so far and those of its module are as many as there may be, and not if they are one more; so it is if the same
+-- input comes again. Nothing is asked of one that spells no such module, nor of those after it.
+pub record FewRows (z : Settings) (x y : List ℕ) (m : ModuleTree) (n : ℕ) : Type 0 where
+  pub none : HaveFewTypes max_types z n []
+  pub fits : ((k : ModuleTree) → JudgesOutsideBodies z x k → length (types_behind [] k.types) ≤ 1) → n + 1 ≤ max_types → HaveFewTypes max_types z n (x ∷ [])
+  pub full : JudgesOutsideBodies z x m → length (types_behind [] m.types) ≡ 1 → HaveFewTypes max_types z max_types (x ∷ []) → ⊥
+  pub again : JudgesOutsideBodies z x m → length (types_behind [] m.types) ≡ 1 → n + 1 ≡ max_types → HaveFewTypes max_types z n (x ∷ x ∷ []) → ⊥
+  pub no_module : (IsValidOutsideBodies z x → ⊥) → HaveFewTypes max_types z n (x ∷ y ∷ [])
+
+pub few_rows : (z : Settings) (x y : List ℕ) (m : ModuleTree) (n : ℕ) → FewRows z x y m n
+few_rows z x y m n = record {
+  none = tt;
+  fits = λ one room k j. ((let o = one k j in omega (arith, o, room)), tt);
+  full = λ j one w. let few = (w m j).0 in omega (arith, few, one);
+  again = λ j one last w. let few = ((w m j).1 m j).0 in omega (arith, few, one, last);
+  no_module = λ not k j. absurd (not (k, j));
+}
 
 -- Types that come a second time take no room where they are kept in canonical form, and do where they are not; and behind as many as a list has,
 -- there is no room for one more. A module whose types the list has all passes no total if there is room for its group besides, and a second

@@ -1,13 +1,15 @@
 //! Names found by numbers that are computed from their bytes.
 //!
-//! Each slot has the index of a name; it is free where no name stands at this index. A name has one slot, that of its number. Where another
-//! name has it already, the name goes into a set, which finds it by its order: so names whose numbers meet are found no slower than by their
-//! order, whoever chooses them.
+//! Each slot has the index of a name; it is free if no name stands at this index. A name has two slots, side by side: that of its number,
+//! and the other of the same pair, which mostly is in the processor's cache then. If other names have both already, the name goes into a
+//! set, which finds it by its order: so names whose numbers meet are found no slower than by their order, whoever chooses them. Of each
+//! name in the set neither slot is free.
 
-ghost use Rattle.std.specs.Prelude.{◌≡◌, ◌<◌, length, map, IfSome};
-ghost use Rattle.wasm_module_validator_exports.specs.names.Exports.{HasMet, HasNoted, HasSettled, Holds, IsPut, export_of, names_of, number_of, slot_of};
+ghost use Rattle.std.specs.Prelude.{◌≡◌, ◌<◌, ℕ, List, length, IfSome};
+ghost use Rattle.wasm_module_validator_exports.specs.names.Exports.{AreNamed, HasMet, HasMetAt, HasNoted, HasSettled, Holds, IsPut, beside, exports_of, first_slot, names_of, number_of, slot_of};
 
-use crate::names::exports::NamedExport;
+use crate::names::exports::KeptExport;
+use crate::names::kept::{bytes_of, name_of};
 use std::alloc::Global;
 use std::collections::BTreeSet;
 use std::hash::{FoldHasher, Hasher};
@@ -22,7 +24,8 @@ pub enum Tried {
     NoMemory,
 }
 
-// What is in a name's slot: nothing, so an index may go there; the name itself; or another.
+// What is in a name's slots: in one nothing, so an index may go there; in one the name itself; or others in both.
+#[derive(Clone, Copy)]
 pub(crate) enum Met {
     Free(usize, u32),
     Same,
@@ -39,17 +42,17 @@ fn number(name: &str) -> u64
 }
 
 // The slot of a number among so many, a power of two.
-fn slot(number: u64, slots: usize) -> usize
+pub(crate) fn slot(number: u64, slots: usize) -> usize
     ensures { result ≡ slot_of number slots }
 {
     number as usize & slots.saturating_sub(1)
 }
 
-// What is in a name's slot.
-fn meet(slots: &[u32], exports: &[NamedExport], name: &str) -> Met
-    ensures { HasMet slots.now (names_of (map export_of exports.now)) name.now result }
+// What is in a slot, for a name.
+fn meet_at(slots: &[u32], names: &[u8], exports: &[KeptExport], name: &str, at: usize) -> Met
+    requires { AreNamed names.now exports.now }
+    ensures { HasMetAt slots.now (names_of (exports_of names.now exports.now)) name.now at result }
 {
-    let at = slot(number(name), slots.len());
     let Some(index) = slots.get(at) else {
         return Met::Other;
     };
@@ -60,21 +63,49 @@ fn meet(slots: &[u32], exports: &[NamedExport], name: &str) -> Met
         }
         return Met::Other;
     };
-    if name == export.name.as_str() {
+    if name.as_bytes() == bytes_of(names, export.name) {
         return Met::Same;
     }
     Met::Other
 }
 
+// What is in both slots of a name.
+fn both(first: Met, second: Met) -> Met
+    ensures { (slots : List ℕ) (names : List (List ℕ)) (n : List ℕ)
+        → HasMetAt slots names n (first_slot slots n) first
+        → HasMetAt slots names n (beside (first_slot slots n)) second → HasMet slots names n result }
+{
+    match first {
+        Met::Free(at, index) => match second {
+            Met::Free(_, _) => Met::Free(at, index),
+            Met::Same => Met::Same,
+            Met::Other => Met::Free(at, index),
+        },
+        Met::Same => Met::Same,
+        Met::Other => second,
+    }
+}
+
+// What is in a name's slots.
+fn meet(slots: &[u32], names: &[u8], exports: &[KeptExport], name: &str) -> Met
+    requires { AreNamed names.now exports.now }
+    ensures { HasMet slots.now (names_of (exports_of names.now exports.now)) name.now result }
+{
+    let at = slot(number(name), slots.len());
+    let first = meet_at(slots, names, exports, name, at);
+    let second = meet_at(slots, names, exports, name, at ^ 1);
+    both(first, second)
+}
+
 // An index in a slot.
-fn put(slots: &mut Vec<u32>, at: usize, index: u32)
+pub(crate) fn put(slots: &mut Vec<u32>, at: usize, index: u32)
     requires { at < length slots.old.items }
     ensures { IsPut at index slots.old.items slots.new.items }
 {
     slots[at] = index;
 }
 
-// A name in the set of those whose slot another has, where it is new there.
+// A name in the set of those whose slots others have, if it is new there.
 #[cold]
 #[inline(never)]
 fn note(alloc: Global, others: &mut BTreeSet<String>, name: &str) -> Tried
@@ -97,13 +128,15 @@ pub(crate) fn settle(
     alloc: Global,
     slots: &mut Vec<u32>,
     others: &mut BTreeSet<String>,
-    exports: &[NamedExport],
+    names: &[u8],
+    exports: &[KeptExport],
     name: &str,
 ) -> Tried
-    requires { Holds slots.old.items others.old (names_of (map export_of exports.now)) }
-    ensures { HasSettled name.now (names_of (map export_of exports.now)) slots.new.items others.new result }
+    requires named { AreNamed names.now exports.now }
+    requires held { Holds slots.old.items others.old (names_of (exports_of names.now exports.now)) }
+    ensures { HasSettled name.now (names_of (exports_of names.now exports.now)) slots.new.items others.new result }
 {
-    match meet(slots.as_slice(), exports, name) {
+    match meet(slots.as_slice(), names, exports, name) {
         Met::Free(at, index) => {
             put(slots, at, index);
             return Tried::Added;
@@ -128,9 +161,11 @@ pub(crate) fn after(slots: usize) -> usize {
 pub(crate) fn rebuilt(
     alloc: Global,
     slots: usize,
-    exports: &[NamedExport],
+    names: &[u8],
+    exports: &[KeptExport],
 ) -> Option<(Vec<u32>, BTreeSet<String>)>
-    ensures { IfSome result (λ it. Holds it.0.items it.1 (names_of (map export_of exports.now))) }
+    requires { AreNamed names.now exports.now }
+    ensures { IfSome result (λ it. Holds it.0.items it.1 (names_of (exports_of names.now exports.now))) }
 {
     let Ok(mut slots) = Vec::from_elem(alloc, u32::MAX, slots) else {
         return None;
@@ -138,13 +173,9 @@ pub(crate) fn rebuilt(
     let mut others = BTreeSet::new(alloc);
     for i in 0..exports.len() {
         let (before, _) = exports.split_at(i);
-        match settle(
-            alloc,
-            &mut slots,
-            &mut others,
-            before,
-            exports[i].name.as_str(),
-        ) {
+        let export = &exports[i];
+        let name = name_of(names, export.name);
+        match settle(alloc, &mut slots, &mut others, names, before, name) {
             Tried::Added => (),
             Tried::Taken => return None,
             Tried::NoMemory => return None,

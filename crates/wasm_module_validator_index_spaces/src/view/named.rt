@@ -1,38 +1,35 @@
 //! Imports and exports by their names, with what they are.
 
-ghost use Rattle.std.specs.Prelude.{◌≡◌, map};
-ghost use Rattle.wasm_module_validator_exports.specs.names.Exports.{export_of};
-ghost use Rattle.wasm_module_validator_exports.specs.names.Imports.{named_of};
+ghost use Rattle.std.specs.Prelude.{◌≡◌};
 ghost use Rattle.wasm_module_validator_index_spaces.specs.view.Entities.{export_entities, import_entities, places_of};
 
 use crate::Module;
 use crate::view::EntityType;
 use crate::view::entity::entity_at;
 use std::marker::Model;
-use wasm_module_validator_exports::names::{NamedExport, NamedImports, Place};
+use wasm_module_validator_exports::names::{Imports, NamedExports, Place};
 
 /// The exports of a module that are left, in their order, each by its name with what it is. A contract sees them as a list.
 #[derive(Drop)]
 pub struct CoreExports<'a> {
     module: &'a Module,
-    exports: &'a [NamedExport],
+    exports: NamedExports<'a>,
 }
 
 impl<'a> Model for CoreExports<'a> {
-    ghost use Rattle.std.specs.Prelude.{ℕ, List, map};
-    ghost use Rattle.wasm_module_validator_exports.specs.names.Exports.{export_of};
+    ghost use Rattle.std.specs.Prelude.{ℕ, List};
     ghost use Rattle.wasm_module_validator_index_spaces.specs.declared.view.entity.EntityType.{EntityType as Entity};
     ghost use Rattle.wasm_module_validator_index_spaces.specs.view.Entities.{export_entities};
 
     ghost Value = { List (List ℕ × Entity) };
 
-    ghost view = { λ e. export_entities e.«module».now (map export_of e.exports.now) };
+    ghost view = { λ e. export_entities e.«module».now e.exports };
 }
 
 impl<'a> CoreExports<'a> {
     // All of these.
-    pub(crate) fn new(module: &'a Module, exports: &'a [NamedExport]) -> CoreExports<'a>
-        ensures { result ≡ export_entities «module».now (map export_of exports.now) }
+    pub(crate) fn new(module: &'a Module, exports: NamedExports<'a>) -> CoreExports<'a>
+        ensures { result ≡ export_entities «module».now exports.entry }
     {
         CoreExports { module, exports }
     }
@@ -48,10 +45,9 @@ impl<'a> Iterator for CoreExports<'a> {
     ghost remaining = { item_count (λ rest. rest) };
 
     fn next(&mut self) -> Option<(&'a str, EntityType)> {
-        while let Some((export, rest)) = self.exports.split_first() {
-            self.exports = rest;
+        while let Some(export) = self.exports.next() {
             if let Some(ty) = entity_at(self.module, export.kind, export.index) {
-                return Some((export.name.as_str(), ty));
+                return Some((export.name, ty));
             }
         }
         None
@@ -61,21 +57,20 @@ impl<'a> Iterator for CoreExports<'a> {
 // What is imported and left, pair of names by pair of names.
 #[derive(Drop)]
 struct NamedPlaces<'a> {
-    names: Vec<NamedImports<'a>>,
+    imports: &'a Imports,
     // How many pairs of names were given, and how many places of the next.
     past: usize,
     given: usize,
 }
 
 impl<'a> Model for NamedPlaces<'a> {
-    ghost use Rattle.std.specs.Prelude.{ℕ, List, drop, map};
+    ghost use Rattle.std.specs.Prelude.{ℕ, List, drop};
     ghost use Rattle.wasm_module_validator_exports.specs.declared.names.imports.Place.{Place as ThePlace};
-    ghost use Rattle.wasm_module_validator_exports.specs.names.Imports.{named_of};
     ghost use Rattle.wasm_module_validator_index_spaces.specs.view.Entities.{places_behind};
 
     ghost Value = { List ((List ℕ × List ℕ) × ThePlace) };
 
-    ghost view = { λ p. places_behind p.given (map named_of (drop p.past p.names.items)) };
+    ghost view = { λ p. places_behind p.given (drop p.past p.imports.now) };
 }
 
 impl<'a> Iterator for NamedPlaces<'a> {
@@ -88,9 +83,9 @@ impl<'a> Iterator for NamedPlaces<'a> {
     ghost remaining = { item_count (λ rest. rest) };
 
     fn next(&mut self) -> Option<(&'a str, &'a str, Place)> {
-        while let Some(named) = self.names.as_slice().get(self.past) {
-            if let Some(place) = named.places.as_slice().get(self.given) {
-                let item = (named.module, named.name, *place);
+        while let Some(named) = self.imports.get(self.past) {
+            if let Some(place) = named.place(self.given) {
+                let item = (named.module, named.name, place);
                 self.given += 1;
                 return Some(item);
             }
@@ -121,13 +116,13 @@ impl<'a> Model for CoreImports<'a> {
 
 impl<'a> CoreImports<'a> {
     // All of these.
-    pub(crate) fn new(module: &'a Module, names: Vec<NamedImports<'a>>) -> CoreImports<'a>
-        ensures { result ≡ import_entities «module».now (map named_of names.entry.items) }
+    pub(crate) fn new(module: &'a Module, imports: &'a Imports) -> CoreImports<'a>
+        ensures { result ≡ import_entities «module».now imports.now }
     {
         CoreImports {
             module,
             places: NamedPlaces {
-                names,
+                imports,
                 past: 0,
                 given: 0,
             },

@@ -1,17 +1,14 @@
 //! A module that was read, and the list of its types, borrowed.
 
-ghost use Rattle.std.specs.Prelude.{◌≡◌, map, IfErr, IfOk};
-ghost use Rattle.wasm_types.specs.decoding.declared.error.ErrorKind.TheVariants.{OutOfMemory};
-ghost use Rattle.wasm_module_validator_exports.specs.names.Exports.{export_of};
+ghost use Rattle.std.specs.Prelude.{◌≡◌};
 ghost use Rattle.wasm_module_validator_index_spaces.specs.view.Entities.{export_entities, import_entities};
 
 use crate::Module;
 use crate::view::ValidatorId;
 use crate::view::named::{CoreExports, CoreImports};
 use std::marker::Model;
-use wasm_module_validator_exports::names::{Imports, NamedExport};
+use wasm_module_validator_exports::names::{Exports, Imports};
 use wasm_module_validator_type_list::TypeList;
-use wasm_types::Result;
 
 /// What a validator learned of a module, borrowed: its index spaces, its imports and exports, and the list of its types. `types[id]` is
 /// the type of an id.
@@ -21,12 +18,10 @@ pub struct TypesRef<'a> {
     pub(crate) types: &'a TypeList,
     pub(crate) module: &'a Module,
     pub(crate) imports: &'a Imports,
-    pub(crate) exports: &'a [NamedExport],
+    pub(crate) exports: &'a Exports,
 }
 
 impl<'a> Model for TypesRef<'a> {
-    ghost use Rattle.std.specs.Prelude.{map};
-    ghost use Rattle.wasm_module_validator_exports.specs.names.Exports.{export_of};
     ghost use Rattle.wasm_module_validator_index_spaces.specs.view.Shown.{Shown};
 
     ghost Value = { Shown };
@@ -36,7 +31,7 @@ impl<'a> Model for TypesRef<'a> {
       groups = r.types.now.groups;
       spaces = r.«module».now;
       imports = r.imports.now;
-      exports = map export_of r.exports.now;
+      exports = r.exports.now;
     } };
 }
 
@@ -48,14 +43,14 @@ impl<'a> TypesRef<'a> {
         types: &'a TypeList,
         module: &'a Module,
         imports: &'a Imports,
-        exports: &'a [NamedExport],
+        exports: &'a Exports,
     ) -> TypesRef<'a>
         ensures { result ≡ record {
           id = id;
           groups = types.now.groups;
           spaces = «module».now;
           imports = imports.now;
-          exports = map export_of exports.now;
+          exports = exports.now;
         } }
     {
         TypesRef {
@@ -75,23 +70,17 @@ impl<'a> TypesRef<'a> {
     }
 
     /// The imports, each by the name of its module and its own name, with what it is: pairs of names in the order in which they came
-    /// first, and all imports of one pair together. They are grouped by their names here, which takes memory.
-    ///
-    /// # Errors
-    ///
-    /// Memory is refused.
-    pub fn core_imports(&self) -> Result<CoreImports<'a>>
-        ensures told { IfOk result (λ all. all ≡ import_entities self.now.spaces self.now.imports) }
-        ensures refused { IfErr result (λ e. e.kind ≡ OutOfMemory) }
+    /// first, and all imports of one pair together. It takes no memory.
+    pub fn core_imports(&self) -> CoreImports<'a>
+        ensures { result ≡ import_entities self.now.spaces self.now.imports }
     {
-        let names = self.imports.grouped()?;
-        Ok(CoreImports::new(self.module, names))
+        CoreImports::new(self.module, self.imports)
     }
 
     /// The exports in their order, each by its name with what it is.
     pub fn core_exports(&self) -> CoreExports<'a>
         ensures { result ≡ export_entities self.now.spaces self.now.exports }
     {
-        CoreExports::new(self.module, self.exports)
+        CoreExports::new(self.module, self.exports.iter())
     }
 }

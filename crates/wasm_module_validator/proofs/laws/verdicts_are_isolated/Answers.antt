@@ -1,4 +1,4 @@
-use Rattle.wasm_module_validator.specs.laws.Alone.{alone_rows, few_have_room, first_has_room, no_more_than, verdicts_are_alone}
+use Rattle.wasm_module_validator.specs.laws.Alone.{alone_rows, few_are_alone, few_have_room, few_rows, first_has_room, no_more_than, verdicts_are_alone}
 use Rattle.wasm_module_validator.proofs.laws.verdicts_are_isolated.Goals as goal
 
 pub returns-clause-alone : goal.returns-clause-alone
@@ -15,3 +15,9 @@ returns-clause-once c = no_more_than
 
 pub returns-clause-rows : goal.returns-clause-rows
 returns-clause-rows c = alone_rows
+
+pub returns-clause-modules : goal.returns-clause-modules
+returns-clause-modules c = few_are_alone
+
+pub returns-clause-few_rows : goal.returns-clause-few_rows
+returns-clause-few_rows c = few_rows

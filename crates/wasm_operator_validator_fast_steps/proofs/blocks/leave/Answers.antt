@@ -1,5 +1,5 @@
-use Rattle.std.proofs.Common.{refl}
-use Rattle.wasm_operator_validator_fast_tables.specs.Stacks.{with_all}
+use Rattle.std.proofs.Common.{◌∷◌, [], refl}
+use Rattle.wasm_operator_validator_fast_tables.specs.Stacks.{lying, with_all}
 use Rattle.wasm_operator_validator_fast_tables.proofs.Lowering.{lower_same}
 use Rattle.wasm_operator_validator_fast_steps.proofs.Frames.{bare_closes, left_bare, left_with}
 use Rattle.wasm_operator_validator_fast_steps.proofs.blocks.leave.Goals as goal
@@ -13,6 +13,15 @@ returns-then-is_bare c = λ e.
       c.args.stack.now,
       lower_same c.args.tables.now.known.order _ _ refl,
       left_bare flat c.args.stack.now c.leave.new.self frame (λ ids. bare_closes flat frame.sig params results ids frame.kind) results none ended,
+    )
+
+pub returns-then-frame-eq1 : goal.returns-then-frame-eq1
+returns-then-frame-eq1 c = λ e.
+    let (code, m, is, low, none, put) = c.leave_one.ensures e in (
+      (code ∷ m.0, m.1),
+      low,
+      left_with c.args.tables.now.known.flat.items (code ∷ []) m (lying c.args.frame.now.base m.1) c.leave_one.new.stack c.args.frame.now
+          (λ ids. c.if-not-may_close.ensures refl ids c.args.tables.now.known.flat.items) is none refl put,
     )
 
 pub returns : goal.returns

@@ -1,5 +1,6 @@
 use Rattle.std.proofs.Common.{◌∷◌, get_or, refl, arith}
 use Rattle.std.proofs.lemmas.Option.{slice_get-get_or}
+use Rattle.wasm_operator_validator_fast_tables.specs.declared.tables.Sig.{Sig}
 use Rattle.wasm_operator_validator_fast_tables.specs.Stacks.{with_all}
 use Rattle.wasm_operator_validator_fast_tables.specs.Tables.{params_in, results_in}
 use Rattle.wasm_operator_validator_fast_tables.proofs.Lowering.{lowered, lower_past}
@@ -9,7 +10,7 @@ use Rattle.wasm_operator_validator_fast_steps.proofs.calls.call_indirect.Goals a
 pub returns-clause-leads : goal.returns-clause-leads
 returns-clause-leads c =
     let types = c.as_slice-types.ensures.value in
-    let none = record { params = 0; param_count = 0; results = 0; result_count = 0 } in
+    let none : Sig = record { params = 0; param_count = 0; results = 0; result_count = 0 } in
     let s = get_or c.args.tables.now.known.types.items c.in-Some.index none in
     let ps = params_in c.args.tables.now.known.flat.items s in
     let (m, low, put) = rw types at (c.if-not-pass.ensures.passed refl) in

@@ -18,7 +18,7 @@ returns-clause-leads c =
     c.in-Some-index_at.ensures c.in-Some-returned.params.now c.in-Some-returned.ensures (with_all c.in-Some-returned.params.now c.take_all.new.self) c.take_all.new.self rs refl refl refl)) onwards
 
 pub returns-clause-forward : goal.returns-clause-forward
-returns-clause-forward c = omega (arith, c.in-Some.ensures.forward, c.in-Some-index_at.ensures.forward)
+returns-clause-forward c = omega (arith, c.in-Some.ensures.forward, c.in-Some-index_at.ensures.forward, c.in-Some-unreached.ensures.forward)
 
 pub returns-clause-inside : goal.returns-clause-inside
-returns-clause-inside c = c.in-Some-index_at.ensures.inside
+returns-clause-inside c = c.in-Some-unreached.ensures.inside

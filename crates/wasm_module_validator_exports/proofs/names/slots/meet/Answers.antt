@@ -1,15 +1,12 @@
-use Rattle.std.proofs.Common.{rules, true, false}
-use Rattle.wasm_module_validator_exports.proofs.Taking.{leads_to, not_free}
+use Rattle.std.proofs.Common.{◌≡◌, ◌∙◌, ℕ, ap, length, subst}
+use Rattle.wasm_module_validator_exports.specs.names.Exports.{HasMetAt, beside, exports_of, first_slot, names_of, slot_of}
 use Rattle.wasm_module_validator_exports.proofs.names.slots.meet.Goals as goal
 
-pub returns-then-eq : goal.returns-then-eq
-returns-then-eq c = leads_to c.args.slots.now c.args.exports.now c.args.name.now c.number.result c.slot-at.result c.in-Some.index.now c.in-Some-get.export.now true c.number.ensures c.slot-at.ensures
-    (search rules) (search rules) (search rules) (search rules) (search rules)
-
 pub returns : goal.returns
-returns c = (
-  leads_to c.args.slots.now c.args.exports.now c.args.name.now c.number.result c.slot-at.result c.in-Some.index.now c.in-Some-get.export.now false c.number.ensures c.slot-at.ensures
-      (search rules) (search rules) (search rules) (search rules) (search rules),
-  not_free c.args.slots.now c.args.exports.now c.args.name.now c.number.result c.slot-at.result c.in-Some.index.now c.in-Some-get.export.now c.number.ensures c.slot-at.ensures
-      (search rules) (search rules) (search rules) (search rules),
-)
+returns c =
+    let slots = c.args.slots.now in
+    let names = names_of (exports_of c.args.names.now c.args.exports.now) in
+    let n = c.args.name.now in
+    let at : c.slot-at.result ≡ first_slot slots n = c.slot-at.ensures ∙ ap (λ (v : ℕ). slot_of v (length slots)) c.number.ensures in
+    c.both.ensures slots names n (subst (λ (p : ℕ). HasMetAt slots names n p c.meet_at-first.result) at c.meet_at-first.ensures)
+    (subst (λ (p : ℕ). HasMetAt slots names n (beside p) c.meet_at-second.result) at c.meet_at-second.ensures)
