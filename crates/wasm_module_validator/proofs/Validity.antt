@@ -47,6 +47,7 @@ use Rattle.wasm_operator_validator_soundness.proofs.Options.{address_is}
 use Rattle.wasm_operator_validator_soundness.proofs.RunsFitting.{fits_below}
 use Rattle.wasm_operator_validator_soundness.proofs.Objects.{function_abstract}
 use Rattle.wasm_operator_validator_soundness.proofs.RunsSteps.{programs_sound, constants_sound, constants_valid as constant_states, runs_stay_valid, starts_valid}
+use Rattle.wasm_operator_validator_soundness.proofs.Progress.{answers_exist}
 use Rattle.wasm_operator_validator_store.specs.ValidStores as stores
 use Rattle.wasm_operator_validator_store.specs.Instantiation.{IsConstant as InstantiationConstant, function_item, constant_item, IsItem, IsFilling, IsUse, GlobalsAreTyped, TablesAreTyped, SegmentsAreTyped, AreInitials}
 use Rattle.wasm_operator_validator_store.proofs.Lists.{get_past}
@@ -497,6 +498,7 @@ modules_sound z m standard valid hosts hosted = record {
   states = λ s results started answers t runs.
       let v = program_valid z m hosts standard valid hosted in
       runs_stay_valid (program_of z m hosts) results s answers t v (starts_valid (program_of z m hosts) s results v started) runs;
+  answered = λ s results globals started. answers_exist (program_of z m hosts) s results (program_valid z m hosts standard valid hosted) globals started;
   stores = λ s results u started fits knows. store_runs_sound (program_of z m hosts) s results u (program_valid z m hosts standard valid hosted) started fits knows;
   start = may_start (program_of z m hosts) (program_valid z m hosts standard valid hosted) m.start valid.start;
   constants = each_constant_fits z m hosts standard valid hosted;

@@ -42,5 +42,7 @@ part_rows = record {
   only = λ first. bytes_worked.body_empty (whole_is_accepted everything 1 bodiless (omega arith) (each_of_one first));
   one_of_two = λ first second. bytes_worked.body_empty (whole_is_accepted everything 2 bodiless (omega arith) (each_of_two first second));
   outside = λ a. bytes_worked.no_body_aside a.0;
-  second = λ R x y s t. ((λ h. h.1.0 refl), (λ r. ((λ k. absurd (let bad : false ≡ true = k in cc)), ((λ k. r), tt))));
+  not_the_first = λ x s. (λ k. absurd (let bad : false ≡ true = k in cc), tt);
+  second = λ x y s t. (λ k. absurd (let bad : false ≡ true = k in cc), (λ k. (refl, refl), tt));
+  not_without_it = λ x y s t h. h.1.0 refl;
 }

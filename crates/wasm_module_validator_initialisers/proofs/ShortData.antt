@@ -2,12 +2,10 @@
 use Rattle.std.proofs.Common.{◌≡◌, ◌≤◌, ℕ, ◌+◌, ◌-◌, List, ◌++◌, refl, sym, ap, ◌∙◌, subst, arith, length, take, drop, inl}
 use Rattle.std.proofs.lemmas.List.{length-take-le, length-drop}
 use Rattle.wasm_types.specs.decoding.Leb.{u32, IsUnsigned}
-use Rattle.wasm_types.specs.settings.Settings.{Settings}
 use Rattle.wasm_types.specs.decoding.Numbers.{GivesAt}
 use Rattle.wasm_operators_bodies.specs.declared.short.ShortConstant.TheVariants as short
 use Rattle.wasm_operators_bodies.specs.Short.{SpellsShort}
 use Rattle.wasm_operators_bodies.specs.ShortLaws.{short_is_constant}
-use Rattle.wasm_module_validator_resources.specs.rules_in_order.Between.{IsBetween}
 use Rattle.wasm_module_validator_resources.specs.rules_in_order.BetweenLaws.{InTurn, in_turn, between_so, bytes_between, number_between}
 use Rattle.wasm_module_validator_initialisers.specs.segments.Short.{IsShortData, SpellsInFirst}
 

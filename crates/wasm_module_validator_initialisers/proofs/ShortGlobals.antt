@@ -1,5 +1,5 @@
 -- A global that its bytes alone tell is valid, and is added.
-use Rattle.std.proofs.Common.{◌≡◌, ◌≤◌, ◌<◌, ◌∙◌, ℕ, ◌+◌, ◌-◌, List, [], ◌∷◌, ◌++◌, Bool, true, false, Result, Ok, Some, None, refl, sym, ap, subst, arith, length, take, drop, get_or, slice_get}
+use Rattle.std.proofs.Common.{◌≡◌, ◌≤◌, ◌<◌, ◌∙◌, ℕ, ◌+◌, ◌-◌, List, [], ◌∷◌, ◌++◌, Bool, true, false, Result, Ok, Some, refl, sym, ap, subst, arith, length, take, drop, get_or, slice_get}
 use Rattle.std.proofs.lemmas.List.{drop_more, length-drop}
 use Rattle.std.specs.Prelude.{option_map}
 use Rattle.wasm_types.specs.settings.Settings.{Settings}
@@ -11,8 +11,6 @@ use Rattle.wasm_types.specs.trees.laws.Below.{below_reflexive}
 use Rattle.wasm_types.specs.decoding.ErrorValue.{ErrorValue}
 use Rattle.wasm_types.specs.externs.declared.global.GlobalType.{GlobalType}
 use Rattle.wasm_types.specs.externs.Spells.{bit, SpelledGlobal}
-use Rattle.wasm_types.specs.values.declared.value.ValType.{ValType}
-use Rattle.wasm_types.specs.values.declared.value.ValType.TheVariants as value
 use Rattle.wasm_operators_enums.specs.declared.memory.MemoryOperator.TheVariants as memory
 use Rattle.wasm_operators_enums.specs.Op as op
 use Rattle.wasm_operators_enums.specs.Op.{Op}
@@ -20,9 +18,8 @@ use Rattle.wasm_operators_encoding.specs.expressions.Code.{Code}
 use Rattle.wasm_operators_encoding.specs.expressions.Spelling.{SpelledExpression}
 use Rattle.wasm_operators_bodies.specs.declared.short.ShortConstant.{ShortConstant}
 use Rattle.wasm_operators_bodies.specs.declared.short.ShortConstant.TheVariants as short
-use Rattle.wasm_operators_bodies.specs.Short.{alone, IsOf, SpellsShort}
+use Rattle.wasm_operators_bodies.specs.Short.{alone, SpellsShort}
 use Rattle.wasm_operators_bodies.specs.ShortLaws.{short_is_constant}
-use Rattle.wasm_operators_encoding.specs.ConstantDecoder.{ConstantText}
 use Rattle.wasm_operator_validator_state.specs.resources.Meaning.{Meaning, type_in, global_in}
 use Rattle.wasm_operator_validator_rules.specs.Context.{Module}
 use Rattle.wasm_operator_validator_rules.specs.Operands.{ValueType}
@@ -38,14 +35,13 @@ use Rattle.wasm_module_validator_resources.specs.referring.Naming.{NamesMore}
 use Rattle.wasm_module_validator_state.specs.Adding.{adding_global}
 use Rattle.wasm_module_validator_state.specs.Items.{Items}
 use Rattle.wasm_module_validator_state.specs.invariant.Standing.{constants_of, IsAdded}
-use Rattle.wasm_module_validator_initialisers.specs.segments.Judged.{IsConstantText, IsGlobal}
+use Rattle.wasm_module_validator_initialisers.specs.segments.Judged.{IsGlobal}
 use Rattle.wasm_module_validator_initialisers.specs.segments.NumberLaws.{i32_text, i64_text}
-use Rattle.wasm_module_validator_initialisers.specs.elements.Short.{FitsGlobal}
-use Rattle.wasm_module_validator_initialisers.proofs.ShortConstants.{global_fits}
-use Rattle.wasm_module_validator_initialisers.specs.adding.Short.{AddsGlobal, HoldsInteger, IsInteger, SpellsGlobal, integer, integer_byte, integer_global, integer_type}
+use Rattle.wasm_module_validator_initialisers.proofs.ShortConstants.{FitsGlobal, global_fits}
+use Rattle.wasm_module_validator_initialisers.specs.adding.Short.{HoldsInteger, IsInteger, SpellsGlobal, integer, integer_byte, integer_global, integer_type}
 use Rattle.wasm_module_validator_initialisers.proofs.NewGlobals.{global_told, global_added}
 use Rattle.wasm_module_validator_initialisers.proofs.Parts.{global_is}
-use Rattle.wasm_module_validator_initialisers.proofs.ShortWalks.{refers_alone}
+use Rattle.wasm_module_validator_initialisers.proofs.ShortWalks.{refers_to}
 
 -- ---- what the code asks
 
@@ -89,19 +85,19 @@ module _ (z : Settings) (g : Module) (count : ℕ) (wide : Bool) where
   Told text = (c : Code) × SpelledExpression z c text × IsConstant z.features g count Own c × NamesMore z text [] []
 
   told : (o : Op) (text : List ℕ) → SpelledExpression z (alone o) text → IsConstant z.features g count Own (alone o) → referred_in (alone o) ≡ [] → Told text
-  told o text spelled fits none = (alone o, spelled, fits, refers_alone z o [] text [] [] spelled none refl)
+  told o text spelled fits none = (alone o, spelled, fits, refers_to z (alone o) [] text [] [] spelled none refl)
 
 pub integer_told : (z : Settings) (g : Module) (count : ℕ) (wide : Bool) (c : ShortConstant) (text : List ℕ) → SpellsShort c text → IsInteger (has Gc z.features) g wide c → Told z g count wide text
 integer_told z g count true short.I32 text h e = absurd cc
 integer_told z g count false short.I32 text h e =
     let (o, (n, is), spelled) = h z in
     let (c, again, fits) = i32_text z g count text h in
-    (c, again, fits, refers_alone z o [] text [] [] spelled (rw is refl) refl)
+    (c, again, fits, refers_to z (alone o) [] text [] [] spelled (rw is refl) refl)
 integer_told z g count false short.I64 text h e = absurd cc
 integer_told z g count true short.I64 text h e =
     let (o, (n, is), spelled) = h z in
     let (c, again, fits) = i64_text z g count text h in
-    (c, again, fits, refers_alone z o [] text [] [] spelled (rw is refl) refl)
+    (c, again, fits, refers_to z (alone o) [] text [] [] spelled (rw is refl) refl)
 integer_told z g count wide (short.Global x) text h e =
     let (o, is, spelled) = h z in
     told z g count wide (op.Memory (memory.GlobalGet x)) text (subst (λ (p : Op). SpelledExpression z (alone p) text) is spelled) (global_fits z.features g (Own z g count wide) x e.0 (fitting z g count wide x e.1) count) refl

@@ -1,19 +1,14 @@
 -- A walk goes past elements that their bytes alone tell.
-use Rattle.std.proofs.Common.{◌≡◌, ◌∙◌, ℕ, zero, suc, ◌+◌, ◌-◌, ◌≤◌, List, [], ◌∷◌, ◌++◌, length, take, drop, false, refl, sym, ap, subst, arith, append-nil}
+use Rattle.std.proofs.Common.{◌≡◌, ◌∙◌, ℕ, zero, suc, ◌+◌, ◌-◌, ◌≤◌, List, ◌++◌, length, take, drop, refl, sym, ap, subst, arith}
 use Rattle.std.proofs.lemmas.List.{append_cancel_left, take-append-drop, length-take-le, length-append, length-drop, drop-drop}
 use Rattle.wasm_types.specs.settings.Settings.{Settings}
 use Rattle.wasm_types.specs.decoding.Decoder.{State, Done, Takes}
 use Rattle.wasm_types.specs.decoding.Places.{end_of}
 use Rattle.wasm_types.specs.decoding.ErrorValue.{ErrorValue}
-use Rattle.wasm_operators_enums.specs.declared.control.ControlOperator.TheVariants as control
-use Rattle.wasm_operators_enums.specs.Op as op
-use Rattle.wasm_operators_enums.specs.Op.{Op}
-use Rattle.wasm_operators_enums.specs.Roles.{role_of}
-use Rattle.wasm_operators_enums.specs.declared.role.Role.TheVariants.{Plain}
-use Rattle.wasm_operators_encoding.specs.expressions.Code.{Code}
+use Rattle.wasm_operators_encoding.specs.Ends.{EndsOnce}
+use Rattle.wasm_operators_encoding.specs.expressions.Code.{Code, walk}
 use Rattle.wasm_operators_encoding.specs.expressions.Spelling.{SpelledExpression}
 use Rattle.wasm_operators_encoding.specs.expressions.SpellingLaws.{one_expression}
-use Rattle.wasm_operators_bodies.specs.Short.{alone}
 use Rattle.wasm_operators_encoding.specs.ConstantDecoder.{constant}
 use Rattle.wasm_operators_encoding.specs.ConstantDecoderLaws.{decides-constant}
 use Rattle.wasm_sections_items.specs.limited.Walking.{Walk, Passes}
@@ -62,23 +57,16 @@ passed_end w v i k (taken, left, over) =
 pub passed_kept : (w v : Walk) (i k : ℕ) → Passes i k w v → v.reader.settings ≡ w.reader.settings
 passed_kept w v i k (taken, left, over) = taken.settings
 
--- ---- an operator with its `end` is read as a constant
+-- ---- what one pass accepts is read as a constant
 
-read_alone : (o : Op) (text : List ℕ) (z : Settings) (s t : State) → role_of o ≡ Plain → SpelledExpression z (alone o) text → Takes s text t → constant z s ≡ Done text t
-read_alone o text z s t plain spelled taken = (decides-constant z).complete s t text text taken (
-  refl,
-  record {
-    code = alone o;
-    spelled = spelled;
-    once = record { front = o ∷ []; last = op.Control control.End; whole = refl; none = (rw plain refl, tt); ended = refl };
-  },
-)
+read_constant : (c : Code) (text : List ℕ) (z : Settings) (s t : State) → EndsOnce (walk c) → SpelledExpression z c text → Takes s text t → constant z s ≡ Done text t
+read_constant c text z s t once spelled taken = (decides-constant z).complete s t text text taken (refl, record { code = c; spelled = spelled; once = once })
 
--- it refers to what it refers to alone
-pub refers_alone : (z : Settings) (o : Op) (names text now after : List ℕ) → SpelledExpression z (alone o) text → referred_in (alone o) ≡ names → after ≡ now ++ names
+-- it refers to what its code refers to
+pub refers_to : (z : Settings) (c : Code) (names text now after : List ℕ) → SpelledExpression z c text → referred_in c ≡ names → after ≡ now ++ names
     → NamesMore z text now after
-refers_alone z o names text now after spelled named e c other =
-    e ∙ ap (λ (xs : List ℕ). now ++ xs) (sym named ∙ ap referred_in (sym (one_expression z c (alone o) text other spelled)))
+refers_to z c names text now after spelled named e d other =
+    e ∙ ap (λ (xs : List ℕ). now ++ xs) (sym named ∙ ap referred_in (sym (one_expression z d c text other spelled)))
 
 module _ (z : Settings) (g : Module) (count : ℕ) (t : ValueType) (Refused : Walk → ErrorValue → Type 0) (first : Walk) (before : List ℕ) where
   abbrev Here : Walk → List ℕ → Type 0
@@ -102,10 +90,9 @@ module _ (z : Settings) (g : Module) (count : ℕ) (t : ValueType) (Refused : Wa
         start = refl;
       } in
       let y = b.reader.settings in
-      let read = read_alone s.op part y b.reader v.reader s.plain (s.spelled y) taken in
-      let named : referred_in (alone s.op) ≡ names = append-nil _ ∙ s.named in
+      let read = read_constant s.code part y b.reader v.reader s.once (s.spelled y) taken in
       walked_behind (IsConstantText z g count t) (NamesMore z) constant Refused first before b now h v part (omega arith) read refl after h.going
-      (alone s.op, s.spelled z, s.constant count) (refers_alone z s.op names part now after (s.spelled z) named e)
+      (s.code, s.spelled z, s.constant count) (refers_to z s.code names part now after (s.spelled z) s.named e)
 
   run : (n : ℕ) (w : Walk) (j k : ℕ) (now after : List ℕ) → w.left ≡ n + k → NamesRun z.features g t w.reader.rest n 0 j now after → Here w now → Here (behind w j k) after
   run zero w j k now after e (at, same) h =

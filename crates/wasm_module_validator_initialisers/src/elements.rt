@@ -17,6 +17,7 @@ mod short;
 pub use crate::segments::{
     ConstExpr, DataOf, GlobalOf, OperatorValidatorAllocations, Settings, TableInitOf, TableOf,
     WasmModuleResources, check_data, check_global, check_short_data, check_table, reader_by,
+    refers_to_none,
 };
 pub use elements::check_element;
 pub use wasm_module_validator_resources::referring::{ReferringToAll, name_references};

@@ -13,7 +13,7 @@ pub mod laws;
 mod short;
 mod tables;
 
-pub use constants::{check_constant, reader_by};
+pub use constants::{check_constant, reader_by, refers_to_none};
 pub use data::check_data;
 pub use globals::check_global;
 pub use short::check_short_data;

@@ -13,6 +13,7 @@ pub mod WorkedStuck
 pub mod WorkedAnswered
 pub mod RunsFitting
 pub mod RunsInvariant
+pub mod Thrown
 pub mod Options
 pub mod Names
 pub mod Combining
@@ -24,12 +25,17 @@ pub mod Calling
 pub mod Operating
 pub mod Throwing
 pub mod Making
+pub mod Unshared
 pub mod Entering
 pub mod RunsSteps
+pub mod Placing
+pub mod Progress
 pub mod RunsWorkedRuns
 pub mod RunsWorkedStuck
 pub mod WorkedSums
 pub mod WorkedCaught
+pub mod RunsWorkedAnswered
+pub mod RunsWorkedPlaced
 pub mod WorkedObjects
 pub mod WorkedOlder
 pub mod WorkedBranching

@@ -2,8 +2,9 @@
 use Rattle.std.proofs.Common.{◌≡◌, ℕ, zero, suc, List, [], ◌∷◌, Option, Some, None, refl, sym, ap, subst, slice_get, slice_set, unwrap_or, map}
 use Rattle.wasm_operator_validator_rules.specs.Operands.{ValueType, Operand, stack}
 use Rattle.wasm_operator_validator_rules.specs.Context.{Context, Initialised, Signature}
+use Rattle.wasm_operator_validator_soundness.specs.runs.Notes.{Notes, Stride, stride, IsAlong}
 use Rattle.wasm_operator_validator_soundness.specs.runs.Values.{Program, Value, Fits}
-use Rattle.wasm_operator_validator_soundness.specs.runs.ValidStates.{AreSet, LocalFits, LocalsFit, Around, LoopsBack, HandlersFit, LabelsAwait, IsValidOutcome}
+use Rattle.wasm_operator_validator_soundness.specs.runs.ValidStates.{AreSet, LocalFits, LocalsFit, Around, LoopsBack, HandlersFit, LabelsAwait, IsValidOutcomeBy}
 use Rattle.wasm_operator_validator_soundness.specs.runs.States.{Continuation, behind, again, Handlers, no_handlers, table, clauses, Label, Activation, Answer, branch_type, is_clause}
 use Rattle.wasm_operator_validator_soundness.specs.runs.States.{Move}
 
@@ -20,8 +21,12 @@ some_same x y e = ap (λ o. unwrap_or o x) e
 
 -- What a step asks holds, and what comes of it is good, where the answer is accepted. It is a record, so that what a step is put
 -- together of can be found from its type.
-pub record IsOkay (p : Program) (final : List ValueType) (m : Move) : Type 0 where
-  pub okay : m.is_answer → m.needs × IsValidOutcome p final m.outcome
+pub record IsOkay (N : Notes) (p : Program) (final : List ValueType) (m : Move) : Type 0 where
+  pub okay : m.is_answer → m.needs × IsValidOutcomeBy N p final m.outcome
+
+-- one stride further
+pub further : (N : Notes) (root n : N.Note) (m : Stride) → IsAlong N root n → IsAlong N root (stride N m n)
+further N root n m k = (m ∷ k.0, ap (stride N m) k.1)
 
 -- what the rules know at the innermost instructions
 abbrev pub here : Program → Answer → Activation → List Activation → Context
@@ -73,23 +78,28 @@ still_set (o ∷ os) (suc x) (suc y) v w e = still_set os x y v w e
 pub are_still_set : (locals : List (Option Value)) (x : ℕ) (v : Value) (set : Initialised) → AreSet set locals → AreSet set (slice_set locals x (Some v))
 are_still_set locals x v set s y i = let r = s y i in still_set locals x y v r.0 r.1
 
-module _ (p : Program) (w : Around) (locals : List (Option Value)) (x : ℕ) (v : Value) where
+module _ (N : Notes) (p : Program) (w : Around) (locals : List (Option Value)) (x : ℕ) (v : Value) where
   abbrev now : List (Option Value)
   now = slice_set locals x (Some v)
 
-  pub loops_still : (c : Continuation) (b : Signature) (ls : List Label) → LoopsBack p w locals c b ls → LoopsBack p w (slice_set locals x (Some v)) c b ls
-  loops_still behind b ls t = tt
-  loops_still (again body) b ls t = (t.0, t.1, t.2, t.3, are_still_set locals x v t.3 t.4, t.5)
+  pub loops_still : (root : N.Note) (c : Continuation) (b : Signature) (ls : List Label) → LoopsBack N p w locals root c b ls → LoopsBack N p w (slice_set locals x (Some v)) root c b ls
+  loops_still root behind b ls t = tt
+  loops_still root (again body) b ls t = (t.0, t.1, t.2, t.3, are_still_set locals x v t.3 t.4, t.5)
 
-  pub handlers_still : (h : Handlers) (b : Signature) (ls : List Label) → HandlersFit p w locals h b ls → HandlersFit p w (slice_set locals x (Some v)) h b ls
-  handlers_still no_handlers b ls t = tt
-  handlers_still (table cs) b ls t = t
-  handlers_still (clauses c) b ls t = (t.0, t.1, are_still_set locals x v t.0 t.2, t.3, t.4, t.5)
+  pub handlers_still : (root : N.Note) (h : Handlers) (b : Signature) (ls : List Label) → HandlersFit N p w locals root h b ls → HandlersFit N p w (slice_set locals x (Some v)) root h b ls
+  handlers_still root no_handlers b ls t = tt
+  handlers_still root (table cs) b ls t = t
+  handlers_still root (clauses c) b ls t = (t.0, t.1, are_still_set locals x v t.0 t.2, t.3, t.4, t.5)
 
-  pub still_await : (owed : List ValueType) (ls : List Label) (given : List Operand) → LabelsAwait p w locals owed ls given → LabelsAwait p w (slice_set locals x (Some v)) owed ls given
-  still_await owed [] given k = k
-  still_await owed (l ∷ ls) given k = (
+  pub still_await : (owed : List ValueType) (ls : List Label) (given : List Operand) (inner : Option N.Note) → LabelsAwait N p w locals owed ls given inner
+      → LabelsAwait N p w (slice_set locals x (Some v)) owed ls given inner
+  still_await owed [] given inner k = k
+  still_await owed (l ∷ ls) given inner k = (
     record {
+      root = k.0.root;
+      place = k.0.place;
+      along = k.0.along;
+      around = k.0.around;
       kind = k.0.kind;
       inside = k.0.inside;
       before = k.0.before;
@@ -98,9 +108,9 @@ module _ (p : Program) (w : Around) (locals : List (Option Value)) (x : ℕ) (v 
       operands = k.0.operands;
       fit = k.0.fit;
       typed = k.0.typed;
-      loops = loops_still l.continuation l.block ls k.0.loops;
-      handlers = handlers_still l.handlers l.block ls k.0.handlers;
+      loops = loops_still k.0.root l.continuation l.block ls k.0.loops;
+      handlers = handlers_still k.0.root l.handlers l.block ls k.0.handlers;
       caught = k.0.caught;
     },
-    still_await owed ls (stack l.block.results) k.1,
+    still_await owed ls (stack l.block.results) (Some k.0.root) k.1,
   )

@@ -29,16 +29,16 @@ use Rattle.wasm_operator_validator_rules.specs.Context.{Context, Initialised, Si
 use Rattle.wasm_operator_validator_rules.specs.Row.{after}
 use Rattle.wasm_operator_validator_rules.specs.Named.{as_function}
 use Rattle.wasm_operator_validator_rules.specs.Exceptions.{exception, Catches, EachCatches}
-use Rattle.wasm_operator_validator_rules.specs.Typed.{Typed, IsBody}
+use Rattle.wasm_operator_validator_soundness.specs.runs.Notes.{Notes, over_operator, over_block, into_part, IsAlong}
+use Rattle.wasm_operator_validator_soundness.specs.runs.Places.{body_first, body_inside, body_frame, IsValidBodyBy, HasBodyBy}
 use Rattle.wasm_operator_validator_soundness.specs.runs.Values.{Body, Program, IsStandardType, Value, number_value, ref_exn, bottom_under, IsMade, Fits, AllFit, null_of, default_of}
 use Rattle.wasm_operator_validator_soundness.specs.runs.States.{Continuation, behind, again, Handlers, no_handlers, table, clauses, Label, Activation, State, taken_by, branch_type, is_clause, Answer}
 use Rattle.wasm_operator_validator_soundness.specs.runs.States.{next, returned, thrown, Move, done, asks, allows}
 use Rattle.wasm_operator_validator_soundness.specs.runs.Machine.{function_type, Clause, clause_at, begun, gives, hand_back, come_out, land, jump}
 use Rattle.wasm_operator_validator_soundness.specs.runs.Machine.{is_for, caught_by, tag_values, catch_by, turn_to, handle, leave_labels, unwind, throw_again, by_host, begin}
-use Rattle.wasm_operator_validator_soundness.specs.runs.Soundness.{body_context, IsValidBody, HasValidBody}
 use Rattle.wasm_operator_validator_soundness.proofs.RunsFitting.{all_below, fits_joined, fits_reversed, stack_more, both_reversed}
 use Rattle.wasm_operator_validator_soundness.specs.runs.ValidStates.{AreSet, LocalFits, LocalsFit, IsThrown, Around, around_of, at, among, frame_of, LoopsBack, HandlersFit, LabelsAwait}
-use Rattle.wasm_operator_validator_soundness.proofs.RunsInvariant.{none_is_some, some_same}
+use Rattle.wasm_operator_validator_soundness.proofs.RunsInvariant.{none_is_some, some_same, further}
 use Rattle.wasm_operator_validator_soundness.specs.runs.ValidStates.{ActivationAwaits, AllAwait}
 use Rattle.wasm_operator_validator_soundness.proofs.RunsInvariant.{IsOkay}
 use Rattle.wasm_operator_validator_soundness.proofs.Combining.{done_okay, refused_okay, asks_okay, allows_okay, found_okay, gives_okay, may_trap_okay}
@@ -73,12 +73,14 @@ abbrev pub HandsOn : Program → Option ℕ → List ValueType → Type 0
 HandsOn p None ts = ts ≡ []
 HandsOn p (Some x) ts = (t : TypeTree) × (slice_get p.«module».tags x ≡ Some t) × IsFunctionType t (record { params = ts; results = [] })
 
-pub record ClauseTyped (p : Program) (w : Around) (labels : List (List ValueType)) (catches : List Bool) (b : Signature) (before : Initialised) (c : Clause) : Type 0 where
+pub record ClauseTyped (N : Notes) (p : Program) (w : Around) (labels : List (List ValueType)) (catches : List Bool) (b : Signature) (before : Initialised) (root : N.Note) (c : Clause) : Type 0 where
   pub kind : FrameKind
   pub carries : List ValueType
   pub hands_on : HandsOn p c.tag carries
   pub inside : IsIn kind c.code
-  pub typed : Typed (at p w labels (true ∷ catches)) (frame_of p w kind b before) before c.code (stack carries)
+  pub place : N.Note
+  pub along : IsAlong N root place
+  pub typed : N.Holds place (at p w labels (true ∷ catches)) (frame_of p w kind b before) before c.code (stack carries)
 
 -- a frame whose parts are clauses
 abbrev IsTrying : FrameKind → Type 0
@@ -106,47 +108,62 @@ to_catch_all frames.LegacyTry j e = turned_same frames.LegacyCatchAll j e
 to_catch_all frames.LegacyCatch j e = turned_same frames.LegacyCatchAll j e
 to_catch_all k j e = absurd (none_is_some (effects.Turns j) e)
 
-module _ (p : Program) (w : Around) (labels : List (List ValueType)) (catches : List Bool) (b : Signature) (before : Initialised) where
+module _ (N : Notes) (p : Program) (w : Around) (labels : List (List ValueType)) (catches : List Bool) (b : Signature) (before : Initialised) (root : N.Note) where
   abbrev ClauseIs : Clause → Type 0
-  ClauseIs c = ClauseTyped p w labels catches b before c
+  ClauseIs c = ClauseTyped N p w labels catches b before root c
 
-  pub clause_typed : (m : Bool) (k : FrameKind) → IsTrying k → (set : Initialised) (c : Code) (s : List Operand) (n : ℕ) (cl : Clause)
-      → IsIn k c → Typed (at p w labels (m ∷ catches)) (frame_of p w k b before) set c s → clause_at c n ≡ Some cl → ClauseIs cl
-  clause_typed m k i set (close o) s n cl q t e = absurd (none_is_some cl e)
-  clause_typed m k i set (plain o more) s n cl q t e = clause_typed m k i (after o set) more t.0 n cl q.1 t.2 e
-  clause_typed m k i set (nested o body more) s n cl q t e = clause_typed m k i set more (stack (t.1).results ++ t.2) n cl q.3 t.6 e
-  clause_typed m k i set (turn (op.Control control.Else) more) s n cl q t e = absurd (no_else k q.0 i q.1)
-  clause_typed m k i set (turn (op.Exception (op.Catch x)) more) s zero cl q t e =
+  -- a clause of code that is typed at a place
+  pub clause_typed : (m : Bool) (k : FrameKind) → IsTrying k → (set : Initialised) (c : Code) (s : List Operand) (n : ℕ) (cl : Clause) (here : N.Note) → IsAlong N root here
+      → IsIn k c → N.Holds here (at p w labels (m ∷ catches)) (frame_of p w k b before) set c s → clause_at c n ≡ Some cl → ClauseIs cl
+  clause_typed m k i set (close o) s n cl here l q t e = absurd (none_is_some cl e)
+  clause_typed m k i set (plain o more) s n cl here l q t e =
+      let y = N.opened here (at p w labels (m ∷ catches)) (frame_of p w k b before) set (plain o more) s t in
+      clause_typed m k i (after o set) more y.0 n cl (N.next here) (further N root here over_operator l) q.1 y.2 e
+  clause_typed m k i set (nested o body more) s n cl here l q t e =
+      let y = N.opened here (at p w labels (m ∷ catches)) (frame_of p w k b before) set (nested o body more) s t in
+      clause_typed m k i set more (stack (y.1).results ++ y.2) n cl (N.past here) (further N root here over_block l) q.3 y.6 e
+  clause_typed m k i set (turn (op.Control control.Else) more) s n cl here l q t e = absurd (no_else k q.0 i q.1)
+  clause_typed m k i set (turn (op.Exception (op.Catch x)) more) s zero cl here l q t e =
+      let y = N.opened here (at p w labels (m ∷ catches)) (frame_of p w k b before) set (turn (op.Exception (op.Catch x)) more) s t in
       subst (λ (d : Clause). ClauseIs d) (some_same (record { tag = Some x; code = more }) cl e)
-      (record { kind = frames.LegacyCatch; carries = t.0; hands_on = t.1.1; inside = subst (λ (j : FrameKind). IsIn j more) (sym (to_catch x k q.0 q.1)) q.2; typed = t.3 })
-  clause_typed m k i set (turn (op.Exception op.CatchAll) more) s zero cl q t e =
+      (record { kind = frames.LegacyCatch; carries = y.0; hands_on = y.1.1; inside = subst (λ (j : FrameKind). IsIn j more) (sym (to_catch x k q.0 q.1)) q.2; place = N.turned here; along = further N root here into_part l; typed = y.3 })
+  clause_typed m k i set (turn (op.Exception op.CatchAll) more) s zero cl here l q t e =
+      let y = N.opened here (at p w labels (m ∷ catches)) (frame_of p w k b before) set (turn (op.Exception op.CatchAll) more) s t in
       subst (λ (d : Clause). ClauseIs d) (some_same (record { tag = None; code = more }) cl e)
-      (record { kind = frames.LegacyCatchAll; carries = t.0; hands_on = t.1.1; inside = subst (λ (j : FrameKind). IsIn j more) (sym (to_catch_all k q.0 q.1)) q.2; typed = t.3 })
-  clause_typed m k i set (turn (op.Exception (op.Catch x)) more) s (suc n) cl q t e =
-      clause_typed true frames.LegacyCatch tt before more (stack t.0) n cl (subst (λ (j : FrameKind). IsIn j more) (sym (to_catch x k q.0 q.1)) q.2) t.3 e
-  clause_typed m k i set (turn (op.Exception op.CatchAll) more) s (suc n) cl q t e =
-      clause_typed true frames.LegacyCatchAll tt before more (stack t.0) n cl (subst (λ (j : FrameKind). IsIn j more) (sym (to_catch_all k q.0 q.1)) q.2) t.3 e
-  clause_typed m k i set (turn o more) s n cl q t e = absurd t.1
+      (record { kind = frames.LegacyCatchAll; carries = y.0; hands_on = y.1.1; inside = subst (λ (j : FrameKind). IsIn j more) (sym (to_catch_all k q.0 q.1)) q.2; place = N.turned here; along = further N root here into_part l; typed = y.3 })
+  clause_typed m k i set (turn (op.Exception (op.Catch x)) more) s (suc n) cl here l q t e =
+      let y = N.opened here (at p w labels (m ∷ catches)) (frame_of p w k b before) set (turn (op.Exception (op.Catch x)) more) s t in
+      clause_typed true frames.LegacyCatch tt before more (stack y.0) n cl (N.turned here) (further N root here into_part l) (subst (λ (j : FrameKind). IsIn j more) (sym (to_catch x k q.0 q.1)) q.2) y.3 e
+  clause_typed m k i set (turn (op.Exception op.CatchAll) more) s (suc n) cl here l q t e =
+      let y = N.opened here (at p w labels (m ∷ catches)) (frame_of p w k b before) set (turn (op.Exception op.CatchAll) more) s t in
+      clause_typed true frames.LegacyCatchAll tt before more (stack y.0) n cl (N.turned here) (further N root here into_part l) (subst (λ (j : FrameKind). IsIn j more) (sym (to_catch_all k q.0 q.1)) q.2) y.3 e
+  clause_typed m k i set (turn o more) s n cl here l q t e =
+      let y = N.opened here (at p w labels (m ∷ catches)) (frame_of p w k b before) set (turn o more) s t in
+      absurd y.1
 
 -- ---- leaving labels
 
-module _ (p : Program) (final : List ValueType) (a : Answer) where
+module _ (N : Notes) (p : Program) (final : List ValueType) (a : Answer) where
   abbrev Okay : Move → Type 0
-  Okay m = IsOkay p final m
+  Okay m = IsOkay N p final m
 
   -- what the activation within is owed comes to those below
-  pub hand_back_okay : (owed : List ValueType) (vs : List Value) (acts : List Activation) → AllFit p vs (stack owed) → AllAwait p final acts (stack owed) → Okay (hand_back p a owed vs acts)
-  hand_back_okay owed vs [] f w = asks_okay p final (AllFit p vs (stack owed)) (done (returned vs)) f (done_okay p final (returned vs) (w vs f))
+  pub hand_back_okay : (owed : List ValueType) (vs : List Value) (acts : List Activation) → AllFit p vs (stack owed) → AllAwait N p final acts (stack owed) → Okay (hand_back p a owed vs acts)
+  hand_back_okay owed vs [] f w = asks_okay N p final (AllFit p vs (stack owed)) (done (returned vs)) f (done_okay N p final (returned vs) (w vs f))
   hand_back_okay owed vs (c ∷ cs) f w =
       let k = w.2.labels.0 in
       let s : State = record c { innermost = record c.innermost { values = vs ++ c.innermost.values } } ∷ cs in
-      asks_okay p final (AllFit p vs (stack owed)) (done (next s)) f
-      (done_okay p final (next s) (
+      asks_okay N p final (AllFit p vs (stack owed)) (done (next s)) f
+      (done_okay N p final (next s) (
         record {
           locals = w.2.locals;
           results = w.2.results;
           labels = (
             record {
+              root = k.root;
+              place = k.place;
+              along = k.along;
+              around = k.around;
               kind = k.kind;
               inside = k.inside;
               before = k.before;
@@ -166,21 +183,25 @@ module _ (p : Program) (final : List ValueType) (a : Answer) where
       ))
 
   module _ (act : Activation) (acts : List Activation) (locals : LocalsFit p act.locals act.types)
-      (results : (vs : List Value) → AllFit p vs (stack act.results) → AllFit p vs (stack act.owed)) (below : AllAwait p final acts (stack act.owed)) where
+      (results : (vs : List Value) → AllFit p vs (stack act.results) → AllFit p vs (stack act.owed)) (below : AllAwait N p final acts (stack act.owed)) where
     abbrev w : Around
     w = around_of act
 
-    abbrev LabelsWait : List Label → List Operand → Type 0
-    LabelsWait ls given = LabelsAwait p w act.locals act.owed ls given
+    abbrev LabelsWait : List Label → List Operand → Option N.Note → Type 0
+    LabelsWait ls given inner = LabelsAwait N p w act.locals act.owed ls given inner
 
-    pub come_out_okay : (ls : List Label) (vs : List Value) (given : List Operand) → AllFit p vs given → LabelsWait ls given → Okay (come_out p a act ls vs acts)
-    come_out_okay [] vs given f k = hand_back_okay act.owed vs acts (k vs f) below
-    come_out_okay (l ∷ ls) vs given f k = done_okay p final (next (record act { innermost = record l { values = vs ++ l.values }; around = ls } ∷ acts)) (
+    pub come_out_okay : (ls : List Label) (vs : List Value) (given : List Operand) (inner : Option N.Note) → AllFit p vs given → LabelsWait ls given inner → Okay (come_out p a act ls vs acts)
+    come_out_okay [] vs given inner f k = hand_back_okay act.owed vs acts (k.1 vs f) below
+    come_out_okay (l ∷ ls) vs given inner f k = done_okay N p final (next (record act { innermost = record l { values = vs ++ l.values }; around = ls } ∷ acts)) (
       record {
         locals = locals;
         results = results;
         labels = (
           record {
+            root = k.0.root;
+            place = k.0.place;
+            along = k.0.along;
+            around = tt;
             kind = k.0.kind;
             inside = k.0.inside;
             before = k.0.before;
@@ -199,15 +220,19 @@ module _ (p : Program) (final : List ValueType) (a : Answer) where
       below,
     )
 
-    land_okay : (c : Continuation) (l : Label) (ls : List Label) (vs : List Value) → l.continuation ≡ c → AllFit p vs (stack (taken_by c l.block))
-        → LoopsBack p w act.locals c l.block ls → LabelsWait ls (stack l.block.results) → Okay (land p a c act l ls vs acts)
-    land_okay behind l ls vs e f t k = come_out_okay ls vs (stack l.block.results) f k
-    land_okay (again body) l ls vs e f t k = done_okay p final (next (record act { innermost = record l { code = body; values = vs; handlers = no_handlers; caught = None }; around = ls } ∷ acts)) (
+    land_okay : (c : Continuation) (l : Label) (ls : List Label) (vs : List Value) (root : N.Note) → l.continuation ≡ c → AllFit p vs (stack (taken_by c l.block))
+        → LoopsBack N p w act.locals root c l.block ls → LabelsWait ls (stack l.block.results) (Some root) → Okay (land p a c act l ls vs acts)
+    land_okay behind l ls vs root e f t k = come_out_okay ls vs (stack l.block.results) (Some root) f k
+    land_okay (again body) l ls vs root e f t k = done_okay N p final (next (record act { innermost = record l { code = body; values = vs; handlers = no_handlers; caught = None }; around = ls } ∷ acts)) (
       record {
         locals = locals;
         results = results;
         labels = (
           record {
+            root = root;
+            place = root;
+            along = ([], refl);
+            around = tt;
             kind = t.0;
             inside = t.1;
             before = t.2;
@@ -215,8 +240,8 @@ module _ (p : Program) (final : List ValueType) (a : Answer) where
             are_set = t.4;
             operands = stack l.block.params;
             fit = f;
-            typed = subst (λ (d : Continuation). Typed (at p w (taken_by d l.block ∷ map branch_type ls) (false ∷ map is_clause ls)) (frame_of p w t.0 l.block t.2) t.3 body (stack l.block.params)) (sym e) t.5;
-            loops = subst (λ (d : Continuation). LoopsBack p w act.locals d l.block ls) (sym e) t;
+            typed = subst (λ (d : Continuation). N.Holds root (at p w (taken_by d l.block ∷ map branch_type ls) (false ∷ map is_clause ls)) (frame_of p w t.0 l.block t.2) t.3 body (stack l.block.params)) (sym e) t.5;
+            loops = subst (λ (d : Continuation). LoopsBack N p w act.locals root d l.block ls) (sym e) t;
             handlers = tt;
             caught = tt;
           },
@@ -226,17 +251,17 @@ module _ (p : Program) (final : List ValueType) (a : Answer) where
       below,
     )
 
-    pub jump_okay : (n : ℕ) (l : Label) (ls : List Label) (ts : List ValueType) (vs : List Value) → slice_get (branch_type l ∷ map branch_type ls) n ≡ Some ts → AllFit p vs (stack ts)
-        → LoopsBack p w act.locals l.continuation l.block ls → LabelsWait ls (stack l.block.results) → Okay (jump p a n act (l ∷ ls) vs acts)
-    jump_okay zero l ls ts vs e f t k =
-        land_okay l.continuation l ls vs refl (subst (λ (us : List ValueType). AllFit p vs (stack us)) (sym (some_same (branch_type l) ts e)) f) t k
-    jump_okay (suc n) l [] ts vs e f t k = absurd (none_is_some ts e)
-    jump_okay (suc n) l (m ∷ ls) ts vs e f t k = jump_okay n m ls ts vs e f k.0.loops k.1
+    pub jump_okay : (n : ℕ) (l : Label) (ls : List Label) (ts : List ValueType) (vs : List Value) (root : N.Note) → slice_get (branch_type l ∷ map branch_type ls) n ≡ Some ts → AllFit p vs (stack ts)
+        → LoopsBack N p w act.locals root l.continuation l.block ls → LabelsWait ls (stack l.block.results) (Some root) → Okay (jump p a n act (l ∷ ls) vs acts)
+    jump_okay zero l ls ts vs root e f t k =
+        land_okay l.continuation l ls vs root refl (subst (λ (us : List ValueType). AllFit p vs (stack us)) (sym (some_same (branch_type l) ts e)) f) t k
+    jump_okay (suc n) l [] ts vs root e f t k = absurd (none_is_some ts e)
+    jump_okay (suc n) l (m ∷ ls) ts vs root e f t k = jump_okay n m ls ts vs k.0.root e f k.0.loops k.1
 
-    pub jump_around : (n : ℕ) (ls : List Label) (ts : List ValueType) (vs : List Value) (given : List Operand) → slice_get (map branch_type ls) n ≡ Some ts → AllFit p vs (stack ts)
-        → LabelsWait ls given → Okay (jump p a n act ls vs acts)
-    jump_around n [] ts vs given e f k = absurd (none_is_some ts e)
-    jump_around n (l ∷ ls) ts vs given e f k = jump_okay n l ls ts vs e f k.0.loops k.1
+    pub jump_around : (n : ℕ) (ls : List Label) (ts : List ValueType) (vs : List Value) (given : List Operand) (inner : Option N.Note) → slice_get (map branch_type ls) n ≡ Some ts → AllFit p vs (stack ts)
+        → LabelsWait ls given inner → Okay (jump p a n act ls vs acts)
+    jump_around n [] ts vs given inner e f k = absurd (none_is_some ts e)
+    jump_around n (l ∷ ls) ts vs given inner e f k = jump_okay n l ls ts vs k.0.root e f k.0.loops k.1
 
     -- ---- exceptions
     module _ (t : TypeTree) (vs : List Value) (b : Signature) (made : IsThrown t) (is : IsFunctionType t b) (fit : AllFit p vs (stack b.params)) where
@@ -248,7 +273,7 @@ module _ (p : Program) (final : List ValueType) (a : Answer) where
       is_for_okay : (tag : Option ℕ) (ts : List ValueType) (m : Move) → HandsOn p tag ts → (IsFor tag → Okay m) → Okay (is_for p a t vs tag m)
       is_for_okay None ts m h k = k tt
       is_for_okay (Some x) ts m h k =
-          found_okay p final (slice_get p.«module».tags x) h.0 (λ u. allows (u ≡ t) m) h.1 (allows_okay p final (h.0 ≡ t) m (λ i. k (h.1 ∙ ap Some i)))
+          found_okay N p final (slice_get p.«module».tags x) h.0 (λ u. allows (u ≡ t) m) h.1 (allows_okay N p final (h.0 ≡ t) m (λ i. k (h.1 ∙ ap Some i)))
 
       -- the values that a clause for a tag, or for all, hands on
       hands_on_fits : (tag : Option ℕ) (ts : List ValueType) → IsFor tag → HandsOn p tag ts → AllFit p (tag_values p a t vs tag) (stack ts)
@@ -287,32 +312,36 @@ module _ (p : Program) (final : List ValueType) (a : Answer) where
       clause_there g (d ∷ cs) zero c e k = subst (λ (x : Catch). Catches g x) (some_same d c e) k.0
       clause_there g (d ∷ cs) (suc i) c e k = clause_there g cs i c e k.1
 
-      catch_okay : (o : Option Catch) (cs : List Catch) (i : ℕ) (ls : List Label) (given : List Operand) → slice_get cs i ≡ o → EachCatches (among p w ls) cs → LabelsWait ls given
+      catch_okay : (o : Option Catch) (cs : List Catch) (i : ℕ) (ls : List Label) (given : List Operand) (inner : Option N.Note) → slice_get cs i ≡ o → EachCatches (among p w ls) cs → LabelsWait ls given inner
           → Okay (catch_by p a t vs o act ls acts)
-      catch_okay None cs i ls given e k l = refused_okay p final
-      catch_okay (Some c) cs i ls given e k l =
+      catch_okay None cs i ls given inner e k l = refused_okay N p final
+      catch_okay (Some c) cs i ls given inner e k l =
           let there = clause_there (among p w ls) cs i c e k in
           let tag = tag_carried ls c there in
           is_for_okay (caught_by p a t vs c).tag tag.0 _ tag.1
           (λ x.
           let r = carried_fits ls c x there in
           let us : List Value = (caught_by p a t vs c).values in
-          found_okay p final (slice_get (map branch_type ls) (caught_by p a t vs c).label) r.0 (λ ts. asks (AllFit p us (stack ts)) (jump p a (caught_by p a t vs c).label act ls us acts)) r.1
-          (asks_okay p final (AllFit p us (stack r.0)) _ r.2 (jump_around (caught_by p a t vs c).label ls r.0 us given r.1 r.2 l)))
+          found_okay N p final (slice_get (map branch_type ls) (caught_by p a t vs c).label) r.0 (λ ts. asks (AllFit p us (stack ts)) (jump p a (caught_by p a t vs c).label act ls us acts)) r.1
+          (asks_okay N p final (AllFit p us (stack r.0)) _ r.2 (jump_around (caught_by p a t vs c).label ls r.0 us given inner r.1 r.2 l)))
 
-      turn_okay : (o : Option Clause) (c : Code) (n : ℕ) (l : Label) (ls : List Label) → clause_at c n ≡ o → HandlersFit p w act.locals (clauses c) l.block ls → LabelsWait ls (stack l.block.results)
+      turn_okay : (o : Option Clause) (c : Code) (n : ℕ) (l : Label) (ls : List Label) (root : N.Note) → clause_at c n ≡ o → HandlersFit N p w act.locals root (clauses c) l.block ls → LabelsWait ls (stack l.block.results) (Some root)
           → Okay (turn_to p a t vs o act l ls acts)
-      turn_okay None c n l ls e k z = refused_okay p final
-      turn_okay (Some cl) c n l ls e k z =
-          let r = clause_typed p w (l.block.results ∷ map branch_type ls) (map is_clause ls) l.block k.0 false frames.LegacyTry tt k.1 c k.3 n cl k.4 k.5 e in
+      turn_okay None c n l ls root e k z = refused_okay N p final
+      turn_okay (Some cl) c n l ls root e k z =
+          let r = clause_typed N p w (l.block.results ∷ map branch_type ls) (map is_clause ls) l.block k.0 root false frames.LegacyTry tt k.1 c k.3 n cl root ([], refl) k.4 k.5 e in
           is_for_okay cl.tag r.carries _ r.hands_on
           (λ x.
-          done_okay p final (next (record act { innermost = record l { code = cl.code; values = tag_values p a t vs cl.tag; continuation = behind; handlers = no_handlers; caught = Some (record { address = a.made; type = t }) }; around = ls } ∷ acts)) (
+          done_okay N p final (next (record act { innermost = record l { code = cl.code; values = tag_values p a t vs cl.tag; continuation = behind; handlers = no_handlers; caught = Some (record { address = a.made; type = t }) }; around = ls } ∷ acts)) (
             record {
               locals = locals;
               results = results;
               labels = (
                 record {
+                  root = root;
+                  place = r.place;
+                  along = r.along;
+                  around = tt;
                   kind = r.kind;
                   inside = r.inside;
                   before = k.0;
@@ -331,38 +360,38 @@ module _ (p : Program) (final : List ValueType) (a : Answer) where
             below,
           ))
 
-      handle_okay : (h : Handlers) (l : Label) (ls : List Label) → HandlersFit p w act.locals h l.block ls → LabelsWait ls (stack l.block.results) → Okay (handle p a t vs h act l ls acts)
-      handle_okay no_handlers l ls k z = refused_okay p final
-      handle_okay (table cs) l ls k z = catch_okay (slice_get cs a.index) cs a.index ls (stack l.block.results) refl k z
-      handle_okay (clauses c) l ls k z = turn_okay (clause_at c a.index) c a.index l ls refl k z
+      handle_okay : (h : Handlers) (l : Label) (ls : List Label) (root : N.Note) → HandlersFit N p w act.locals root h l.block ls → LabelsWait ls (stack l.block.results) (Some root) → Okay (handle p a t vs h act l ls acts)
+      handle_okay no_handlers l ls root k z = refused_okay N p final
+      handle_okay (table cs) l ls root k z = catch_okay (slice_get cs a.index) cs a.index ls (stack l.block.results) (Some root) refl k z
+      handle_okay (clauses c) l ls root k z = turn_okay (clause_at c a.index) c a.index l ls root refl k z
 
-      pub leave_okay : (l : Label) (ls : List Label) (n : ℕ) (further : ℕ → Move) → HandlersFit p w act.locals l.handlers l.block ls → LabelsWait ls (stack l.block.results)
+      pub leave_okay : (l : Label) (ls : List Label) (n : ℕ) (further : ℕ → Move) (root : N.Note) → HandlersFit N p w act.locals root l.handlers l.block ls → LabelsWait ls (stack l.block.results) (Some root)
           → ((k : ℕ) → Okay (further k)) → Okay (leave_labels p a t vs act (l ∷ ls) n acts further)
-      leave_okay l ls zero further k z f = handle_okay l.handlers l ls k z
-      leave_okay l [] (suc n) further k z f = f n
-      leave_okay l (m ∷ ls) (suc n) further k z f = leave_okay m ls n further z.0.handlers z.1 f
+      leave_okay l ls zero further root k z f = handle_okay l.handlers l ls root k z
+      leave_okay l [] (suc n) further root k z f = f n
+      leave_okay l (m ∷ ls) (suc n) further root k z f = leave_okay m ls n further z.0.root z.0.handlers z.1 f
 
   module _ (t : TypeTree) (vs : List Value) (b : Signature) (made : IsThrown t) (is : IsFunctionType t b) (fit : AllFit p vs (stack b.params)) where
-    pub unwind_okay : (acts : List Activation) (given : List Operand) (n : ℕ) → AllAwait p final acts given → Okay (unwind p a t vs acts n)
-    unwind_okay [] given n k = done_okay p final (thrown t vs) (b, is, fit)
+    pub unwind_okay : (acts : List Activation) (given : List Operand) (n : ℕ) → AllAwait N p final acts given → Okay (unwind p a t vs acts n)
+    unwind_okay [] given n k = done_okay N p final (thrown t vs) (b, is, fit)
     unwind_okay (act ∷ acts) given n k =
-        leave_okay act acts k.2.locals k.2.results k.3 t vs b made is fit act.innermost act.around n (unwind p a t vs acts) k.2.labels.0.handlers k.2.labels.1
+        leave_okay act acts k.2.locals k.2.results k.3 t vs b made is fit act.innermost act.around n (unwind p a t vs acts) k.2.labels.0.root k.2.labels.0.handlers k.2.labels.1
         (λ j. unwind_okay acts (stack act.owed) j k.3)
 
-  pub throw_again_okay : (t : TypeTree) (acts : List Activation) (given : List Operand) → IsThrown t → AllAwait p final acts given → Okay (throw_again p a t acts)
+  pub throw_again_okay : (t : TypeTree) (acts : List Activation) (given : List Operand) → IsThrown t → AllAwait N p final acts given → Okay (throw_again p a t acts)
   throw_again_okay t acts given made k =
       let s = has_signature t made.1 in
-      found_okay p final (function_type t) s.0 (λ b. gives p a b.params (λ us. unwind p a t us acts a.leaves)) (signature_is t s.0 s.1)
-      (gives_okay p final a (s.0).params (λ us. unwind p a t us acts a.leaves) (λ us f. unwind_okay t us s.0 made s.1 f acts given a.leaves k))
+      found_okay N p final (function_type t) s.0 (λ b. gives p a b.params (λ us. unwind p a t us acts a.leaves)) (signature_is t s.0 s.1)
+      (gives_okay N p final a (s.0).params (λ us. unwind p a t us acts a.leaves) (λ us f. unwind_okay t us s.0 made s.1 f acts given a.leaves k))
 
   -- ---- a function of the host
 
   -- it gives results of one list of types to those that await others
   pub by_host_okay : (o : Option TypeTree) (results owed : List ValueType) (acts : List Activation) → ((vs : List Value) → AllFit p vs (stack results) → AllFit p vs (stack owed))
-      → AllAwait p final acts (stack owed) → Okay (by_host p a o results owed acts)
-  by_host_okay None results owed acts r k = may_trap_okay p final a (gives p a results (λ us. hand_back p a owed us acts))
-      (gives_okay p final a results (λ us. hand_back p a owed us acts) (λ us f. hand_back_okay owed us acts (r us f) k))
-  by_host_okay (Some t) results owed acts r k = allows_okay p final (IsMade p (ref_exn a.made t)) (throw_again p a t acts) (λ made. throw_again_okay t acts (stack owed) made k)
+      → AllAwait N p final acts (stack owed) → Okay (by_host p a o results owed acts)
+  by_host_okay None results owed acts r k = may_trap_okay N p final a (gives p a results (λ us. hand_back p a owed us acts))
+      (gives_okay N p final a results (λ us. hand_back p a owed us acts) (λ us f. hand_back_okay owed us acts (r us f) k))
+  by_host_okay (Some t) results owed acts r k = allows_okay N p final (IsMade p (ref_exn a.made t)) (throw_again p a t acts) (λ made. throw_again_okay t acts (stack owed) made k)
 
 -- ---- what a local is at first
 
@@ -470,12 +499,13 @@ initially_set p ps ts vs f x i = first_there p ps ts vs x f (left_by (ltb-true x
 
 -- ---- a body begins
 
-pub begun_awaits : (p : Program) (t : TypeTree) (b : Signature) (f : Body) (args : List Value) (owed : List ValueType) → IsValidBody p t f → IsFunctionType t b → AllFit p args (stack b.params)
-    → ((vs : List Value) → AllFit p vs (stack b.results) → AllFit p vs (stack owed)) → ActivationAwaits p (begun t b f args owed) []
-begun_awaits p t b f args owed v is fit r =
+pub begun_awaits : (N : Notes) (p : Program) (t : TypeTree) (b : Signature) (f : Body) (args : List Value) (owed : List ValueType) → IsValidBodyBy N p t f → IsFunctionType t b → AllFit p args (stack b.params)
+    → ((vs : List Value) → AllFit p vs (stack b.results) → AllFit p vs (stack owed)) → ActivationAwaits N p (begun t b f args owed) []
+begun_awaits N p t b f args owed v is fit r =
     let e : v.signature ≡ b = one_signature t v.signature b v.function is in
-    let body : IsBody (body_context p t b f) (length b.params) f.code = subst (λ (c : Signature). IsBody (body_context p t c f) (length c.params) f.code) e v.typed in
-    let first : Initialised = initialised_at_first (length b.params) (b.params ++ f.locals) in
+    let root = N.whole v.index in
+    let body = subst (λ (c : Signature). N.Holds root (body_inside p t c f) (body_frame c f) (body_first c f) f.code []) e v.typed in
+    let first : Initialised = body_first b f in
     let given : AllFit p (reverse args) (all_known b.params) =
     subst (λ (l : List Operand). AllFit p (reverse args) l) (reverse-reverse (all_known b.params)) (fits_reversed p args (stack b.params) fit) in
     let set : AreSet first (map Some (reverse args) ++ map default_of f.locals) = initially_set p b.params f.locals (reverse args) given in
@@ -484,25 +514,29 @@ begun_awaits p t b f args owed v is fit r =
       results = r;
       labels = (
         record {
+          root = root;
+          place = root;
+          along = ([], refl);
+          around = tt;
           kind = frames.Block;
-          inside = body.expression;
+          inside = v.expression;
           before = first;
           set = first;
           are_set = set;
           operands = [];
           fit = tt;
-          typed = body.typed;
+          typed = body;
           loops = tt;
           handlers = tt;
           caught = tt;
         },
-        r,
+        ((v.index, refl, first, body), r),
       );
     }
 
-pub begin_okay : (p : Program) (final : List ValueType) (a : Answer) (o : Option Body) (t : TypeTree) (b : Signature) (args : List Value) (owed : List ValueType) (acts : List Activation)
-    → HasValidBody p t o → IsFunctionType t b → AllFit p args (stack b.params) → ((vs : List Value) → AllFit p vs (stack b.results) → AllFit p vs (stack owed))
-    → AllAwait p final acts (stack owed) → IsOkay p final (begin p a o t b args owed acts)
-begin_okay p final a None t b args owed acts v is fit r k = by_host_okay p final a a.throws b.results owed acts r k
-begin_okay p final a (Some f) t b args owed acts v is fit r k =
-    done_okay p final (next (begun t b f args owed ∷ acts)) (begun_awaits p t b f args owed v is fit r, k)
+pub begin_okay : (N : Notes) (p : Program) (final : List ValueType) (a : Answer) (o : Option Body) (t : TypeTree) (b : Signature) (args : List Value) (owed : List ValueType) (acts : List Activation)
+    → HasBodyBy N p t o → IsFunctionType t b → AllFit p args (stack b.params) → ((vs : List Value) → AllFit p vs (stack b.results) → AllFit p vs (stack owed))
+    → AllAwait N p final acts (stack owed) → IsOkay N p final (begin p a o t b args owed acts)
+begin_okay N p final a None t b args owed acts v is fit r k = by_host_okay N p final a a.throws b.results owed acts r k
+begin_okay N p final a (Some f) t b args owed acts v is fit r k =
+    done_okay N p final (next (begun t b f args owed ∷ acts)) (begun_awaits N p t b f args owed v is fit r, k)

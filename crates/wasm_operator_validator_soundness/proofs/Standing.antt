@@ -10,14 +10,14 @@ use Rattle.wasm_operator_validator_rules.specs.Context.{Context, Initialised, Fr
 use Rattle.wasm_operator_validator_rules.specs.Numbers.{numbers}
 use Rattle.wasm_operator_validator_rules.specs.InstructionTypes.{InstructionType, instruction_type}
 use Rattle.wasm_operator_validator_rules.specs.Taken.{Takes, TableRow, IsLabel}
-use Rattle.wasm_operator_validator_rules.specs.Typed.{Typed}
+use Rattle.wasm_operator_validator_soundness.specs.runs.Notes.{Notes, IsAlong}
+use Rattle.wasm_operator_validator_soundness.specs.runs.Places.{IsValidBy}
 use Rattle.wasm_operator_validator_soundness.specs.runs.Values.{Program, Value, AllFit}
 use Rattle.wasm_operator_validator_soundness.specs.runs.States.{Activation, Answer}
 use Rattle.wasm_operator_validator_soundness.specs.runs.States.{next, Move}
 use Rattle.wasm_operator_validator_soundness.specs.runs.Names.{computed}
 use Rattle.wasm_operator_validator_soundness.specs.runs.Machine.{jump}
 use Rattle.wasm_operator_validator_soundness.specs.runs.Machine.{label_at, going, goes, exchange, compute, branch, branch_if}
-use Rattle.wasm_operator_validator_soundness.specs.runs.Soundness.{IsValidProgram}
 use Rattle.wasm_operator_validator_soundness.proofs.RunsFitting.{all_below, fits_joined, stack_more, reversed_under}
 use Rattle.wasm_operator_validator_soundness.specs.runs.ValidStates.{AreSet, LocalsFit, IsCaught, Around, around_of}
 use Rattle.wasm_operator_validator_soundness.specs.runs.ValidStates.{LoopsBack, HandlersFit, LabelsAwait, ActivationAwaits, AllAwait}
@@ -26,14 +26,17 @@ use Rattle.wasm_operator_validator_soundness.proofs.Combining.{done_okay, choose
 use Rattle.wasm_operator_validator_soundness.proofs.RunsLeaving.{jump_okay}
 
 -- all that the invariant says of the innermost activation, and of those below
-pub record Here (p : Program) (final : List ValueType) (act : Activation) (acts : List Activation) : Type 0 where
+pub record Here (N : Notes) (p : Program) (final : List ValueType) (act : Activation) (acts : List Activation) : Type 0 where
   pub locals : LocalsFit p act.locals act.types
   pub results : (vs : List Value) → AllFit p vs (stack act.results) → AllFit p vs (stack act.owed)
-  pub loops : LoopsBack p (around_of act) act.locals act.innermost.continuation act.innermost.block act.around
-  pub handlers : HandlersFit p (around_of act) act.locals act.innermost.handlers act.innermost.block act.around
+  pub root : N.Note
+  pub place : N.Note
+  pub along : IsAlong N root place
+  pub loops : LoopsBack N p (around_of act) act.locals root act.innermost.continuation act.innermost.block act.around
+  pub handlers : HandlersFit N p (around_of act) act.locals root act.innermost.handlers act.innermost.block act.around
   pub caught : IsCaught act.innermost.caught
-  pub around : LabelsAwait p (around_of act) act.locals act.owed act.around (stack act.innermost.block.results)
-  pub below : AllAwait p final acts (stack act.owed)
+  pub around : LabelsAwait N p (around_of act) act.locals act.owed act.around (stack act.innermost.block.results) (Some root)
+  pub below : AllAwait N p final acts (stack act.owed)
   pub kind : FrameKind
   pub before : Initialised
   pub set : Initialised
@@ -41,7 +44,7 @@ pub record Here (p : Program) (final : List ValueType) (act : Activation) (acts 
   pub operands : List Operand
   pub fit : AllFit p act.innermost.values operands
 
-module _ (p : Program) (valid : IsValidProgram p) (final : List ValueType) (a : Answer) (act : Activation) (acts : List Activation) (h : Here p final act acts) where
+module _ (N : Notes) (p : Program) (valid : IsValidBy N p) (final : List ValueType) (a : Answer) (act : Activation) (acts : List Activation) (h : Here N p final act acts) where
   abbrev w : Around
   w = around_of act
 
@@ -73,19 +76,23 @@ module _ (p : Program) (valid : IsValidProgram p) (final : List ValueType) (a : 
   fit = h.fit
 
   abbrev Okay : Move → Type 0
-  Okay m = IsOkay p final m
+  Okay m = IsOkay N p final m
 
   -- the instructions to come are typed, and stand where they may
   abbrev Goes : Initialised → Code → List Operand → Type 0
-  Goes init more m = IsIn h.kind more × Typed g f init more m
+  Goes init more m = IsIn h.kind more × (n : N.Note) × IsAlong N h.root n × N.Holds n g f init more m
 
   -- the activation with other values and instructions awaits what these are typed over
-  pub here_awaits : (ws : List Value) (more : Code) (m given : List Operand) → AllFit p ws m → Goes set more (given ++ m) → ActivationAwaits p (going p a act acts ws more) given
+  pub here_awaits : (ws : List Value) (more : Code) (m given : List Operand) → AllFit p ws m → Goes set more (given ++ m) → ActivationAwaits N p (going p a act acts ws more) given
   here_awaits ws more m given x t = record {
     locals = h.locals;
     results = h.results;
     labels = (
       record {
+        root = h.root;
+        place = t.1;
+        along = t.2;
+        around = tt;
         kind = kind;
         inside = t.0;
         before = before;
@@ -93,7 +100,7 @@ module _ (p : Program) (valid : IsValidProgram p) (final : List ValueType) (a : 
         are_set = are_set;
         operands = m;
         fit = x;
-        typed = t.1;
+        typed = t.3;
         loops = h.loops;
         handlers = h.handlers;
         caught = h.caught;
@@ -103,12 +110,12 @@ module _ (p : Program) (valid : IsValidProgram p) (final : List ValueType) (a : 
   }
 
   pub goes_okay : (ws : List Value) (more : Code) (m : List Operand) → AllFit p ws m → Goes set more m → Okay (goes p a act acts ws more)
-  goes_okay ws more m x t = done_okay p final (next (going p a act acts ws more ∷ acts)) (here_awaits ws more m [] x t, h.below)
+  goes_okay ws more m x t = done_okay N p final (next (going p a act acts ws more ∷ acts)) (here_awaits ws more m [] x t, h.below)
 
   pub exchange_okay : (ts us : List ValueType) (more : Code) (rest : List Operand) → AllFit p vs (stack ts ++ rest) → Goes set more (stack us ++ rest)
       → Okay (exchange p a act acts ts us more)
-  exchange_okay ts us more rest x t = takes_okay p final a ts vs rest _ x (λ xs ws i j.
-      may_trap_okay p final a _ (gives_okay p final a us _ (λ rs k. goes_okay (rs ++ ws) more (stack us ++ rest) (fits_joined p rs ws (stack us) rest k j) t)))
+  exchange_okay ts us more rest x t = takes_okay N p final a ts vs rest _ x (λ xs ws i j.
+      may_trap_okay N p final a _ (gives_okay N p final a us _ (λ rs k. goes_okay (rs ++ ws) more (stack us ++ rest) (fits_joined p rs ws (stack us) rest k j) t)))
 
   -- ---- what a row says of the values, and of the instructions to come
 
@@ -138,18 +145,18 @@ module _ (p : Program) (valid : IsValidProgram p) (final : List ValueType) (a : 
   pub compute_okay : (o : Op) (ts us : List Number) (more : Code) (popped pushed rest m : List Operand) → computed (info_of o).name ≡ Some (record { takes = ts; gives = us })
       → Takes (numbers ts) (numbers us) popped pushed → AllBelow s (reverse popped ++ rest) → m ≡ reverse pushed ++ rest → Goes set more m → Okay (compute p a act acts o more)
   compute_okay o ts us more popped pushed rest m says r b e t =
-      found_okay p final (computed (info_of o).name) (record { takes = ts; gives = us }) _ says
+      found_okay N p final (computed (info_of o).name) (record { takes = ts; gives = us }) _ says
       (exchange_okay (numbers ts) (numbers us) more rest (values_at _ popped rest b r.0) (code_at _ pushed rest m set more e r.1 t))
 
   -- ---- branches
 
   pub jumps : (n : ℕ) (ts : List ValueType) (ws : List Value) → IsLabel g n ts → AllFit p ws (stack ts) → Okay (jump p a n act (act.innermost ∷ act.around) ws acts)
-  jumps n ts ws e x = jump_okay p final a act acts h.locals h.results h.below n act.innermost act.around ts ws e x h.loops h.around
+  jumps n ts ws e x = jump_okay N p final a act acts h.locals h.results h.below n act.innermost act.around ts ws h.root e x h.loops h.around
 
   pub branch_okay : (n : ℕ) (ts : List ValueType) (ws : List Value) (rest : List Operand) → IsLabel g n ts → AllFit p ws (stack ts ++ rest) → Okay (branch p a act acts n ws)
-  branch_okay n ts ws rest e x = found_okay p final (label_at p a act acts n) ts _ e (takes_okay p final a ts ws rest _ x (λ xs us i j. jumps n ts xs e i))
+  branch_okay n ts ws rest e x = found_okay N p final (label_at p a act acts n) ts _ e (takes_okay N p final a ts ws rest _ x (λ xs us i j. jumps n ts xs e i))
 
   pub branch_if_okay : (b : Bool) (n : ℕ) (ts : List ValueType) (ws us : List Value) (more : Code) (rest m : List Operand) → IsLabel g n ts → AllFit p ws (stack ts ++ rest)
       → (b ≡ false → AllFit p us m) → Goes set more m → Okay (branch_if p a act acts b n ws us more)
-  branch_if_okay b n ts ws us more rest m e x y t = found_okay p final (label_at p a act acts n) ts _ e
-      (takes_okay p final a ts ws rest _ x (λ xs zs i j. choose_okay p final b _ _ (λ c. jumps n ts xs e i) (λ c. goes_okay us more m (y c) t)))
+  branch_if_okay b n ts ws us more rest m e x y t = found_okay N p final (label_at p a act acts n) ts _ e
+      (takes_okay N p final a ts ws rest _ x (λ xs zs i j. choose_okay N p final b _ _ (λ c. jumps n ts xs e i) (λ c. goes_okay us more m (y c) t)))

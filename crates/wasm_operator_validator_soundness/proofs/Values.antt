@@ -38,13 +38,13 @@ use Rattle.wasm_operator_validator_rules.specs.Operands.{ValueType, Operand, bot
 use Rattle.wasm_operator_validator_rules.specs.Context.{Context, Module, Initialised, Signature, Frame, IsTypeIndex, written_type, may_use, IsFunctionType, IsBlockType}
 use Rattle.wasm_operator_validator_rules.specs.Row.{after, FitEach, not_null, IsNumber, IsEnabled}
 use Rattle.wasm_operator_validator_rules.specs.Taken.{IsLabel}
-use Rattle.wasm_operator_validator_rules.specs.Typed.{Typed}
+use Rattle.wasm_operator_validator_soundness.specs.runs.Notes.{Notes, over_operator, over_block, into_part, into_nothing, IsAlong}
 use Rattle.wasm_operator_validator_soundness.specs.runs.Values.{IsAReference, IsObject, IsStandard, Program, Value, number_value, ref_null, ref_function, ref_object, ref_i31, ref_host, ref_extern, ref_exn, least_type, is_null, IsNumberValue, IsMade, Fits, FitsOperand, AllFit}
 use Rattle.wasm_operator_validator_soundness.specs.runs.Machine.{type_meant, heap_meant, value_meant, gives_one, function_type_in, block_signature, second_part}
 use Rattle.wasm_operator_validator_soundness.proofs.RunsFitting.{below_on_top}
 use Rattle.wasm_operator_validator_soundness.specs.runs.States.{Exception}
 use Rattle.wasm_operator_validator_soundness.specs.runs.ValidStates.{IsCaught, IsThrown}
-use Rattle.wasm_operator_validator_soundness.proofs.RunsInvariant.{none_is_some}
+use Rattle.wasm_operator_validator_soundness.proofs.RunsInvariant.{none_is_some, further}
 use Rattle.wasm_operator_validator_soundness.proofs.Objects.{matches_along}
 use Rattle.wasm_operator_validator_soundness.proofs.Options.{if_some, map_some, used_is}
 use Rattle.wasm_operator_validator_soundness.proofs.RunsLeaving.{signature_is, standard_links}
@@ -261,16 +261,31 @@ module _ (g : Context) (b : Signature) (before : Initialised) where
   abbrev pub part : FrameKind → Frame
   part k = record { kind = k; block = b; before = before }
 
-  pub second_typed : (set : Initialised) (c : Code) (s : List Operand) → IsIn frames.If c → Typed g (part frames.If) set c s
-      → (j : FrameKind) × IsIn j (second_part c) × Typed g (part j) before (second_part c) (stack b.params)
-  second_typed set (close o) s i t = (frames.If, i, (t.1, t.1, t.2))
-  second_typed set (plain o more) s i t = second_typed (after o set) more t.0 i.1 t.2
-  second_typed set (nested o body more) s i t = second_typed set more (stack (t.1).results ++ t.2) i.3 t.6
-  second_typed set (turn (op.Control control.Else) more) s i t =
-      (frames.Else, subst (λ (j : FrameKind). IsIn j more) (sym (turns_to_else i.0 i.1)) i.2, subst (λ (ts : List ValueType). Typed g (part frames.Else) before more (stack ts)) t.1 t.3)
-  second_typed set (turn (op.Exception (op.Catch x)) more) s i t = absurd (none_is_some (effects.Turns i.0) i.1)
-  second_typed set (turn (op.Exception op.CatchAll) more) s i t = absurd (none_is_some (effects.Turns i.0) i.1)
-  second_typed set (turn o more) s i t = absurd t.1
+  -- the second part of code that is typed at a place
+  module _ (N : Notes) (root : N.Note) where
+    abbrev pub Second : Code → Type 0
+    Second c = (j : FrameKind) × IsIn j (second_part c) × (n : N.Note) × IsAlong N root n × N.Holds n g (part j) before (second_part c) (stack b.params)
+
+    pub second_typed : (set : Initialised) (c : Code) (s : List Operand) (here : N.Note) → IsAlong N root here → IsIn frames.If c → N.Holds here g (part frames.If) set c s → Second c
+    second_typed set (close o) s here l i t =
+        let y = N.opened here g (part frames.If) set (close o) s t in (frames.If, i, N.missing here, further N root here into_nothing l, y.3)
+    second_typed set (plain o more) s here l i t =
+        let y = N.opened here g (part frames.If) set (plain o more) s t in
+        second_typed (after o set) more y.0 (N.next here) (further N root here over_operator l) i.1 y.2
+    second_typed set (nested o body more) s here l i t =
+        let y = N.opened here g (part frames.If) set (nested o body more) s t in
+        second_typed set more (stack (y.1).results ++ y.2) (N.past here) (further N root here over_block l) i.3 y.6
+    second_typed set (turn (op.Control control.Else) more) s here l i t =
+        let y = N.opened here g (part frames.If) set (turn (op.Control control.Else) more) s t in (
+          frames.Else,
+          subst (λ (j : FrameKind). IsIn j more) (sym (turns_to_else i.0 i.1)) i.2,
+          N.turned here,
+          further N root here into_part l,
+          subst (λ (ts : List ValueType). N.Holds (N.turned here) g (part frames.Else) before more (stack ts)) y.1 y.3,
+        )
+    second_typed set (turn (op.Exception (op.Catch x)) more) s here l i t = absurd (none_is_some (effects.Turns i.0) i.1)
+    second_typed set (turn (op.Exception op.CatchAll) more) s here l i t = absurd (none_is_some (effects.Turns i.0) i.1)
+    second_typed set (turn o more) s here l i t = let y = N.opened here g (part frames.If) set (turn o more) s t in absurd y.1
 
 -- ---- operators of proposals that are not standard are not enabled
 

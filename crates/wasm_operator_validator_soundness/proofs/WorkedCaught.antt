@@ -45,7 +45,7 @@ groups_valid : AreValidGroups settings [] (open_written ∷ below_written ∷ ta
 unfolding types_from
 groups_valid = next open_valid (next below_valid (next tag_valid done))
 
-standard_at : (n : ℕ) (t : TypeTree) → slice_get (open_type ∷ below_type ∷ tag_type ∷ []) n ≡ Some t → IsStandardType t
+pub standard_at : (n : ℕ) (t : TypeTree) → slice_get (open_type ∷ below_type ∷ tag_type ∷ []) n ≡ Some t → IsStandardType t
 standard_at n t e = record {
   settings = settings;
   standard = only_standard;

@@ -15,7 +15,8 @@ use Rattle.wasm_operators_immediates.specs.declared.frames.FrameKind.TheVariants
 use Rattle.wasm_operator_validator_rules.specs.Operands.{Operand, known}
 use Rattle.wasm_operator_validator_rules.specs.Row.{of_type}
 use Rattle.wasm_operator_validator_rules.specs.Typed.{IsBody}
-use Rattle.wasm_operator_validator_soundness.specs.runs.Values.{Body, Function, IsStandard, IsStandardType}
+use Rattle.wasm_operator_validator_soundness.specs.runs.Values.{Body, Function, IsStandard, IsStandardType, number_value}
+use Rattle.wasm_operator_validator_soundness.specs.runs.ValidStates.{IsThrown}
 use Rattle.wasm_operator_validator_soundness.specs.runs.Soundness.{body_context, IsValidFunction, IsStarted}
 use Rattle.wasm_operator_validator_soundness.specs.runs.worked.Caught.{gives_number}
 use Rattle.wasm_operator_validator_soundness.specs.runs.worked.Older.{gives_written, gives_type, tag_written, tag_type, bits, catching, passing_on, remembering, referring, older, started, OlderWorked}
@@ -174,6 +175,10 @@ starts n f e = record {
   gives = refl;
 }
 
+tag_thrown : IsThrown tag_type
+unfolding opened
+tag_thrown = (standard_at 1 tag_type refl, tt, ((number_value i32 0, tt, refl), tt))
+
 pub older_worked : (x : ℤ) → OlderWorked x
 unfolding has opened types_from
 older_worked x = record {
@@ -183,12 +188,12 @@ older_worked x = record {
   remembering_from = starts 3 remembering refl;
   referring_from = starts 4 referring refl;
   host_returns = (_, (_, tt, refl, (_, (((tt, refl), tt), tt), refl, (_, tt, refl, refl))), tt, refl);
-  host_caught = (_, (_, tt, refl, (_, ((standard_at 1 tag_type refl, tt), ((((tt, refl), tt)), (refl, tt))), refl, (_, tt, refl, refl))), tt, refl);
+  host_caught = (_, (_, tt, refl, (_, (tag_thrown, ((((tt, refl), tt)), (refl, tt))), refl, (_, tt, refl, refl))), tt, refl);
   host_traps = (_, (_, tt, refl, refl), tt, refl);
   tail_returns = (_, refl, (((tt, refl), tt), tt), refl);
   tail_traps = (_, refl, tt, refl);
-  tail_throws = (_, refl, ((standard_at 1 tag_type refl, tt), (((tt, refl), tt), tt)), refl);
-  not_caught = (_, (_, tt, refl, refl), ((standard_at 1 tag_type refl, tt), (((tt, refl), tt), tt)), refl);
+  tail_throws = (_, refl, (tag_thrown, (((tt, refl), tt), tt)), refl);
+  not_caught = (_, (_, tt, refl, refl), (tag_thrown, (((tt, refl), tt), tt)), refl);
   remembered = (_, (_, (((tt, refl), tt), tt), refl, (_, tt, refl, (_, tt, refl, refl))), tt, refl);
   referred = (_, (_, tt, refl, (_, tt, refl, (_, (((tt, refl), tt), tt), refl, (_, tt, refl, (_, tt, refl, (_, tt, refl, refl)))))), tt, refl);
   constant_valid = record {

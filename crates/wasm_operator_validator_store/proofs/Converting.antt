@@ -1,27 +1,22 @@
 -- References that go from one hierarchy to another and back, and unboxed scalars.
 use Rattle.std.proofs.Common.{◌≡◌, ℕ, Bool, true, false, List, [], ◌∷◌, ◌++◌, refl, sym, ap, subst, ◌∙◌, inl, get_or, slice_get, true≢false}
-use Rattle.std.proofs.lemmas.List.Elements.{All-nil, All-cons, All-contains}
-use Rattle.std.specs.Prelude.{All, ◌%◌, ◌^◌}
+use Rattle.std.specs.Prelude.{◌%◌, ◌^◌}
 use mathlib.Core.Logic.{⊎_elim}
-use Rattle.wasm_types.specs.settings.Settings.{Settings}
 use Rattle.wasm_types.specs.trees.Types.{i32, Abstract, any, extern, i31, abstract, ref}
-use Rattle.wasm_types.specs.trees.Trees.{TypeTree}
 use Rattle.wasm_types.specs.trees.AbstractOrder.{same}
-use Rattle.wasm_types.specs.trees.Below.{is_shared}
-use Rattle.wasm_types.specs.trees.ValidGroup.{Written, AreValidTypes, AreValidGroups, done, next}
 use Rattle.wasm_operators_enums.specs.declared.gc.GcOperator.TheVariants as gc
 use Rattle.wasm_operators_enums.specs.Op as op
 use Rattle.wasm_operators_enums.specs.Op.{Op}
 use Rattle.wasm_operators_encoding.specs.expressions.Code.{Code, plain}
 use Rattle.wasm_operator_validator_rules.specs.Operands.{ValueType, known}
 use Rattle.wasm_operator_validator_rules.specs.InstructionTypes.{i32_type}
-use Rattle.wasm_operator_validator_soundness.specs.runs.Values.{Program, IsStandard, IsStandardType, Value, number_value, ref_null, ref_function, ref_object, ref_i31, ref_host, ref_extern, ref_exn, is_null, Fits, AllFit}
+use Rattle.wasm_operator_validator_soundness.specs.runs.Values.{Program, Value, number_value, ref_null, ref_function, ref_object, ref_i31, ref_host, ref_extern, ref_exn, is_null, Fits, AllFit}
 use Rattle.wasm_operator_validator_soundness.specs.runs.States.{Activation, Answer, Move, asks, allows, choose, pops}
 use Rattle.wasm_operator_validator_soundness.specs.runs.States as states
 use Rattle.wasm_operator_validator_soundness.specs.runs.Machine.{IsUnboxed, IsOf, null_in, goes, convert, number_from, execute}
 use Rattle.wasm_operator_validator_soundness.specs.runs.Soundness.{IsValidProgram}
 use Rattle.wasm_operator_validator_soundness.proofs.Values.{never_null}
-use Rattle.wasm_operator_validator_soundness.proofs.Objects.{akin_value}
+use Rattle.wasm_operator_validator_soundness.proofs.Unshared.{internal_whole}
 use Rattle.wasm_operator_validator_store.specs.Stores.{Store, nothing, bits_of, with_extern}
 use Rattle.wasm_operator_validator_store.specs.ValidStores.{Each, Knows, Has, StoreFits, Evolves}
 use Rattle.wasm_operator_validator_store.specs.Giving.{Stays, Unboxes, Externalises, ConvertsToExtern, ConvertsToAny, GivesOperator}
@@ -33,28 +28,6 @@ use Rattle.wasm_operator_validator_store.proofs.Accessing.{unchanged, values_kno
 use Rattle.wasm_operator_validator_store.proofs.Objects.{there_some, pops_split}
 use Rattle.wasm_operator_validator_store.proofs.Casting.{choose_any, pops_top}
 use Rattle.wasm_operator_validator_store.proofs.Control.{silent}
-
--- ---- no standard type is shared
-
-module _ (z : Settings) (standard : IsStandard z.features) where
-  all_whole : (ts : List TypeTree) → AreValidTypes z ts → Each (λ t. is_shared t ≡ false) ts
-  all_whole [] h = tt
-  all_whole (t ∷ ts) h = (whole (is_shared t) refl, all_whole ts h.1)
-    where
-      whole : (b : Bool) → is_shared t ≡ b → is_shared t ≡ false
-      whole true e = absurd (true≢false (sym (h.0.composite.0 e) ∙ standard.sharing))
-      whole false e = e
-
-  groups_whole : (space after : List TypeTree) (gs : List Written) → Each (λ t. is_shared t ≡ false) space → AreValidGroups z space gs after → Each (λ t. is_shared t ≡ false) after
-  groups_whole space after gs h done = h
-  groups_whole space after gs h (next i more) = groups_whole _ after _ (each_append (λ t. is_shared t ≡ false) space _ h (all_whole _ i.types)) more
-
-pub not_shared : (t : TypeTree) → IsStandardType t → is_shared t ≡ false
-not_shared t s = All-contains (λ (u : TypeTree). is_shared u ≡ false) s.types t (all_of s.types (groups_whole s.settings s.standard [] s.types s.groups tt s.valid)) s.has_it
-  where
-    all_of : (ts : List TypeTree) → Each (λ (u : TypeTree). is_shared u ≡ false) ts → All (λ (u : TypeTree). is_shared u ≡ false) ts
-    all_of [] h = All-nil (λ (u : TypeTree). is_shared u ≡ false)
-    all_of (t ∷ ts) h = All-cons (λ (u : TypeTree). is_shared u ≡ false) t ts h.0 (all_of ts h.1)
 
 -- ---- an external reference is made
 
@@ -85,17 +58,6 @@ module _ (p : Program) (s : Store) (w : Value) where
     table_addresses = tables_there p s (with_extern s w) (extern_evolves s w) f;
     tag_addresses = tags_there p s (with_extern s w) (extern_evolves s w) f;
   }
-
--- what is in `any`, or an external reference, is not shared
-internal_whole : (p : Program) (w : Value) (c : Bool) → is_null w ≡ false → Fits p w (ref true (abstract c any)) → false ≡ c
-internal_whole p (number_value n b) c e f = absurd f.1
-internal_whole p (ref_null q h) c e f = absurd (true≢false e)
-internal_whole p (ref_function i t) c e f = sym (not_shared t f.0.0) ∙ (akin_value p (ref_function i t) (abstract c any) f).0
-internal_whole p (ref_object k t) c e f = sym (not_shared t f.0.0) ∙ (akin_value p (ref_object k t) (abstract c any) f).0
-internal_whole p (ref_i31 b) c e f = f.1.1.0
-internal_whole p (ref_host k) c e f = f.1.1.0
-internal_whole p (ref_extern k) c e f = f.1.1.0
-internal_whole p (ref_exn k t) c e f = f.1.1.0
 
 module _ (p : Program) (valid : IsValidProgram p) (results : List ValueType) (act : Activation) (acts : List Activation) (s : Store) (v : AreValid p results (act ∷ acts) s) (more : Code) (a : Answer) (u : Store) where
   abbrev Done : Op → Type 0

@@ -9,7 +9,7 @@ use Rattle.wasm_operators_encoding.specs.expressions.Code.{Code}
 use Rattle.wasm_operator_validator_rules.specs.Operands.{ValueType, Operand, bottom, some_reference, known, stack}
 use Rattle.wasm_operator_validator_rules.specs.Context.{Table, Global}
 use Rattle.wasm_operator_validator_soundness.specs.runs.Values.{Function, Program, Value, number_value, ref_null, ref_function, ref_object, ref_i31, ref_host, ref_extern, ref_exn, IsMade, IsNamed, Fits, AllFit}
-use Rattle.wasm_operator_validator_soundness.specs.runs.ValidStates.{IsThrown}
+use Rattle.wasm_operator_validator_soundness.specs.runs.ValidStates.{IsTagType}
 use Rattle.wasm_operator_validator_soundness.specs.runs.Machine.{address}
 use Rattle.wasm_operator_validator_soundness.specs.runs.Soundness.{IsValidProgram}
 use Rattle.wasm_operator_validator_store.specs.Stores.{GlobalInstance, TableInstance, ExceptionInstance, Store, bits_of, with_elements, table_address, table_in, segment_in, with_table}
@@ -86,7 +86,7 @@ module _ (p q : Program) (s u : Store) (made : (w : Value) → IsMade p w → Is
   -- with the same objects, exceptions and external references, and with the tags that there were
   fits_too : Each (GlobalFits q u) u.globals → Each (TableFits q u) u.tables → Pairs (λ t ws. Each (Has q u t) ws) q.«module».elements u.segments
       → Pairs (IsGlobalAt u) q.«module».globals u.addresses.globals → Pairs (IsTableAt u) q.«module».tables u.addresses.tables → Pairs (IsTagAt u) q.«module».tags u.addresses.tags
-      → u.objects ≡ s.objects → u.exceptions ≡ s.exceptions → u.externs ≡ s.externs → ((k : ℕ) (t : TypeTree) → slice_get s.tags k ≡ Some t → slice_get u.tags k ≡ Some t) → Each IsThrown u.tags
+      → u.objects ≡ s.objects → u.exceptions ≡ s.exceptions → u.externs ≡ s.externs → ((k : ℕ) (t : TypeTree) → slice_get s.tags k ≡ Some t → slice_get u.tags k ≡ Some t) → Each IsTagType u.tags
       → StoreFits p s → StoreFits q u
   fits_too globals tables segments global_addresses table_addresses tag_addresses objects exceptions externs tags_kept tags f = record {
     globals = globals;
@@ -178,8 +178,8 @@ module _ (p : Program) (valid : IsValidProgram p) where
     knows_first : (w : Value) → Knows host w → Knows u w
     knows_first w h = knows_too host u refl refl refl tags_kept w h
 
-    own_thrown : Each IsThrown (own_tags p i)
-    own_thrown = each_from IsThrown (own_tags p i) (λ k t e. valid.tags (i.imported_tags + k) t (get_drop i.imported_tags p.«module».tags k t e))
+    own_thrown : Each IsTagType (own_tags p i)
+    own_thrown = each_from IsTagType (own_tags p i) (λ k t e. valid.tags (i.imported_tags + k) t (get_drop i.imported_tags p.«module».tags k t e))
 
     tables_placed : Pairs (IsTableAt u) p.«module».tables (host.addresses.tables ++ addresses_from (length host.tables) (length (own_tables p i)))
     tables_placed = pairs_join (IsTableAt u) i.imported_tables p.«module».tables host.addresses.tables (addresses_from (length host.tables) (length (own_tables p i)))
@@ -197,7 +197,7 @@ module _ (p : Program) (valid : IsValidProgram p) where
         (each_append (TableFits (seen_with p first) u) host.tables (map empty_table (own_tables p i)) (tables_too (imports_of p i) (seen_with p first) host u made_first knows_first host.tables f.tables)
         (each_of_map (TableFits (seen_with p first) u) empty_table (own_tables p i) (λ t. tt)))
         (pairs_of_map (λ t ws. Each (Has (seen_with p first) u t) ws) (λ t. []) p.«module».elements (λ t. tt))
-        (globals_stay host u (λ k g e. e) first host.addresses.globals f.global_addresses) tables_placed tags_placed refl refl refl tags_kept (each_append IsThrown host.tags (own_tags p i) f.tags own_thrown) f
+        (globals_stay host u (λ k g e. e) first host.addresses.globals f.global_addresses) tables_placed tags_placed refl refl refl tags_kept (each_append IsTagType host.tags (own_tags p i) f.tags own_thrown) f
 
   -- ---- globals
 

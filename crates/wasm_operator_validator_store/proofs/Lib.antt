@@ -18,6 +18,9 @@ pub mod Arrays
 pub mod Defaults
 pub mod Converting
 pub mod Operators
+pub mod Deciding
+pub mod Ending
+pub mod Progress
 pub mod Steps
 pub mod Instantiating
 pub mod Linked

@@ -26,10 +26,10 @@ use Rattle.wasm_operator_validator_store.proofs.Storing.{fields_evolve, written_
 use Rattle.wasm_operator_validator_store.proofs.Answering.{IsDone, found_needs, found_answer, no_trap, a_trap, no_trap_needs, told, top_known}
 use Rattle.wasm_operator_validator_store.proofs.Accessing.{unchanged, values_known}
 
-abbrev Fields : Type 0
+abbrev pub Fields : Type 0
 Fields = List (FieldOf TypeTree)
 
-abbrev Holding : Type 0
+abbrev pub Holding : Type 0
 Holding = InnerOf TypeTree → Option Fields
 
 -- ---- fields of a type

@@ -77,7 +77,7 @@ module _ (p : Program) (valid : IsValidProgram p) (results : List ValueType) (ac
 
   -- ---- from a clause of an older `try`
 
-  caught_known : (n : ℕ) (ls : List Label) (x : Exception) → Each (HasLabel (Knows s)) ls → caught_at p a act acts n ls ≡ Some x → Knows s (ref_exn x.address x.type)
+  pub caught_known : (n : ℕ) (ls : List Label) (x : Exception) → Each (HasLabel (Knows s)) ls → caught_at p a act acts n ls ≡ Some x → Knows s (ref_exn x.address x.type)
   caught_known zero [] x h e = absurd (none_some x e)
   caught_known (suc n) [] x h e = absurd (none_some x e)
   caught_known zero (l ∷ ls) x h e = subst (λ (o : Option Exception). HasCaught (Knows s) o) e h.0.caught

@@ -2,6 +2,7 @@
 use Rattle.std.proofs.Common.{refl, sym, inl, inr, true≢false}
 use Rattle.wasm_types.specs.trees.Trees.{opened}
 use Rattle.wasm_types.specs.trees.ValidGroup.{types_from}
+use Rattle.wasm_operator_validator_store.specs.worked.Program.{store, trapping}
 use Rattle.wasm_operator_validator_store.specs.worked.Rows.{RowsWorked}
 
 pub rows_worked : RowsWorked
@@ -32,4 +33,6 @@ rows_worked = record {
   decided = (_, _, _, (_, _, (refl, (refl, refl)), refl, (_, _, (refl, refl), refl, (refl, refl))), (refl, refl), refl);
   caught = (_, _, _, (_, _, (refl, refl), refl, (_, _, (refl, refl), refl, (_, _, (refl, refl, refl), refl, (_, _, (refl, refl, refl, (refl, refl)), refl, (refl, refl))))), (refl, refl), refl);
   thrown_again = (_, _, _, (refl, refl), (refl, refl, refl, (refl, refl)), refl);
+  answered = (trapping, store, (refl, (refl, refl)), λ e. refl);
+  unknown_extern = λ h. h.2;
 }

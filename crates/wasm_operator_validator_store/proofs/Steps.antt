@@ -16,6 +16,7 @@ use Rattle.wasm_operator_validator_store.specs.Soundness.{StoreRuns, AreValid, S
 use Rattle.wasm_operator_validator_store.proofs.Lists.{pairs_get, get_or_there}
 use Rattle.wasm_operator_validator_store.proofs.Storing.{stays}
 use Rattle.wasm_operator_validator_store.proofs.Operators.{store_steps_sound}
+use Rattle.wasm_operator_validator_store.proofs.Progress.{store_answers_exist}
 
 -- ---- one store after another
 
@@ -82,6 +83,7 @@ store_runs_sound p x results s valid started fits known answers u y r =
       valid = n.0;
       evolves = n.1;
       goes_on = λ a w h. store_steps_sound p results y u a w valid n.0 h;
+      answered = store_answers_exist p results y u valid n.0;
     }
 
 -- ---- constants

@@ -1,5 +1,5 @@
 -- That no run of a valid program over a store is stuck, and that all fits in the store (WebAssembly 3.0, appendix, soundness).
-use Rattle.std.specs.Prelude.{◌≡◌, ℕ, false, List, [], ◌∷◌, Some, slice_get}
+use Rattle.std.specs.Prelude.{◌≡◌, ℕ, false, IsTrue, List, [], ◌∷◌, Some, slice_get}
 use Rattle.wasm_types.specs.trees.Types.{FieldOf}
 use Rattle.wasm_types.specs.trees.Trees.{TypeTree}
 use Rattle.wasm_types.specs.trees.Below.{expanded}
@@ -9,9 +9,10 @@ use Rattle.wasm_operator_validator_rules.specs.Context.{Global}
 use Rattle.wasm_operator_validator_rules.specs.Typed.{IsBody}
 use Rattle.wasm_operator_validator_rules.specs.constants.Constants.{constant_context}
 use Rattle.wasm_operator_validator_soundness.specs.runs.Values.{Program, Value}
-use Rattle.wasm_operator_validator_soundness.specs.runs.States.{State, Answer, next, returned}
+use Rattle.wasm_operator_validator_soundness.specs.runs.States.{State, Answer, next, returned, trapped}
 use Rattle.wasm_operator_validator_soundness.specs.runs.ValidStates.{IsValidState, IsValidOutcome}
 use Rattle.wasm_operator_validator_soundness.specs.runs.Soundness.{step, IsValidProgram, IsStarted, evaluated}
+use Rattle.wasm_operator_validator_soundness.specs.runs.Progress.{next_can_trap}
 use Rattle.wasm_operator_validator_store.specs.Stores.{ObjectInstance, Store, field_at, global_in}
 use Rattle.wasm_operator_validator_store.specs.ValidStores.{Knows, Has, HasState, HasOutcome, StoreFits, Evolves}
 use Rattle.wasm_operator_validator_store.specs.Giving.{GivesStep}
@@ -40,18 +41,24 @@ pub record StepIsSound (p : Program) (results : List ValueType) (x : State) (s :
   pub evolves : Evolves s u
   pub known : HasOutcome (Knows u) (step p x a).outcome
 
+-- Something is given. If the run traps under it, the operator is one that may trap.
+abbrev pub IsAnsweredOver : Program → State → Store → Type 0
+IsAnsweredOver p x s = (a : Answer) × (u : Store) × GivesStep p x s a u
+    × ((step p x a).outcome ≡ trapped → IsTrue (next_can_trap x))
+
 -- ---- the theorem
 
 abbrev pub StoreStepsAreSound : Type 0
 StoreStepsAreSound = (p : Program) (results : List ValueType) (x : State) (s : Store) (a : Answer) (u : Store)
     → IsValidProgram p → AreValid p results x s → GivesStep p x s a u → StepIsSound p results x s a u
 
--- A run that begins with what the store knows is a run of the machine without a store, is never stuck, and all fits on the way and
--- after its last step.
+-- A run that begins with what the store knows is a run of the machine without a store, is never stuck, can go on until it ends, and all
+-- fits on the way and after its last step.
 pub record StoreRunIsSound (p : Program) (results : List ValueType) (s u : Store) (y : State) : Type 0 where
   pub valid : AreValid p results y u
   pub evolves : Evolves s u
   pub goes_on : (a : Answer) (w : Store) → GivesStep p y u a w → StepIsSound p results y u a w
+  pub answered : IsAnsweredOver p y u
 
 -- whatever the store of each moment gives
 abbrev pub IsSoundOver : Program → List ValueType → Store → State → Type 0
@@ -61,6 +68,11 @@ IsSoundOver p results s x = (answers : List Answer) (u : Store) (y : State) → 
 abbrev pub StoreRunsAreSound : Type 0
 StoreRunsAreSound = (p : Program) (x : State) (results : List ValueType) (s : Store) → IsValidProgram p
     → IsStarted p x results → StoreFits p s → HasState (Knows s) x → IsSoundOver p results s x
+
+-- Each state and store in which all fits is answered, those of a constant too.
+abbrev pub StoreAnswersExist : Type 0
+StoreAnswersExist = (p : Program) (results : List ValueType) (x : State) (s : Store) → IsValidProgram p
+    → AreValid p results x s → IsAnsweredOver p x s
 
 -- ---- constants
 

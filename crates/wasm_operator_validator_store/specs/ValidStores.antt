@@ -7,7 +7,7 @@ use Rattle.wasm_operator_validator_rules.specs.Operands.{ValueType, stack}
 use Rattle.wasm_operator_validator_rules.specs.Context.{Table, Global, Signature, IsFunctionType}
 use Rattle.wasm_operator_validator_soundness.specs.runs.Values.{Program, Value, ref_object, ref_exn, ref_extern, Fits, AllFit}
 use Rattle.wasm_operator_validator_soundness.specs.runs.States.{Exception, Label, Activation, State, Outcome, next, returned, trapped, thrown, stuck}
-use Rattle.wasm_operator_validator_soundness.specs.runs.ValidStates.{IsThrown}
+use Rattle.wasm_operator_validator_soundness.specs.runs.ValidStates.{IsTagType}
 use Rattle.wasm_operator_validator_soundness.specs.runs.Machine.{operand_of}
 use Rattle.wasm_operator_validator_store.specs.Stores.{GlobalInstance, TableInstance, ObjectInstance, ExceptionInstance, Store, field_at}
 
@@ -117,7 +117,7 @@ module _ (p : Program) (s : Store) where
     pub segments : Pairs (λ t vs. Each (Has t) vs) p.«module».elements s.segments
     pub objects : Each ObjectFits s.objects
     pub exceptions : Each ThrownFits s.exceptions
-    pub tags : Each IsThrown s.tags
+    pub tags : Each IsTagType s.tags
     pub externs : Each (Has (ref false (abstract false any))) s.externs
     pub global_addresses : Pairs (IsGlobalAt s) p.«module».globals s.addresses.globals
     pub table_addresses : Pairs (IsTableAt s) p.«module».tables s.addresses.tables

@@ -6,7 +6,7 @@
 
 ghost use Rattle.std.specs.Prelude.{ℤ};
 ghost use Rattle.wasm_operator_validator_store.specs.Instantiation.{FirstStoresFit};
-ghost use Rattle.wasm_operator_validator_store.specs.Soundness.{ImmutableIsKept, StoreConstantsAreSound, StoreRunsAreSound, StoreStepsAreSound};
+ghost use Rattle.wasm_operator_validator_store.specs.Soundness.{ImmutableIsKept, StoreAnswersExist, StoreConstantsAreSound, StoreRunsAreSound, StoreStepsAreSound};
 ghost use Rattle.wasm_operator_validator_store.specs.worked.Arms.{ArmsWorked};
 ghost use Rattle.wasm_operator_validator_store.specs.worked.Linked.{LinkedStoreWorked};
 ghost use Rattle.wasm_operator_validator_store.specs.worked.Rows.{RowsWorked};
@@ -16,7 +16,13 @@ pub fn store_steps_are_sound()
     ensures { StoreStepsAreSound }
 {}
 
-/// A run over a store is a run of the machine that has none, is never stuck, and all fits on the way and after its last step.
+/// At each step a store gives something, and the run traps under it only if the operator may trap.
+pub fn store_answers_exist()
+    ensures { StoreAnswersExist }
+{}
+
+/// A run over a store is a run of the machine that has none, is never stuck, can go on until it ends, and all fits on the way and after
+/// its last step.
 pub fn store_runs_are_sound()
     ensures { StoreRunsAreSound }
 {}

@@ -1,5 +1,5 @@
 -- A module judged in parts: worked rows.
-use Rattle.std.specs.Prelude.{◌↔◌, ℕ, List, [], ◌∷◌, ◌++◌}
+use Rattle.std.specs.Prelude.{◌≡◌, ℕ, List, [], ◌∷◌, ◌++◌}
 use Rattle.wasm_module_validator_rules.specs.worked.Bytes.{header, procedure_section, function_section, empty_body_section}
 use Rattle.wasm_module_validator_rules.specs.worked.Trees.{everything}
 use Rattle.wasm_module_validator_drivers.specs.judging.Bodies.{AllOfPart}
@@ -16,4 +16,6 @@ pub record PartRows : Type 0 where
   pub only : AcceptsPart everything 0 1 bodiless → ⊥
   pub one_of_two : AcceptsPart everything 0 2 bodiless → AcceptsPart everything 1 2 bodiless → ⊥
   pub outside : AcceptsPart everything 1 1 (header ++ procedure_section ++ function_section) → ⊥
-  pub second : (R : ℕ → List ℕ → Type 0) (x y : ℕ) (s t : List ℕ) → AllOfPart R 1 2 0 (x ∷ y ∷ []) (s ∷ t ∷ []) ↔ R y t
+  pub not_the_first : (x : ℕ) (s : List ℕ) → AllOfPart (λ n t. ⊥) 1 2 0 (x ∷ []) (s ∷ [])
+  pub second : (x y : ℕ) (s t : List ℕ) → AllOfPart (λ n u. (n ≡ y) × (u ≡ t)) 1 2 0 (x ∷ y ∷ []) (s ∷ t ∷ [])
+  pub not_without_it : (x y : ℕ) (s t : List ℕ) → AllOfPart (λ n u. ⊥) 1 2 0 (x ∷ y ∷ []) (s ∷ t ∷ []) → ⊥

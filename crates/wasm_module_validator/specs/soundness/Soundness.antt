@@ -11,6 +11,7 @@ use Rattle.wasm_operator_validator_soundness.specs.runs.Values.{Function, Progra
 use Rattle.wasm_operator_validator_soundness.specs.runs.States.{State}
 use Rattle.wasm_operator_validator_rules.specs.Context.{IsFunctionType}
 use Rattle.wasm_operator_validator_soundness.specs.runs.Soundness.{IsStarted, IsNeverStuck, StaysValid}
+use Rattle.wasm_operator_validator_soundness.specs.runs.Progress.{GlobalsHaveValues, IsAlwaysAnswered}
 use Rattle.wasm_operator_validator_store.specs.Stores.{Store}
 use Rattle.wasm_operator_validator_store.specs.ValidStores.{Knows, HasState, StoreFits}
 use Rattle.wasm_operator_validator_store.specs.Soundness.{IsSoundOver}
@@ -26,13 +27,16 @@ MayStart p x = (f : Function) × (slice_get p.functions x ≡ Some f)
 
 -- Whatever function of the module is started, with arguments that fit its parameters, and whatever is answered, it is never stuck; what
 -- it returns or throws fits, and at each place on the way each value fits what the rules know of it there. Over any store in which all
--- fits, what is read is what was written last, and all fits again on the way. The function that starts the module takes and gives nothing.
--- Each constant gives what fits its place. Whatever the host gives for imports, if all fits in it, all fits in the first store.
+-- fits, what is read is what was written last, each step is answered, and all fits again on the way. So is each step by types alone, if no
+-- global is of a type without values. The function that starts the module takes and gives nothing. Each constant gives what fits its place.
+-- Whatever the host gives for imports, if all fits in it, all fits in the first store.
 pub record RunsFrom (z : Settings) (m : ModuleTree) (hosts : List TypeTree) : Type 0 where
   pub functions : (s : State) (results : List ValueType) → IsStarted (program_of z m hosts) s results
       → IsNeverStuck (program_of z m hosts) results s
   pub states : (s : State) (results : List ValueType) → IsStarted (program_of z m hosts) s results
       → StaysValid (program_of z m hosts) results s
+  pub answered : (s : State) (results : List ValueType) → GlobalsHaveValues (program_of z m hosts)
+      → IsStarted (program_of z m hosts) s results → IsAlwaysAnswered (program_of z m hosts) s
   pub stores : (s : State) (results : List ValueType) (u : Store) → IsStarted (program_of z m hosts) s results
       → StoreFits (program_of z m hosts) u → HasState (Knows u) s → IsSoundOver (program_of z m hosts) results u s
   pub start : IfThere (MayStart (program_of z m hosts)) m.start

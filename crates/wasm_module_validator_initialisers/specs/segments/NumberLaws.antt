@@ -1,5 +1,5 @@
 -- A number is a constant of its type in any module.
-use Rattle.std.proofs.Common.{◌≡◌, ℕ, ℤ, List, [], ◌∷◌, true, false, refl, sym, ◌∙◌, subst, arith, bit_and}
+use Rattle.std.proofs.Common.{◌≡◌, ℕ, List, [], ◌∷◌, true, false, refl, sym, ◌∙◌, subst, arith, bit_and}
 use Rattle.std.proofs.lemmas.Nat.{and_le_r}
 use Rattle.wasm_types.specs.settings.Settings.{Settings}
 use Rattle.wasm_operators_enums.specs.declared.constant.ConstOperator.{ConstOperator}
@@ -8,11 +8,10 @@ use Rattle.wasm_operators_immediates.specs.declared.proposal.Proposal.TheVariant
 use Rattle.wasm_operators_enums.specs.Op as op
 use Rattle.wasm_operators_enums.specs.Op.{Op}
 use Rattle.wasm_operators_enums.specs.Table.{info_of}
-use Rattle.wasm_operators_bodies.specs.declared.short.ShortConstant.{ShortConstant}
 use Rattle.wasm_operators_bodies.specs.declared.short.ShortConstant.TheVariants as short
 use Rattle.wasm_operators_bodies.specs.Short.{alone, SpellsShort}
 use Rattle.wasm_operator_validator_rules.specs.Numbers.{constant_type}
-use Rattle.wasm_operator_validator_rules.specs.Operands.{ValueType, known, stack}
+use Rattle.wasm_operator_validator_rules.specs.Operands.{known}
 use Rattle.wasm_operator_validator_rules.specs.Context.{Module}
 use Rattle.wasm_operator_validator_rules.specs.Row.{IsEnabled, names_float}
 use Rattle.wasm_operator_validator_rules.specs.constants.Constants.{IsConstant}

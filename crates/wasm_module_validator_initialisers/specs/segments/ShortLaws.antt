@@ -1,9 +1,7 @@
 -- A data segment at a number of 32 bits is valid in a module whose memory 0 has addresses of 32 bits.
-use Rattle.std.proofs.Common.{◌≡◌, ℕ, List, refl, sym, subst, Bool}
+use Rattle.std.proofs.Common.{ℕ, List, refl, sym, subst, Bool}
 use Rattle.wasm_types.specs.settings.Settings.{Settings}
-use Rattle.wasm_types.specs.trees.Types.{number, i32}
 use Rattle.wasm_operator_validator_rules.specs.Context.{Module, address_type}
-use Rattle.wasm_operator_validator_rules.specs.Operands.{ValueType}
 use Rattle.wasm_operator_validator_rules.specs.constants.Constants.{IsConstant}
 use Rattle.wasm_sections_items.specs.segments.Spells.{active}
 use Rattle.wasm_module_validator_initialisers.specs.segments.Judged.{IsData}

@@ -11,7 +11,9 @@ ghost use Rattle.wasm_module_validator_resources.specs.rules_in_order.Texts.{Spe
 ghost use Rattle.wasm_module_validator_resources.specs.referring.Naming.{NamesMore};
 ghost use Rattle.wasm_module_validator_initialisers.specs.adding.Read.{NamesInit};
 
-use crate::elements::{ConstExpr, Settings, TableInitOf, name_references, reader_by};
+use crate::elements::{
+    ConstExpr, Settings, TableInitOf, name_references, reader_by, refers_to_none,
+};
 use std::alloc::Global;
 use wasm_types::Result;
 
@@ -27,6 +29,9 @@ pub(crate) fn name_constant(
     ensures refused { IfErr result (λ e. IsNotMemory e.kind → (c : Code)
         → SpelledExpression settings.now c expr.now.rest → ⊥) }
 {
+    if refers_to_none(expr) {
+        return Ok(());
+    }
     name_references(alloc, reader_by(expr, settings), names)
 }
 

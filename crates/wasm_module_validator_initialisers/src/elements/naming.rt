@@ -16,7 +16,7 @@ ghost use Rattle.wasm_module_validator_initialisers.specs.elements.Naming.{Names
 
 use crate::segments::{
     ConstExpr, OperatorValidatorAllocations, Settings, WasmModuleResources, check_constant,
-    reader_by,
+    reader_by, refers_to_none,
 };
 use std::alloc::Global;
 use wasm_module_validator_resources::referring::name_references;
@@ -85,6 +85,9 @@ fn name_constant(
     ensures refused { IfErr result (λ e. IsNotMemory e.kind → (c : Code)
         → SpelledExpression settings.now c expr.now.rest → ⊥) }
 {
+    if refers_to_none(expr) {
+        return Ok(());
+    }
     name_references(alloc, reader_by(expr, settings), names)
 }
 

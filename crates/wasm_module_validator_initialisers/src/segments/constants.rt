@@ -1,13 +1,15 @@
 //! Constant expressions of items.
 
-ghost use Rattle.std.specs.Prelude.{◌≡◌, ℕ, IfErr, IsTrue};
+ghost use Rattle.std.specs.Prelude.{◌≡◌, ℕ, List, IfErr, IsTrue};
 ghost use Rattle.wasm_types.specs.decoding.Denials.{Tells, UnlessMemory};
 ghost use Rattle.wasm_types.specs.settings.Limits.{IsWithinCeilings};
 ghost use Rattle.wasm_types.specs.settings.Settings.{Settings as Given};
 ghost use Rattle.wasm_operator_validator_state.specs.resources.Meaning.{Meaning, type_in};
+ghost use Rattle.wasm_module_validator_resources.specs.referring.Naming.{NamesMore};
 ghost use Rattle.wasm_module_validator_initialisers.specs.segments.Judged.{IsConstantText};
 ghost use Rattle.wasm_module_validator_initialisers.specs.segments.Refusals.{StopsText, read_by};
 
+use crate::accepting::accepts_constant;
 use std::alloc::Global;
 use wasm_module_validator_checks::externs::Settings;
 use wasm_operator_validator_constants::{
@@ -39,6 +41,37 @@ fn is_number(expr: &ConstExpr<'_>, ty: &ValType) -> bool
     }
 }
 
+// The bytes of an expression.
+fn bytes_of<'a>(expr: &ConstExpr<'a>) -> &'a [u8]
+    ensures { result.now ≡ expr.now.rest }
+{
+    let mut reader = expr.get_binary_reader();
+    let Ok(bytes) = reader.read_bytes(reader.bytes_remaining()) else {
+        unreachable!()
+    };
+    bytes
+}
+
+// Whether one pass over the bytes tells that an expression is a constant of this type.
+fn is_accepted<R: WasmModuleResources>(
+    alloc: Global,
+    expr: &ConstExpr<'_>,
+    ty: &ValType,
+    resources: &R,
+    settings: &Settings,
+) -> bool
+    ensures { IsTrue result → (count : ℕ) → IsConstantText settings.now (R.meaning resources.now).«module» count
+        (type_in (R.meaning resources.now) ty.now) expr.now.rest }
+{
+    let bytes = bytes_of(expr);
+    let features = settings.features();
+    let mut stack = Vec::new(alloc);
+    let Some(end) = accepts_constant(bytes, 0, ty, resources, &features, &mut stack) else {
+        return false;
+    };
+    end == bytes.len()
+}
+
 /// Checks the bytes of an expression, by the settings that the module is judged by: Ok exactly if they spell a constant of this
 /// type in the module so far, of whose globals the first so many are imported, out of memory aside (WebAssembly 3.0, validation,
 /// instructions, constant expressions). The type is named as the module names it for itself. The memory of `allocs` is used.
@@ -64,6 +97,9 @@ pub fn check_constant<R: WasmModuleResources>(
     if is_number(expr, &ty) {
         return Ok(());
     }
+    if is_accepted(alloc, expr, &ty, resources, settings) {
+        return Ok(());
+    }
     let judged = ConstExpr::new(alloc, reader_by(expr, settings));
     check_const_expr(
         alloc,
@@ -74,4 +110,14 @@ pub fn check_constant<R: WasmModuleResources>(
         imported_globals,
         allocs,
     )
+}
+
+/// Whether the bytes alone tell that an expression refers to no function: the opcode by which one does is not among them.
+pub fn refers_to_none(expr: &ConstExpr<'_>) -> bool
+    ensures { IsTrue result → (z : Given) (names : List ℕ) → NamesMore z expr.now.rest names names }
+{
+    if bytes_of(expr).contains(&0xd2) {
+        return false;
+    }
+    true
 }

@@ -216,6 +216,7 @@ begun_with types results shared locals owed c = record {
   types = types;
   results = results;
   shared = shared;
+  whole = c;
   locals = locals;
   owed = owed;
   innermost = record {

@@ -35,12 +35,14 @@ pub record Label : Type 0 where
   pub handlers : Handlers
   pub caught : Option Exception
 
--- A function that runs: the types of its locals, its results, whether it is shared; the locals, of which some may have no value
--- yet; the results that its caller awaits; its innermost label, and those around it, of which the last is the function itself.
+-- A function that runs: the types of its locals, its results, whether it is shared; its whole code, which no step reads; the locals, of
+-- which some may have no value yet; the results that its caller awaits; its innermost label, and those around it, of which the last is the
+-- function itself.
 pub record Activation : Type 0 where
   pub types : List ValueType
   pub results : List ValueType
   pub shared : Bool
+  pub whole : Code
   pub locals : List (Option Value)
   pub owed : List ValueType
   pub innermost : Label

@@ -4,7 +4,7 @@ use Rattle.std.specs.Prelude.{◌≡◌, ℕ, Bool, true, false, List, [], ◌�
 use Rattle.wasm_types.specs.settings.Settings.{Settings}
 use Rattle.wasm_types.specs.settings.Features.{SharedEverythingThreads, StackSwitching, CustomDescriptors, has}
 use Rattle.wasm_types.specs.trees.Types.{Number, Abstract, func, extern, any, none, noextern, nofunc, i31, exn, noexn, cont, nocont}
-use Rattle.wasm_types.specs.trees.Types.{HeapOf, abstract, concrete, exact, number, ref, InnerOf, array_of, struct_of}
+use Rattle.wasm_types.specs.trees.Types.{HeapOf, abstract, concrete, exact, number, ref, InnerOf, array_of, struct_of, function}
 use Rattle.wasm_types.specs.trees.Trees.{TypeTree}
 use Rattle.wasm_types.specs.trees.Below.{Below, expanded, is_shared, heap_is_shared, bottom_of}
 use Rattle.wasm_types.specs.trees.ValidGroup.{Written, AreValidGroups, IsFunction}
@@ -109,11 +109,30 @@ abbrev pub IsNamed : Program → Option ℕ → TypeTree → Type 0
 IsNamed p None t = Unit {0}
 IsNamed p (Some x) t = (f : Function) × (slice_get p.functions x ≡ Some f) × (f.type ≡ t)
 
+-- what a function or an object carries is a type that some program makes it with
+abbrev pub IsStandardValue : Value → Type 0
+IsStandardValue (ref_function i t) = IsStandardType t × IsFunction (expanded t)
+IsStandardValue (ref_object k t) = IsStandardType t × IsObject (expanded t)
+IsStandardValue v = Unit {0}
+
+-- Some value, of whatever program, is of the type: of each type but references without null to the bottom of a hierarchy.
+abbrev pub HasValue : ValueType → Type 0
+HasValue t = (v : Value) × IsStandardValue v × Below (least_type v) t
+
+abbrev pub EachHasValue : List ValueType → Type 0
+EachHasValue [] = Unit {0}
+EachHasValue (t ∷ ts) = HasValue t × EachHasValue ts
+
+-- an exception is thrown with a value for each parameter of its tag
+abbrev pub HasArguments : InnerOf TypeTree → Type 0
+HasArguments (function ps rs) = EachHasValue ps
+HasArguments _ = ⊥
+
 -- what a value carries is a type that it can be made with
 abbrev pub IsMade : Program → Value → Type 0
 IsMade p (ref_function i t) = IsStandardType t × IsFunction (expanded t) × IsNamed p i t
 IsMade p (ref_object k t) = IsStandardType t × IsObject (expanded t)
-IsMade p (ref_exn k t) = IsStandardType t × IsFunction (expanded t)
+IsMade p (ref_exn k t) = IsStandardType t × IsFunction (expanded t) × HasArguments (expanded t)
 IsMade p v = Unit {0}
 
 -- A value is of each type above its least type (appendix, soundness, values and results).

@@ -7,3 +7,5 @@ pub mod Older
 pub mod Branching
 pub mod Segments
 pub mod Vectors
+pub mod Answered
+pub mod Placed

@@ -2,10 +2,12 @@
 
 ghost use Rattle.std.specs.Prelude.{ℤ};
 ghost use Rattle.wasm_operators_immediates.specs.declared.vector.V128.{V128};
+ghost use Rattle.wasm_operator_validator_soundness.specs.runs.worked.Answered.{AnsweredWorked};
 ghost use Rattle.wasm_operator_validator_soundness.specs.runs.worked.Branching.{BranchingWorked};
 ghost use Rattle.wasm_operator_validator_soundness.specs.runs.worked.Caught.{CaughtWorked};
 ghost use Rattle.wasm_operator_validator_soundness.specs.runs.worked.Objects.{ObjectsWorked};
 ghost use Rattle.wasm_operator_validator_soundness.specs.runs.worked.Older.{OlderWorked};
+ghost use Rattle.wasm_operator_validator_soundness.specs.runs.worked.Placed.{PlacedWorked};
 ghost use Rattle.wasm_operator_validator_soundness.specs.runs.worked.Runs.{RunsWorked};
 ghost use Rattle.wasm_operator_validator_soundness.specs.runs.worked.Segments.{SegmentsWorked};
 ghost use Rattle.wasm_operator_validator_soundness.specs.runs.worked.Stuck.{PlacesWorked, StuckWorked};
@@ -21,6 +23,16 @@ pub fn runs_are_worked()
 pub fn stuck_states_are_worked()
     ensures stuck { (x : ℤ) → StuckWorked x }
     ensures places { (x : ℤ) → PlacesWorked x }
+{}
+
+/// Types without values, operators that may trap, and states for which something is an answer, or nothing.
+pub fn answers_are_worked()
+    ensures { (x : ℤ) → AnsweredWorked x }
+{}
+
+/// What a derivation has at its places, whichever it is, and that it has nothing at others.
+pub fn places_are_worked()
+    ensures { PlacedWorked }
 {}
 
 /// Runs of a program that is valid: it adds two numbers, calls an import, and calls that and a function of its own through a table.

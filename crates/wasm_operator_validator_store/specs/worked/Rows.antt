@@ -14,9 +14,10 @@ use Rattle.wasm_operators_enums.specs.Op.{Op}
 use Rattle.wasm_operators_encoding.specs.expressions.Code.{Code, plain, nested}
 use Rattle.wasm_operator_validator_soundness.specs.runs.Values.{ref_null, ref_extern, ref_exn, Fits}
 use Rattle.wasm_operator_validator_soundness.specs.runs.States.{trapped, thrown}
-use Rattle.wasm_operator_validator_soundness.specs.runs.worked.Runs.{silent, throw, i32_block, end, gives_i32, takes_i32, pair, triple}
+use Rattle.wasm_operator_validator_soundness.specs.runs.worked.Runs.{silent, standing, throw, i32_block, end, gives_i32, takes_i32, pair, triple}
 use Rattle.wasm_operator_validator_store.specs.Stores.{nothing}
-use Rattle.wasm_operator_validator_store.specs.worked.Program.{num, first_pair, other_pair, some_cells, some_octets, scalar, own, giving, making, trapping, finding, throwing, guarded, program, Leads, returns, gc_then, bulk_then, const_then, drop_then, unreachable, control_then}
+use Rattle.wasm_operator_validator_store.specs.Soundness.{IsAnsweredOver}
+use Rattle.wasm_operator_validator_store.specs.worked.Program.{num, first_pair, other_pair, some_cells, some_octets, scalar, own, giving, making, trapping, finding, throwing, guarded, program, store, numbers, Leads, returns, gc_then, bulk_then, const_then, drop_then, unreachable, control_then}
 
 abbrev pub indirect : Code
 indirect = control_then (control.CallIndirect 0 0) end
@@ -93,3 +94,7 @@ pub record RowsWorked : Type 0 where
       (silent ∷ silent ∷ giving (num 6 ∷ []) ∷ throwing 1 0 1 ∷ []) silent (returns 6)
   pub thrown_again : Leads (plain (op.Exception op.ThrowRef) end) (ref_exn 0 takes_i32 ∷ []) []
       (record (throwing 0 1 0) { values = num 6 ∷ [] }) (thrown takes_i32 (num 6 ∷ []))
+  -- past the end of an array a trap is given; what an external reference names is given, if something is there
+  pub answered : IsAnsweredOver program (standing numbers (num 3 ∷ some_cells ∷ []) (gc_then (gc.ArrayGet 4) end)) store
+  pub unknown_extern : IsAnsweredOver program
+      (standing numbers (ref_extern 9 ∷ []) (gc_then gc.AnyConvertExtern end)) store → ⊥

@@ -131,11 +131,11 @@ leaving n = record silent { leaves = n }
 
 -- ---- states
 
--- one activation that gives an i32 and owes what is said, over these values
+-- one activation that gives an i32 and owes what is said, over these values; its whole code, which no step reads, is left out
 abbrev pub standing : List ValueType → List Value → Code → State
 standing owed vs c =
     let act : Activation = begun_with [] (number i32 ∷ []) false [] owed c in record act
-    { innermost = record act.innermost { values = vs } } ∷ []
+    { whole = end; innermost = record act.innermost { values = vs } } ∷ []
 
 -- with a constant of this number
 module _ (x : ℤ) where

@@ -1,5 +1,4 @@
-use Rattle.std.proofs.Common.{◌≡◌, ◌∙◌, ap, subst, Ok}
-use Rattle.std.specs.Prelude.{Option, IfSome, Some, None}
+use Rattle.std.proofs.Common.{◌∙◌, ap}
 use Rattle.wasm_module_validator_initialisers.proofs.AddingShortData.{short_added}
 use Rattle.wasm_module_validator_resources.specs.referring.Referring.{meaning_with_all}
 use Rattle.wasm_module_validator_initialisers.proofs.adding.data.check_short_data_item.Goals as goal
