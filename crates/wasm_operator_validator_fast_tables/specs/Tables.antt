@@ -189,9 +189,9 @@ pub record Fits (ids : List TypeTree) (z : Settings) (text : List ℕ) (t : Tabl
 abbrev pub HasDefault : ℕ → Type 0
 HasDefault code = (ids : List TypeTree) → defaultable (type_of ids code) ≡ true
 
--- so do the locals, except the first so many, which the caller gives
+-- so do the first locals, except so many, which the caller gives
 abbrev pub BeginSet : Tables → ℕ → Type 0
-BeginSet t params = (x : ℕ) → x < length t.locals.items → (x < params) ⊎ HasDefault (get_or t.locals.items x 0)
+BeginSet t params = (x : ℕ) → x < length t.locals.items → x < t.certain → (x < params) ⊎ HasDefault (get_or t.locals.items x 0)
 
 -- ---- calls through tables
 
