@@ -9,7 +9,9 @@ ghost use Rattle.wasm_module_validator_function_bodies.specs.Plain.{AreOfSame, T
 use std::alloc::Global;
 use wasm_operator_validator_driver::WasmModuleResources;
 use wasm_operator_validator_fast_loop::Room;
-use wasm_operator_validator_fast_tables::{Known, Order, Sig, Tables, has_default, known_of, part, value_at};
+use wasm_operator_validator_fast_tables::{
+    Known, Order, Sig, Tables, has_default, known_of, part, value_at,
+};
 use wasm_operators_bodies::FunctionBody;
 use wasm_types::{Limits, WasmFeatures};
 use wasm_types_decoding::short_u32_at;
@@ -265,10 +267,6 @@ fn certain_of(locals: &[u32], params: usize) -> usize
 fn put_times(locals: &mut Vec<u32>, count: u32, code: u32) -> bool
     ensures { result ≡ true → locals.new.items ≡ locals.old.items ++ replicate count code }
 {
-    for i in 0..count {
-        let Ok(()) = locals.push(code) else {
-            return false;
-        };
-    }
-    true
+    let held = locals.as_slice().len();
+    locals.resize(held + count as usize, code).is_ok()
 }

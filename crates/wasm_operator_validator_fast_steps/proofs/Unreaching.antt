@@ -1,5 +1,6 @@
 -- Operators that lead away, and what is behind them.
-use Rattle.std.proofs.Common.{◌≡◌, ◌≤◌, ◌+◌, ℕ, true, List, [], ◌∷◌, Some, refl, sym, subst, length, slice_get}
+use Rattle.std.proofs.Common.{◌≡◌, ◌∙◌, ◌≤◌, ◌+◌, ℕ, true, List, [], ◌∷◌, ◌++◌, Some, refl, sym, ap, subst, append-nil, length, reverse, slice_get}
+use Rattle.std.proofs.lemmas.List.{reverse-reverse}
 use Rattle.wasm_types.specs.decoding.Leb.{u32}
 use Rattle.wasm_types.specs.decoding.Numbers.{GivesAt}
 use Rattle.wasm_operators_frequent.specs.Short.{Begins}
@@ -12,6 +13,12 @@ use Rattle.wasm_operator_validator_fast_tables.specs.Loop.{Goes, Leads}
 use Rattle.wasm_operator_validator_fast_steps.specs.Unreached.{IsPassed}
 use Rattle.wasm_operator_validator_fast_steps.proofs.Rows.{took_unreachable, took_br, took_return}
 use Rattle.wasm_operator_validator_fast_steps.proofs.Throwing.{took_throw, took_throw_ref}
+
+-- any operands of the innermost frame are such as were put on when it had none
+pub some_given : (v : Values) (under : List ℕ) → v.1 ≡ under → (rs : List ℕ) × (v ≡ with_all rs ([], under))
+some_given v under e =
+    let own : v.0 ≡ reverse (reverse v.0) ++ [] = sym (append-nil (reverse (reverse v.0)) ∙ reverse-reverse v.0) in
+    (reverse v.0, ap (λ (xs : List ℕ). (xs, v.1)) own ∙ ap (λ (xs : List ℕ). (reverse (reverse v.0) ++ [], xs)) e)
 
 module _ (t : Tables) (text : List ℕ) where
   pub leads_then : (i j k : ℕ) (opens others last : List Open) (v w x : Values) → Leads text t i opens v j others w → Leads text t j others w k last x

@@ -31,14 +31,26 @@ pub fn unreached(
     let Some(results) = inner_results(tables.known.flat.as_slice(), opens) else {
         return None;
     };
-    stack.cut();
-    if !stack.put_all(results) {
+    if !give_all(stack, results) {
         return None;
     }
     if results.len() > FEW {
         return Some(pass_away(tables, bytes, at, opens));
     }
     Some(at)
+}
+
+// The innermost frame has operands of the types that it gives, or as many of which the last are of these types: it then had them before, and if
+// others of them are of other types, only what takes them is not taken by the loop.
+#[inline(always)]
+fn give_all(stack: &mut Stack, results: &[u32]) -> bool
+    ensures { result ≡ true → (rs : List ℕ) × (stack.new ≡ with_all rs ([], stack.old.1)) }
+{
+    if stack.keep_alike(results) {
+        return true;
+    }
+    stack.cut();
+    stack.put_all(results)
 }
 
 // The offset behind all operators from one on that lead away.
