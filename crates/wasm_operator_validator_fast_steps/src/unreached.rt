@@ -13,6 +13,11 @@ use wasm_operator_validator_fast_tables::{Opens, Stack, Tables, frame_at, inner_
 // once for all of them, and an operator of one byte does not take the time of a thousand, if no other lies between.
 const FEW: usize = 8;
 
+// Of a frame that gives more than so many the operands that are there stay, except so many last ones.
+const MANY: usize = 100;
+
+const LAST: usize = 4;
+
 /// Behind an operator that led away the innermost frame has the operands that it gives. The offset of what is judged next.
 #[inline(always)]
 pub fn unreached(
@@ -40,20 +45,26 @@ pub fn unreached(
     Some(at)
 }
 
-// The innermost frame has operands of the types that it gives, or as many of which the last are of these types: it then had them before, and if
-// others of them are of other types, only what takes them is not taken by the loop.
+// How many operands of a frame that gives so many are kept, if there are so many.
+#[inline(always)]
+fn most_kept(count: usize) -> usize
+    ensures { result ≤ count }
+{
+    if count > MANY { count - LAST } else { 0 }
+}
+
+// The innermost frame has as many operands as it gives, and nothing else is asked of them. If it gives many, those that are there stay, except
+// the last ones, and only the others are put on: mostly the loop put them all on before. If some of those that stay are of other types, what
+// takes them is not taken by the loop.
 #[inline(always)]
 fn give_all(stack: &mut Stack, results: &[u32]) -> bool
     ensures { result ≡ true → (rs : List ℕ) × (stack.new ≡ with_all rs ([], stack.old.1)) }
 {
-    if stack.keep_alike(results) {
-        return true;
-    }
-    stack.cut();
-    stack.put_all(results)
+    let kept = stack.keep(most_kept(results.len()));
+    stack.put_all(&results[kept..])
 }
 
-// The offset behind all operators from one on that lead away.
+// The offset behind all operators from one on that lead away or do nothing.
 #[cold]
 #[inline(never)]
 fn pass_away(tables: &Tables, bytes: &[u8], at: usize, opens: &Opens) -> usize
@@ -72,7 +83,7 @@ fn pass_away(tables: &Tables, bytes: &[u8], at: usize, opens: &Opens) -> usize
     end
 }
 
-// The offset behind an operator that leads away, which any operands may be taken by.
+// The offset behind an operator that leads away, which any operands may be taken by, or that does nothing.
 fn away_at(tables: &Tables, bytes: &[u8], at: usize, opens: &Opens) -> Option<usize>
     requires { at < length bytes.now }
     ensures passed { IfSome result (λ end. IsPassed bytes.now tables.now (all opens.now) at end) }
@@ -81,6 +92,7 @@ fn away_at(tables: &Tables, bytes: &[u8], at: usize, opens: &Opens) -> Option<us
 {
     match bytes[at] {
         0x00 => Some(at + 1),
+        0x01 => Some(at + 1),
         0x08 => throw_at(tables, bytes, at, opens),
         0x0a => {
             if !tables.references {

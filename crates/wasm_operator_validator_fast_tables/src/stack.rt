@@ -243,19 +243,18 @@ impl Stack {
         true
     }
 
-    /// Takes operands off until the innermost frame has as many as there are types, if there are many. It says whether the last of them are of
-    /// these types; the others are not looked at.
+    /// Operands of the innermost frame are dropped until there are no more than so many. How many there are then.
     #[inline(always)]
-    pub fn keep_alike(&mut self, types: &[u32]) -> bool
-        ensures { self.new.1 ≡ self.old.1 }
+    pub fn keep(&mut self, most: usize) -> usize
+        ensures few { result ≤ most }
+        ensures under { self.new.1 ≡ self.old.1 }
     {
-        let count = types.len();
-        if count <= FEW || count > self.items.len() - self.base {
-            return false;
+        let held = self.items.len() - self.base;
+        if held <= most {
+            return held;
         }
-        self.items.keep(self.base + count);
-        let from = count - FEW;
-        are_same(self.items.last(FEW), &types[from..])
+        self.items.keep(self.base + most);
+        most
     }
 
     /// A frame begins on these operands. How many lay under the one around it.
