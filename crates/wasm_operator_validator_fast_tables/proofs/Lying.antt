@@ -1,7 +1,7 @@
 -- Operands in memory: those of the innermost frame, and those under them.
 use Rattle.std.proofs.Common.{◌≡◌, ◌≤◌, ◌<◌, ◌+◌, ◌-◌, ◌∙◌, ℕ, suc, List, [], ◌∷◌, Some, refl, sym, ap, subst, arith, ◌++◌, length, take, drop, reverse, get_or, slice_get, drop-cons}
 use Rattle.std.proofs.lemmas.Grind.{common_steps}
-use Rattle.std.proofs.lemmas.List.{length-drop, drop_all, drop-drop, take-append-drop, length-append}
+use Rattle.std.proofs.lemmas.List.{length-drop, drop_all, take-append-drop, length-append}
 use Rattle.wasm_operator_validator_fast_tables.specs.declared.order.Step.{Step}
 use Rattle.wasm_operator_validator_fast_tables.specs.Stacks.{Values, lying, with_all}
 use Rattle.wasm_operator_validator_fast_tables.specs.Values.{AreBelow, IsLowered}
@@ -78,15 +78,6 @@ all_off b n ts ls xs ys now l h few top same left =
     let there : b ≤ length (drop n xs) = omega (arith, l, few, long) in
     let parts : xs ≡ reverse ts ++ drop n xs = sym (take-append-drop n xs) ∙ ap (λ (k : List ℕ). k ++ drop n xs) (top ∙ ap reverse same) in
     sym h ∙ ap (lying b) parts ∙ several_more b (reverse ts) (drop n xs) there ∙ ap (λ (k : List ℕ). with_all ts (lying b k)) (sym rest)
-
--- some of the innermost frame are taken off
-pub some_kept : (b n : ℕ) (xs ys : List ℕ) (now : Values) → b ≤ length xs → lying b xs ≡ now → n ≤ length xs - b → ys ≡ drop (length xs - (b + n)) xs → (lying b ys).1 ≡ now.1
-some_kept b n xs ys now l h few left =
-    let long = length-drop (length xs - (b + n)) xs in
-    let same = ap (λ (k : List ℕ). length k) left in
-    let count : length ys - b ≡ n = omega (arith, l, few, long, same) in
-    let whole : (length xs - (b + n)) + n ≡ length xs - b = omega (arith, l, few) in
-    ap (λ (k : ℕ). drop k ys) count ∙ ap (drop n) left ∙ drop-drop n (length xs - (b + n)) xs ∙ ap (λ (k : ℕ). drop k xs) whole ∙ ap (λ (v : Values). v.1) h
 
 -- ---- operands that may be taken for others
 
