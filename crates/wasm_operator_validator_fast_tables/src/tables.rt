@@ -75,8 +75,8 @@ pub struct Known {
     pub table: bool,
 }
 
-/// What one body asks: its module, its locals as codes, the results of its function, the features that it is read by, and whether these have
-/// references.
+/// What one body asks: its module, its locals as codes, the results of its function, the features that it is read by, whether these have
+/// references, and whether they have vectors and operators on these are judged.
 #[derive(Drop)]
 pub struct Tables {
     pub known: Known,
@@ -84,6 +84,7 @@ pub struct Tables {
     pub results: Sig,
     pub features: WasmFeatures,
     pub references: bool,
+    pub vectors: bool,
 }
 
 /// An open frame, and how many operands lie under the frame around it.
