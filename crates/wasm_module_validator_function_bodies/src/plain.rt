@@ -1,7 +1,7 @@
 //! Bodies judged in one loop over codes of operands.
 
 ghost use Rattle.std.specs.Prelude.{◌≡◌, ◌<◌, ◌≤◌, ◌++◌, ◌⊎◌, ℕ, true, IfSome, length, get_or, replicate};
-ghost use Rattle.wasm_operator_validator_fast_tables.specs.Tables.{Allows, AllowsLists, AllowsReferences, HasDefault};
+ghost use Rattle.wasm_operator_validator_fast_tables.specs.Tables.{Allows, AllowsLists, AllowsReferences, AllowsVectors, HasDefault};
 ghost use Rattle.wasm_module_validator_function_bodies.specs.Locals.{judged_by};
 ghost use Rattle.wasm_module_validator_function_bodies.specs.Functions.{SpellsValidFunction};
 ghost use Rattle.wasm_module_validator_function_bodies.specs.Plain.{AreOfSame, TakesGroup, TakesAll, Begins, IsJudgeOf};
@@ -106,6 +106,7 @@ fn first_tables(alloc: Global, known: Known, features: WasmFeatures) -> Tables
     ensures known { result.known ≡ known }
     ensures features { result.features ≡ features }
     ensures references { result.references ≡ true → AllowsReferences features.0 }
+    ensures vectors { result.vectors ≡ true → AllowsVectors features.0 }
 {
     Tables {
         known,
@@ -119,6 +120,7 @@ fn first_tables(alloc: Global, known: Known, features: WasmFeatures) -> Tables
         },
         features,
         references: allows_references(features),
+        vectors: allows_vectors(features),
     }
 }
 
@@ -164,6 +166,13 @@ fn allows_references(features: WasmFeatures) -> bool
         && features.gc_types()
         && features.exceptions()
         && !features.custom_descriptors()
+}
+
+// Whether these have vectors, and operators on them are judged.
+fn allows_vectors(features: WasmFeatures) -> bool
+    ensures { result ≡ true → AllowsVectors features.0 }
+{
+    features.simd() && features.vector_operators()
 }
 
 // Whether operators may carry the lists that the loop takes.

@@ -87,9 +87,9 @@ may_all g false e = rw e refl
 pub uses : (g : Context) (b : Bool) → g.shared ≡ false → MayUse g b
 uses g b e s = let d : false ≡ true = sym e ∙ s in absurd cc
 
--- a code of a number stands for one
-is_number : (ids : List TypeTree) (k : ℕ) → k < 4 → IsNumber (known (type_of ids k))
-is_number ids k few = rw (lt-ltb k 8 (omega (arith, few))) tt
+-- a code of a number or of a vector stands for one
+is_number : (ids : List TypeTree) (k : ℕ) → k < 8 → IsNumber (known (type_of ids k))
+is_number ids k few = rw (lt-ltb k 8 few) tt
 
 pub some_is : {A : Type 0} (x y : A) → Some x ≡ Some y → x ≡ y
 some_is x y e = cc
@@ -396,7 +396,7 @@ module _ (t : Tables) (text : List ℕ) (i e : ℕ) (o : Open) (outer : List Ope
       refl (λ set full. full) taken refl
       (λ ids z c fits set full. (first c.bits _ fits.allows refl, (known (type_of ids k), refl, refl)))
 
-  pub took_select : Begins text i 0x1b → i + 1 ≡ e → (k : ℕ) (r : List ℕ) → k < 4 → v ≡ (0 ∷ k ∷ w.0, w.1) → w ≡ (k ∷ r, w.1) → Leads text t i (o ∷ outer) v e (o ∷ outer) w
+  pub took_select : Begins text i 0x1b → i + 1 ≡ e → (k : ℕ) (r : List ℕ) → k < 8 → v ≡ (0 ∷ k ∷ w.0, w.1) → w ≡ (k ∷ r, w.1) → Leads text t i (o ∷ outer) v e (o ∷ outer) w
   took_select begins behind k r few taken under =
       let all : (0 ∷ k ∷ w.0, w.1) ≡ (0 ∷ k ∷ k ∷ r, w.1) = ap (λ (x : Values). (0 ∷ k ∷ x.0, w.1)) under in
       took (op.Parametric op.Select) (k ∷ k ∷ 0 ∷ []) (k ∷ []) r w.1

@@ -110,7 +110,7 @@ fn long_argument_at(bytes: &[u8], at: usize, natural: u8, features: WasmFeatures
 #[inline(always)]
 pub fn argument_at(bytes: &[u8], at: usize, natural: u8, features: WasmFeatures) -> Option<usize>
     requires inside { at ≤ length bytes.now }
-    requires few { natural < 4 }
+    requires few { natural < 16 }
     ensures { IfSome result (λ end. IsArgumentAt features.0 bytes.now at natural end) }
 {
     if bytes.len() - at <= 2 || bytes[at] > natural {

@@ -76,7 +76,8 @@ pub struct Known {
 }
 
 /// What one body asks: its module, its locals as codes, how many of them from the first on have values wherever they are read, the results of
-/// its function, the features that it is read by, and whether these have references.
+/// its function, the features that it is read by, whether these have references, and whether they have vectors and operators on these are
+/// judged.
 #[derive(Drop)]
 pub struct Tables {
     pub known: Known,
@@ -85,6 +86,7 @@ pub struct Tables {
     pub results: Sig,
     pub features: WasmFeatures,
     pub references: bool,
+    pub vectors: bool,
 }
 
 /// An open frame, how many operands lie under the frame around it, and which locals have values there, a bit each: of 64 from the first on that
