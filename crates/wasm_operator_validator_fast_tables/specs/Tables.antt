@@ -198,6 +198,12 @@ BeginSet t params = (x : ℕ) → x < length t.locals.items → (x < params) ⊎
 abbrev pub CallsThrough : Tables → ℕ → ℕ → Type 0
 CallsThrough t x code = (ids : List TypeTree) (m : Module) → Knows ids m t.known → HasTableAt m x code
 
+-- ---- memories
+
+-- the memory at an index has addresses of this code, in any module that the tables stand for
+abbrev pub Reaches : Tables → ℕ → ℕ → Type 0
+Reaches t x code = (ids : List TypeTree) (m : Module) → Knows ids m t.known → HasMemoryAt m x code
+
 -- ---- calls in the place of a return
 
 -- the type at an index takes these types, and gives what the function that is judged gives
