@@ -195,7 +195,11 @@ fn long_argument_at(bytes: &[u8], at: usize, natural: u8, tables: &Tables) -> us
     requires { at ≤ length bytes.now }
     ensures { 0 < result → IsArgumentAt tables.now bytes.now at natural (result % 2) (at + result / 2) }
 {
-    if at >= bytes.len() || bytes[at] % 0x10 > natural {
+    if at >= bytes.len() {
+        return 0;
+    }
+    let flags = bytes[at];
+    if flags % 0x10 > natural {
         return 0;
     }
     let Some((memory, middle)) = memory_named(bytes, at, tables.features) else {
