@@ -9,7 +9,9 @@ ghost use Rattle.wasm_module_validator_function_bodies.specs.Plain.{AreOfSame, T
 use std::alloc::Global;
 use wasm_operator_validator_driver::WasmModuleResources;
 use wasm_operator_validator_fast_loop::Room;
-use wasm_operator_validator_fast_tables::{Known, Order, Sig, Tables, has_default, known_of, part, value_at};
+use wasm_operator_validator_fast_tables::{
+    Known, NO_CODE, Order, Sig, Tables, has_default, known_of, part, value_at,
+};
 use wasm_operators_bodies::FunctionBody;
 use wasm_types::{Limits, WasmFeatures};
 use wasm_types_decoding::short_u32_at;
@@ -139,9 +141,10 @@ fn nothing_known(alloc: Global) -> Known {
         tags: Vec::new(alloc),
         tables: Vec::new(alloc),
         elements: Vec::new(alloc),
+        memories: Vec::new(alloc),
         data: 0,
-        memory: false,
-        table: false,
+        memory: NO_CODE,
+        table: NO_CODE,
     }
 }
 

@@ -30,5 +30,5 @@ pub use opens::Opens;
 pub use order::{Order, Step};
 pub use pile::Pile;
 pub use stack::Stack;
-pub use tables::{Defined, Field, Held, Known, NO_CODE, Named, Open, Sig, Tables};
+pub use tables::{Defined, Field, Held, Indexed, Known, NO_CODE, Named, Open, Sig, Tables};
 pub use written::{begins_index, heap_at, value_at};
