@@ -87,7 +87,7 @@ took_group t text i count k code place j g v before after put =
       whole = whole ∙ ap (λ (r : List ℕ). counted ++ r) next ∙ sym (append_assoc counted typed (drop j text));
       code = code;
       put = put;
-      means = λ ids bits m may. v.means ids bits m may.knows may.allows may.references;
+      means = λ ids bits m may. v.means ids bits m may.knows may.allows may.references may.vectors;
       inside = v.read.inside;
     }
 
@@ -186,6 +186,7 @@ same_tells t u ids bits m same may = record {
   knows = subst (λ (k : Known). Knows ids m k) (sym same.known) may.knows;
   allows = may.allows;
   references = λ on. may.references (sym same.references ∙ on);
+  vectors = λ on. may.vectors (sym same.vectors ∙ on);
 }
 
 -- what stands by tables of the same module
@@ -215,7 +216,7 @@ same_all t u text before after j same h = record {
 }
 
 pub same_then : (t u v : Tables) → AreOfSame t u → AreOfSame u v → AreOfSame t v
-same_then t u v h k = record { known = k.known ∙ h.known; features = k.features ∙ h.features; references = k.references ∙ h.references }
+same_then t u v h k = record { known = k.known ∙ h.known; features = k.features ∙ h.features; references = k.references ∙ h.references; vectors = k.vectors ∙ h.vectors }
 
 -- ---- the whole function
 
@@ -265,6 +266,7 @@ valid_body ids z m x text t u start b may features same within lists unshared ju
       within = within;
       allows = may.allows;
       references = told.references;
+      vectors = told.vectors;
       limits = λ on. lists;
       knows = told.knows;
       locals = λ k lt. ap (λ (l : List ValueType). slice_get l k) all ∙ local_at ids u.locals.items k lt;

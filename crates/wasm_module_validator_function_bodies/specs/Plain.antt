@@ -9,7 +9,7 @@ use Rattle.wasm_module_validator_section_order.specs.rules.Valid.{Each, IsValidV
 use Rattle.wasm_operator_validator_fast_tables.specs.declared.tables.Sig.{Sig}
 use Rattle.wasm_operator_validator_fast_tables.specs.declared.tables.Tables.{Tables}
 use Rattle.wasm_operator_validator_fast_tables.specs.Values.{type_of, types}
-use Rattle.wasm_operator_validator_fast_tables.specs.Tables.{Knows, Allows, AllowsReferences, HasDefault, params_in}
+use Rattle.wasm_operator_validator_fast_tables.specs.Tables.{Knows, Allows, AllowsReferences, AllowsVectors, HasDefault, params_in}
 use Rattle.wasm_module_validator_function_bodies.specs.declared.plain.PlainJudge.{PlainJudge}
 
 -- tables stand for what they name of a module, by the types behind its ids, and these features are those that they ask
@@ -17,6 +17,7 @@ pub record MayTell (ids : List TypeTree) (bits : ℕ) (m : Module) (t : Tables) 
   pub knows : Knows ids m t.known
   pub allows : Allows bits
   pub references : t.references ≡ true → AllowsReferences bits
+  pub vectors : t.vectors ≡ true → AllowsVectors bits
 
 -- a judge, as far as it is for use, knows this module and these features
 pub record KnowsModule (m : Module) (bits : ℕ) (j : PlainJudge) : Type 0 where
@@ -32,6 +33,7 @@ pub record AreOfSame (before after : Tables) : Type 0 where
   pub known : after.known ≡ before.known
   pub features : after.features ≡ before.features
   pub references : after.references ≡ before.references
+  pub vectors : after.vectors ≡ before.vectors
 
 -- a group of locals stands from one offset to the other, and their codes were put behind the others
 pub record TakesGroup (t : Tables) (text : List ℕ) (i : ℕ) (before after : List ℕ) (j : ℕ) : Type 0 where

@@ -1,7 +1,7 @@
 //! Bodies judged in one loop over codes of operands.
 
 ghost use Rattle.std.specs.Prelude.{◌≡◌, ◌<◌, ◌≤◌, ◌++◌, ◌⊎◌, ℕ, true, IfSome, length, get_or, replicate};
-ghost use Rattle.wasm_operator_validator_fast_tables.specs.Tables.{Allows, AllowsLists, AllowsReferences, HasDefault};
+ghost use Rattle.wasm_operator_validator_fast_tables.specs.Tables.{Allows, AllowsLists, AllowsReferences, AllowsVectors, HasDefault};
 ghost use Rattle.wasm_module_validator_function_bodies.specs.Locals.{judged_by};
 ghost use Rattle.wasm_module_validator_function_bodies.specs.Functions.{SpellsValidFunction};
 ghost use Rattle.wasm_module_validator_function_bodies.specs.Plain.{AreOfSame, TakesGroup, TakesAll, Begins, IsJudgeOf};
@@ -10,7 +10,7 @@ use std::alloc::Global;
 use wasm_operator_validator_driver::WasmModuleResources;
 use wasm_operator_validator_fast_loop::Room;
 use wasm_operator_validator_fast_tables::{
-    Known, Order, Sig, Tables, has_default, known_of, part, value_at,
+    Known, NO_CODE, Order, Sig, Tables, has_default, known_of, part, value_at,
 };
 use wasm_operators_bodies::FunctionBody;
 use wasm_types::{Limits, WasmFeatures};
@@ -108,6 +108,7 @@ fn first_tables(alloc: Global, known: Known, features: WasmFeatures) -> Tables
     ensures known { result.known ≡ known }
     ensures features { result.features ≡ features }
     ensures references { result.references ≡ true → AllowsReferences features.0 }
+    ensures vectors { result.vectors ≡ true → AllowsVectors features.0 }
 {
     Tables {
         known,
@@ -121,6 +122,7 @@ fn first_tables(alloc: Global, known: Known, features: WasmFeatures) -> Tables
         },
         features,
         references: allows_references(features),
+        vectors: allows_vectors(features),
     }
 }
 
@@ -139,9 +141,10 @@ fn nothing_known(alloc: Global) -> Known {
         tags: Vec::new(alloc),
         tables: Vec::new(alloc),
         elements: Vec::new(alloc),
+        memories: Vec::new(alloc),
         data: 0,
-        memory: false,
-        table: false,
+        memory: NO_CODE,
+        table: NO_CODE,
     }
 }
 
@@ -166,6 +169,13 @@ fn allows_references(features: WasmFeatures) -> bool
         && features.gc_types()
         && features.exceptions()
         && !features.custom_descriptors()
+}
+
+// Whether these have vectors, and operators on them are judged.
+fn allows_vectors(features: WasmFeatures) -> bool
+    ensures { result ≡ true → AllowsVectors features.0 }
+{
+    features.simd() && features.vector_operators()
 }
 
 // Whether operators may carry the lists that the loop takes.

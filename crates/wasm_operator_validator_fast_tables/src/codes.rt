@@ -1,4 +1,4 @@
-//! Types as codes: 0 to 3 for numbers, and from 8 on two for each heap type, the first of references that may be null.
+//! Types as codes: 0 to 3 for numbers, 4 for vectors, and from 8 on two for each heap type, the first of references that may be null.
 
 ghost use Rattle.std.specs.Prelude.{◌≡◌, ◌<◌, ◌==◌, true, IfSome};
 ghost use Rattle.wasm_types.specs.values.Trees.{abstract_of as tree_of};
@@ -8,6 +8,9 @@ ghost use Rattle.wasm_operator_validator_fast_tables.specs.Tables.{no_code, HasD
 
 use crate::tables::NO_CODE;
 use wasm_types::{AbstractHeapType, HeapType, RefType, UnpackedIndex, ValType};
+
+/// Vectors of 128 bits.
+pub const VECTOR: u32 = 4;
 
 /// Where the codes of defined types begin.
 pub const DEFINED: u32 = 40;
@@ -94,7 +97,7 @@ pub fn code_of(ty: &ValType) -> u32
         ValType::I64 => 1,
         ValType::F32 => 2,
         ValType::F64 => 3,
-        ValType::V128 => NO_CODE,
+        ValType::V128 => VECTOR,
         ValType::Ref(ty) => code_of_reference(*ty),
     }
 }
