@@ -45,14 +45,6 @@ pub fn unreached(
     Some(at)
 }
 
-// How many operands of a frame that gives so many are kept, if there are so many.
-#[inline(always)]
-fn most_kept(count: usize) -> usize
-    ensures { result ≤ count }
-{
-    if count > MANY { count - LAST } else { 0 }
-}
-
 // The innermost frame has as many operands as it gives, and nothing else is asked of them. If it gives many, those that are there stay, except
 // the last ones, and only the others are put on: mostly the loop put them all on before. If some of those that stay are of other types, what
 // takes them is not taken by the loop.
@@ -60,7 +52,11 @@ fn most_kept(count: usize) -> usize
 fn give_all(stack: &mut Stack, results: &[u32]) -> bool
     ensures { result ≡ true → (rs : List ℕ) × (stack.new ≡ with_all rs ([], stack.old.1)) }
 {
-    let kept = stack.keep(most_kept(results.len()));
+    if results.len() <= MANY {
+        stack.cut();
+        return stack.put_all(results);
+    }
+    let kept = stack.keep(results.len() - LAST);
     stack.put_all(&results[kept..])
 }
 
