@@ -1,5 +1,5 @@
 -- The beginning of a body that is judged in one loop: its locals as codes (WebAssembly 3.0, binary format, modules, code section).
-use Rattle.std.specs.Prelude.{◌≡◌, ◌≤◌, ℕ, List, [], ◌∷◌, ◌++◌, All, length, drop, replicate, slice_get, Some, true}
+use Rattle.std.specs.Prelude.{◌≡◌, ◌<◌, ◌≤◌, ◌⊎◌, ℕ, List, [], ◌∷◌, ◌++◌, length, drop, get_or, replicate, slice_get, Some, true}
 use Rattle.wasm_types.specs.decoding.Leb.{IsListed}
 use Rattle.wasm_types.specs.settings.Settings.{Settings}
 use Rattle.wasm_types.specs.trees.Trees.{TypeTree}
@@ -43,7 +43,6 @@ pub record TakesGroup (t : Tables) (text : List ℕ) (i : ℕ) (before after : L
   pub whole : drop i text ≡ front ++ drop j text
   pub code : ℕ
   pub put : after ≡ before ++ replicate group.count code
-  pub defaulted : HasDefault code
   pub means : (ids : List TypeTree) (bits : ℕ) (m : Module) → MayTell ids bits m t → IsType bits m group.type (type_of ids code)
   pub inside : j ≤ length text
 
@@ -61,7 +60,6 @@ pub record TakesAll (t : Tables) (text before after : List ℕ) (j : ℕ) : Type
   pub codes : List ℕ
   pub put : after ≡ before ++ codes
   pub many : length codes ≡ total groups
-  pub defaulted : All HasDefault codes
   pub means : (ids : List TypeTree) (z : Settings) (m : Module) → MayTell ids z.features m t → AreLocals ids z m groups codes
   pub inside : j ≤ length text
 
@@ -72,4 +70,5 @@ pub record Begins (before after : Tables) (x : ℕ) (text : List ℕ) (most star
   pub usable : sig.param_count ≤ length before.known.flat.items
   pub results : after.results ≡ sig
   pub locals : TakesAll before text (params_in before.known.flat.items sig) after.locals.items start
+  pub certain : (x : ℕ) → x < length after.locals.items → x < after.certain → (x < length (params_in before.known.flat.items sig)) ⊎ HasDefault (get_or after.locals.items x 0)
   pub within : length after.locals.items ≤ most

@@ -1,13 +1,11 @@
 -- What operators on vectors take and give, by the rules, and what follows for the loop.
-use Rattle.std.proofs.Common.{◌≡◌, ◌≤◌, ◌<◌, ◌^◌, ◌∙◌, ◌+◌, ◌⊎◌, inl, inr, ℕ, Bool, true, false, None, Option, Some, List, [], ◌∷◌, ◌++◌, refl, sym, ap, subst, arith, lt-ltb, le-ltb, length, take, drop, get_or, reverse, slice_get}
+use Rattle.std.proofs.Common.{◌≡◌, ◌≤◌, ◌<◌, ◌∙◌, ◌+◌, ◌%◌, ◌⊎◌, inl, inr, ℕ, Bool, true, false, None, Option, Some, List, [], ◌∷◌, ◌++◌, refl, sym, ap, subst, arith, lt-ltb, le-ltb, length, take, drop, get_or, reverse, slice_get}
 use Rattle.std.proofs.lemmas.Bool.{cases_lt}
 use Rattle.wasm_types.specs.settings.Features as feature
 use Rattle.wasm_types.specs.settings.Features.{judges_vectors}
 use Rattle.wasm_types.specs.settings.Settings.{Settings}
-use Rattle.wasm_types.specs.externs.declared.memory.MemoryType.{MemoryType}
 use Rattle.wasm_types.specs.trees.Gates.{Has}
 use Rattle.wasm_types.specs.trees.Trees.{TypeTree}
-use Rattle.wasm_types.specs.trees.Types.{number, i32, v128}
 use Rattle.wasm_operators_immediates.specs.Immediates.{Lane, Lanes, MemoryArgument, V128Constant}
 use Rattle.wasm_operators_immediates.specs.Kinds.{Plain}
 use Rattle.wasm_operators_immediates.specs.declared.memory.MemArg.{MemArg}
@@ -21,7 +19,7 @@ use Rattle.wasm_operators_enums.specs.VectorsTable.{simd_info}
 use Rattle.wasm_operators_encoding.specs.Opcodes.{prefixed}
 use Rattle.wasm_operators_encoding.specs.immediates.MemoryArguments.{argument, SpelledMemArg}
 use Rattle.wasm_operators_frequent.specs.Short.{BeginsPrefixed}
-use Rattle.wasm_operator_validator_rules.specs.Accesses.{Access, load, store, load_lane, operands_of, results_of, may_access}
+use Rattle.wasm_operator_validator_rules.specs.Accesses.{Access, operands_of, results_of}
 use Rattle.wasm_operator_validator_rules.specs.Context.{Context}
 use Rattle.wasm_operator_validator_rules.specs.InstructionTypes.{InstructionType, ◌⟶◌, accesses, where_vectors, work_type}
 use Rattle.wasm_operator_validator_rules.specs.Numbers.{numbers}
@@ -31,12 +29,12 @@ use Rattle.wasm_operator_validator_rules.specs.Vectors.{VectorClass as Work, Vec
 use Rattle.wasm_operator_validator_fast_tables.specs.declared.tables.Open.{Open}
 use Rattle.wasm_operator_validator_fast_tables.specs.declared.tables.Tables.{Tables}
 use Rattle.wasm_operator_validator_fast_tables.specs.Stacks.{Values}
-use Rattle.wasm_operator_validator_fast_tables.specs.Values.{types}
+use Rattle.wasm_operator_validator_fast_tables.specs.Values.{type_of, types}
 use Rattle.wasm_operator_validator_fast_tables.specs.Tables.{Allows, AllowsVectors, Fits}
 use Rattle.wasm_operator_validator_fast_tables.specs.Loop.{inside_all, Leads}
 use Rattle.wasm_operator_validator_fast_steps.specs.Shapes.{IsArgumentAt}
 use Rattle.wasm_operator_validator_fast_steps.proofs.Coded.{of_feature}
-use Rattle.wasm_operator_validator_fast_steps.proofs.Rows.{took}
+use Rattle.wasm_operator_validator_fast_steps.proofs.Rows.{accessed, addressed, may_reach, took}
 use Rattle.wasm_operator_validator_fast_steps.proofs.Stepping.{Stands}
 use Rattle.wasm_operator_validator_fast_objects.specs.Vectors.{proposal_of, MayRelax, IsLanesAt, IsLaneAt, IsReachAt, IsLaneReachAt, IsVectorAt, IsLaneThere, AreLanesThere}
 use Rattle.wasm_operator_validator_fast_objects.proofs.VectorSpelling.{stands_bare, stands_with, stands_with_two, argument_spelled, lane_spelled, lane_behind, lanes_spelled, vector_spelled, parted}
@@ -58,10 +56,6 @@ enabled bits code p a v relaxed is = either (cases_lt code 0x100)
 switched : (g : Context) (t : Option InstructionType) → judges_vectors g.bits ≡ true → where_vectors g t ≡ t
 switched g t on = rw on refl
 
-accessed : (g : Context) (k : Access) (x : MemArg) (m : MemoryType) → slice_get g.«module».memories x.memory ≡ Some m → may_access false m x ≡ true → m.memory64 ≡ false
-    → accesses g false (Some (record { access = k; argument = x })) ≡ Some ((number i32 ∷ numbers (operands_of k)) ⟶ numbers (results_of k))
-accessed g k x m there may narrow = rw (there, may, narrow) refl
-
 -- ---- the operators
 
 module _ (t : Tables) (text : List ℕ) (i e : ℕ) (o : Open) (outer : List Open) (v w : Values) where
@@ -81,15 +75,14 @@ module _ (t : Tables) (text : List ℕ) (i e : ℕ) (o : Open) (outer : List Ope
 
   -- one that carries something, by what it does
   module _ (code n : ℕ) (at : IsVectorAt text t i code n) (x : SimdOperator) (asks : (simd_info x).proposal ≡ proposals.Simd) (stands : Stands t.features.0 text i e (op.Simd x)) where
-    took_work : (ts us r u : List ℕ) (ks gs : List ValueType) → ((ids : List TypeTree) → types ids ts ≡ ks) → ((ids : List TypeTree) → types ids us ≡ gs)
-        → v ≡ (reverse ts ++ r, u) → w ≡ (reverse us ++ r, u)
-        → ((ids : List TypeTree) (z : Settings) (c : Context) → Fits ids z text t c → work_type (Here ids c) (work_of x) ≡ Some (ks ⟶ gs))
+    took_work : (ts us r u : List ℕ) → v ≡ (reverse ts ++ r, u) → w ≡ (reverse us ++ r, u)
+        → ((ids : List TypeTree) (z : Settings) (c : Context) → Fits ids z text t c → work_type (Here ids c) (work_of x) ≡ Some (types ids ts ⟶ types ids us))
         → Leads text t i (o ∷ outer) v e (o ∷ outer) w
-    took_work ts us r u ks gs takes gives taken put types =
+    took_work ts us r u taken put does =
         took t text i e o outer v w (op.Simd x) ts us r u stands refl (λ set full. full) taken put
         (λ ids z c fits set full. (
           of_feature c.bits (op.Simd x) proposals.Simd feature.Simd fits.allows asks (fits.vectors at.on).simd refl,
-          (ks ⟶ gs, switched (Here ids c) _ (fits.vectors at.on).judged ∙ types ids z c fits, (ap all_known (takes ids), ap all_known (gives ids))),
+          (types ids ts ⟶ types ids us, switched (Here ids c) _ (fits.vectors at.on).judged ∙ does ids z c fits, (refl, refl)),
         ))
 
   -- one that carries the index of a lane
@@ -100,8 +93,10 @@ module _ (t : Tables) (text : List ℕ) (i e : ℕ) (o : Open) (outer : List Ope
       let x = k.operator l in
       let stands = stands_with t.features.0 text i n code (op.Simd x) at.begins (k.opcode l) refl (Lane lanes l) e (l ∷ []) (k.carries l)
       (λ z same. lane_spelled text n lanes e h) (lane_behind text n lanes e h) in
-      took_work code n at x (k.asks l) stands ts us r u (numbers (vectors_taken k.work)) (numbers (vectors_given k.work)) k.taken k.given taken put
-      (λ ids z c fits. ap (λ (y : VectorWork). work_type (Here ids c) y) (k.works l))
+      took_work code n at x (k.asks l) stands ts us r u taken put
+      (λ ids z c fits.
+      ap (λ (y : VectorWork). work_type (Here ids c) y) (k.works l) ∙ ap (λ (y : List ValueType). Some (y ⟶ numbers (vectors_given k.work))) (sym (k.taken ids))
+      ∙ ap (λ (y : List ValueType). Some (types ids ts ⟶ y)) (sym (k.given ids)))
 
   pub took_const : (code n : ℕ) → IsVectorAt text t i code n → code ≡ 0x0c → n + 16 ≤ length text → e ≡ n + 16 → w ≡ (4 ∷ v.0, v.1)
       → Leads text t i (o ∷ outer) v e (o ∷ outer) w
@@ -110,7 +105,7 @@ module _ (t : Tables) (text : List ℕ) (i e : ℕ) (o : Open) (outer : List Ope
       let x = simd.V128Const (record { 0 = bytes }) in
       let stands = stands_with t.features.0 text i n code (op.Simd x) at.begins (ap (λ (k : ℕ). prefixed 0xfd k) (sym is)) refl (V128Constant (record { 0 = bytes })) e bytes refl
       (λ z same. vector_spelled text n room) (parted text n 16 e behind) in
-      took_work code n at x refl stands [] (4 ∷ []) v.0 v.1 [] (number v128 ∷ []) (λ ids. refl) (λ ids. refl) refl put (λ ids z c fits. refl)
+      took_work code n at x refl stands [] (4 ∷ []) v.0 v.1 refl put (λ ids z c fits. refl)
 
   pub took_shuffle : (code n : ℕ) → IsVectorAt text t i code n → code ≡ 0x0d → AreLanesThere text n e → (r u : List ℕ) → v ≡ (4 ∷ 4 ∷ r, u) → w ≡ (4 ∷ r, u)
       → Leads text t i (o ∷ outer) v e (o ∷ outer) w
@@ -119,45 +114,48 @@ module _ (t : Tables) (text : List ℕ) (i e : ℕ) (o : Open) (outer : List Ope
       let x = simd.I8x16Shuffle ls in
       let stands = stands_with t.features.0 text i n code (op.Simd x) at.begins (ap (λ (k : ℕ). prefixed 0xfd k) (sym is)) refl (Lanes ls) e ls refl
       (λ z same. lanes_spelled text n e h) (parted text n 16 e h.behind) in
-      took_work code n at x refl stands (4 ∷ 4 ∷ []) (4 ∷ []) r u (number v128 ∷ number v128 ∷ []) (number v128 ∷ []) (λ ids. refl) (λ ids. refl) taken put (λ ids z c fits. refl)
+      took_work code n at x refl stands (4 ∷ 4 ∷ []) (4 ∷ []) r u taken put (λ ids z c fits. refl)
 
   -- ---- accesses
 
-  -- what an access to memory 0 takes and gives
-  reached : (k : Access) (natural align offset : ℕ) → t.known.memory ≡ true → align ≤ natural → offset < 0x1_0000_0000
+  -- what an access takes, above the address, and gives
+  reached : (k : Access) (n natural address m : ℕ) (a : IsArgumentAt t text n natural address m) (above us : List ℕ)
+      → ((ids : List TypeTree) → types ids above ≡ numbers (operands_of k)) → ((ids : List TypeTree) → types ids us ≡ numbers (results_of k))
       → (ids : List TypeTree) (z : Settings) (c : Context) → Fits ids z text t c
-      → accesses (Here ids c) false (Some (record { access = k; argument = argument align natural 0 None offset }))
-      ≡ Some ((number i32 ∷ numbers (operands_of k)) ⟶ numbers (results_of k))
-  reached k natural align offset has aligned few ids z c fits =
-      let x = argument align natural 0 None offset in
-      let (m, there, narrow) = fits.knows.memory has in
-      let may : may_access false m x ≡ true = rw (lt-ltb align (natural + 1) (omega (arith, aligned)), narrow, lt-ltb offset (2 ^ 32) (omega (arith, few))) refl in
-      accessed (Here ids c) k x m there may narrow
+      → accesses (Here ids c) false (Some (record { access = k; argument = argument (get_or text n 0 % 16) natural a.memory None a.offset }))
+      ≡ Some (types ids (address ∷ above) ⟶ types ids us)
+  reached k n natural address m a above us takes gives ids z c fits =
+      let x = argument (get_or text n 0 % 16) natural a.memory None a.offset in
+      let (memory, there, wide) = a.there ids c.«module» fits.knows in
+      let may = may_reach false memory x (lt-ltb (get_or text n 0 % 16) (natural + 1) (omega (arith, a.aligned))) a.reached refl in
+      accessed (Here ids c) false x memory k there may
+      ∙ ap (λ (y : ValueType). Some ((y ∷ numbers (operands_of k)) ⟶ numbers (results_of k))) (sym (addressed ids address memory.memory64 wide))
+      ∙ ap (λ (y : List ValueType). Some ((type_of ids address ∷ y) ⟶ numbers (results_of k))) (sym (takes ids))
+      ∙ ap (λ (y : List ValueType). Some (types ids (address ∷ above) ⟶ y)) (sym (gives ids))
 
-  pub took_reach : (k : Access) (code n natural : ℕ) → IsVectorAt text t i code n → IsReachAt k code natural → IsArgumentAt t.features.0 text n natural e
-      → t.known.memory ≡ true → (ts us r u : List ℕ) → ((ids : List TypeTree) → types ids ts ≡ number i32 ∷ numbers (operands_of k))
-      → ((ids : List TypeTree) → types ids us ≡ numbers (results_of k)) → v ≡ (reverse ts ++ r, u) → w ≡ (reverse us ++ r, u)
-      → Leads text t i (o ∷ outer) v e (o ∷ outer) w
-  took_reach k code n natural at q a has ts us r u takes gives taken put =
-      let y = argument a.align natural 0 None a.offset in
+  pub took_reach : (k : Access) (code n natural address : ℕ) → IsVectorAt text t i code n → IsReachAt k code natural → IsArgumentAt t text n natural address e
+      → (above us r u : List ℕ) → ((ids : List TypeTree) → types ids above ≡ numbers (operands_of k)) → ((ids : List TypeTree) → types ids us ≡ numbers (results_of k))
+      → v ≡ (reverse (address ∷ above) ++ r, u) → w ≡ (reverse us ++ r, u) → Leads text t i (o ∷ outer) v e (o ∷ outer) w
+  took_reach k code n natural address at q a above us r u takes gives taken put =
+      let y = argument (get_or text n 0 % 16) natural a.memory None a.offset in
       let x = q.operator y in
-      let (front, spelled, behind) = argument_spelled t.features.0 text n natural e a in
+      let (front, spelled, behind) = argument_spelled t text n natural address e a in
       let stands = stands_with t.features.0 text i n code (op.Simd x) at.begins (q.opcode y) refl (MemoryArgument Plain natural y) e front (q.carries y)
       (λ z same. subst (λ (f : ℕ). SpelledMemArg f Plain natural y front) (sym same) spelled) behind in
-      took_work code n at x (q.asks y) stands ts us r u (number i32 ∷ numbers (operands_of k)) (numbers (results_of k)) takes gives taken put
-      (λ ids z c fits. ap (λ (d : VectorWork). work_type (Here ids c) d) (q.works y) ∙ reached k natural a.align a.offset has a.aligned a.reached ids z c fits)
+      took_work code n at x (q.asks y) stands (address ∷ above) us r u taken put
+      (λ ids z c fits. ap (λ (d : VectorWork). work_type (Here ids c) d) (q.works y) ∙ reached k n natural address e a above us takes gives ids z c fits)
 
-  pub took_lane_reach : (k : Access) (code n m natural lanes : ℕ) → IsVectorAt text t i code n → IsLaneReachAt k code natural lanes
-      → IsArgumentAt t.features.0 text n natural m → IsLaneThere text m lanes e → t.known.memory ≡ true → (ts us r u : List ℕ)
-      → ((ids : List TypeTree) → types ids ts ≡ number i32 ∷ numbers (operands_of k)) → ((ids : List TypeTree) → types ids us ≡ numbers (results_of k))
-      → v ≡ (reverse ts ++ r, u) → w ≡ (reverse us ++ r, u) → Leads text t i (o ∷ outer) v e (o ∷ outer) w
-  took_lane_reach k code n m natural lanes at q a h has ts us r u takes gives taken put =
-      let y = argument a.align natural 0 None a.offset in
+  pub took_lane_reach : (k : Access) (code n m natural lanes address : ℕ) → IsVectorAt text t i code n → IsLaneReachAt k code natural lanes
+      → IsArgumentAt t text n natural address m → IsLaneThere text m lanes e → (above us r u : List ℕ)
+      → ((ids : List TypeTree) → types ids above ≡ numbers (operands_of k)) → ((ids : List TypeTree) → types ids us ≡ numbers (results_of k))
+      → v ≡ (reverse (address ∷ above) ++ r, u) → w ≡ (reverse us ++ r, u) → Leads text t i (o ∷ outer) v e (o ∷ outer) w
+  took_lane_reach k code n m natural lanes address at q a h above us r u takes gives taken put =
+      let y = argument (get_or text n 0 % 16) natural a.memory None a.offset in
       let l = get_or text m 0 in
       let x = q.operator y l in
-      let (front, spelled, behind) = argument_spelled t.features.0 text n natural m a in
+      let (front, spelled, behind) = argument_spelled t text n natural address m a in
       let stands = stands_with_two t.features.0 text i n code (op.Simd x) at.begins (q.opcode y l) refl (MemoryArgument Plain natural y) (Lane lanes l) m e front (l ∷ [])
       (q.carries y l) (λ z same. subst (λ (f : ℕ). SpelledMemArg f Plain natural y front) (sym same) spelled) (λ z. lane_spelled text m lanes e h) behind
       (lane_behind text m lanes e h) in
-      took_work code n at x (q.asks y l) stands ts us r u (number i32 ∷ numbers (operands_of k)) (numbers (results_of k)) takes gives taken put
-      (λ ids z c fits. ap (λ (d : VectorWork). work_type (Here ids c) d) (q.works y l) ∙ reached k natural a.align a.offset has a.aligned a.reached ids z c fits)
+      took_work code n at x (q.asks y l) stands (address ∷ above) us r u taken put
+      (λ ids z c fits. ap (λ (d : VectorWork). work_type (Here ids c) d) (q.works y l) ∙ reached k n natural address m a above us takes gives ids z c fits)

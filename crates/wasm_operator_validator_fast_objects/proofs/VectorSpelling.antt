@@ -1,5 +1,5 @@
 -- How operators on vectors stand in the bytes.
-use Rattle.std.proofs.Common.{◌≡◌, ◌∙◌, ◌≤◌, ◌<◌, ◌+◌, ◌-◌, ℕ, zero, suc, IsTrue, Some, List, [], ◌∷◌, ◌++◌, refl, sym, ap, subst, arith, append-nil, length, take, drop, get_or}
+use Rattle.std.proofs.Common.{◌≡◌, ◌∙◌, ◌≤◌, ◌<◌, ◌+◌, ◌%◌, ℕ, zero, suc, IsTrue, None, List, [], ◌∷◌, ◌++◌, refl, sym, ap, subst, arith, append-nil, length, take, drop, get_or}
 use Rattle.std.proofs.lemmas.List.{append_assoc, drop_more, drop-drop, length-drop, length-take, take-append-drop}
 use Rattle.wasm_types.specs.decoding.Decoder.{Many}
 use Rattle.wasm_types.specs.settings.Settings.{Settings}
@@ -19,6 +19,7 @@ use Rattle.wasm_operators_frequent.specs.Short.{BeginsPrefixed}
 use Rattle.wasm_operator_validator_fast_steps.specs.Shapes.{IsArgumentAt}
 use Rattle.wasm_operator_validator_fast_steps.proofs.Spelled.{unsigned_at}
 use Rattle.wasm_operator_validator_fast_steps.proofs.Stepping.{Stands}
+use Rattle.wasm_operator_validator_fast_tables.specs.declared.tables.Tables.{Tables}
 use Rattle.wasm_operator_validator_fast_tables.proofs.Writing.{spelled_at}
 use Rattle.wasm_operator_validator_fast_objects.specs.Vectors.{IsLaneThere, AreLanesThere}
 
@@ -57,12 +58,13 @@ module _ (features : ℕ) (text : List ℕ) (i n code : ℕ) (p : Op) (begins : 
 
 -- ---- what they carry
 
--- the argument of an access to memory 0
-pub argument_spelled : (features : ℕ) (text : List ℕ) (n natural e : ℕ) (a : IsArgumentAt features text n natural e)
-    → (front : List ℕ) × SpelledMemArg features Plain natural (argument a.align natural 0 None a.offset) front × (drop n text ≡ front ++ drop e text)
-argument_spelled features text n natural e a =
-    spelled_at (memory_argument features Plain natural) (SpelledMemArg features Plain natural) (decides-memory_argument features Plain natural) text n e
-    (argument a.align natural 0 None a.offset) a.read
+-- the argument of an access
+pub argument_spelled : (t : Tables) (text : List ℕ) (n natural address e : ℕ) (a : IsArgumentAt t text n natural address e)
+    → (front : List ℕ) × SpelledMemArg t.features.0 Plain natural (argument (get_or text n 0 % 16) natural a.memory None a.offset) front
+    × (drop n text ≡ front ++ drop e text)
+argument_spelled t text n natural address e a =
+    spelled_at (memory_argument t.features.0 Plain natural) (SpelledMemArg t.features.0 Plain natural) (decides-memory_argument t.features.0 Plain natural) text n e
+    (argument (get_or text n 0 % 16) natural a.memory None a.offset) (a.read Plain)
 
 -- a lane
 pub lane_spelled : (text : List ℕ) (n lanes e : ℕ) (h : IsLaneThere text n lanes e) → IsLane lanes (get_or text n 0) (get_or text n 0 ∷ [])

@@ -5,38 +5,38 @@ ghost use Rattle.wasm_operators_frequent.specs.Short.{Begins, BeginsPrefixed};
 ghost use Rattle.wasm_operator_validator_fast_tables.specs.Loop.{Leads, all};
 ghost use Rattle.wasm_operator_validator_fast_objects.specs.Tables.{IsTableAt, IsElementAt, NamesTable, NamesElement};
 
-use wasm_operator_validator_fast_steps::indices::index_at;
-use wasm_operator_validator_fast_tables::{NO_CODE, Opens, Stack, Tables};
+use wasm_operator_validator_fast_steps::indices::{index_at, shorter};
+use wasm_operator_validator_fast_tables::{Indexed, NO_CODE, Opens, Stack, Tables};
 
-// The table at an index, if it is one of 32 bits: the code of its references.
-fn table_at(tables: &Tables, index: u32) -> Option<u32>
-    ensures { IfSome result (λ code. IsTableAt tables.now index code) }
+// The table at an index, if a code stands for its references.
+fn table_at(tables: &Tables, index: u32) -> Option<Indexed>
+    ensures { IfSome result (λ s. IsTableAt tables.now index s) }
 {
     let index = index as usize;
-    let codes = tables.known.tables.as_slice();
-    if !tables.references || index >= codes.len() {
+    let held = tables.known.tables.as_slice();
+    if !tables.references || index >= held.len() {
         return None;
     }
-    let code = codes[index];
-    if code >= NO_CODE {
+    let table = held[index];
+    if table.ty >= NO_CODE {
         return None;
     }
-    Some(code)
+    Some(table)
 }
 
 // The table that the bytes name, and the offset behind it. Out of line, as for structures.
 #[inline(never)]
-fn table_named(tables: &Tables, bytes: &[u8], at: usize) -> Option<(u32, usize)>
+fn table_named(tables: &Tables, bytes: &[u8], at: usize) -> Option<(Indexed, usize)>
     requires { at ≤ length bytes.now }
     ensures { IfSome result (λ r. NamesTable bytes.now tables.now at r.0 r.1) }
 {
     let Some((index, end)) = index_at(bytes, at) else {
         return None;
     };
-    let Some(code) = table_at(tables, index) else {
+    let Some(table) = table_at(tables, index) else {
         return None;
     };
-    Some((code, end))
+    Some((table, end))
 }
 
 // The element segment at an index: the code of its references.
@@ -85,10 +85,10 @@ pub fn table_get(
     ensures forward { IfSome result (λ end. at < end) }
     ensures inside { IfSome result (λ end. end ≤ length bytes.now) }
 {
-    let Some((code, end)) = table_named(tables, bytes, at + 1) else {
+    let Some((table, end)) = table_named(tables, bytes, at + 1) else {
         return None;
     };
-    if !stack.change(0, code) {
+    if !stack.change(table.index, table.ty) {
         return None;
     }
     Some(end)
@@ -109,10 +109,10 @@ pub fn table_set(
     ensures forward { IfSome result (λ end. at < end) }
     ensures inside { IfSome result (λ end. end ≤ length bytes.now) }
 {
-    let Some((code, end)) = table_named(tables, bytes, at + 1) else {
+    let Some((table, end)) = table_named(tables, bytes, at + 1) else {
         return None;
     };
-    if !stack.take_below(&tables.known.order, code) || !stack.take(0) {
+    if !stack.take_below(&tables.known.order, table.ty) || !stack.take(table.index) {
         return None;
     }
     Some(end)
@@ -137,13 +137,13 @@ pub fn table_init(
     let Some((element, next)) = element_named(tables, bytes, middle) else {
         return None;
     };
-    let Some((code, end)) = table_named(tables, bytes, next) else {
+    let Some((table, end)) = table_named(tables, bytes, next) else {
         return None;
     };
-    if !tables.features.bulk_memory() || !tables.known.order.may_be_taken(element, code) {
+    if !tables.features.bulk_memory() || !tables.known.order.may_be_taken(element, table.ty) {
         return None;
     }
-    if !stack.take(0) || !stack.take(0) || !stack.take(0) {
+    if !stack.take(0) || !stack.take(0) || !stack.take(table.index) {
         return None;
     }
     Some(end)
@@ -196,10 +196,11 @@ pub fn table_copy(
     let Some((from, end)) = table_named(tables, bytes, next) else {
         return None;
     };
-    if !tables.features.bulk_memory() || !tables.known.order.may_be_taken(from, to) {
+    if !tables.features.bulk_memory() || !tables.known.order.may_be_taken(from.ty, to.ty) {
         return None;
     }
-    if !stack.take(0) || !stack.take(0) || !stack.take(0) {
+    let length = shorter(to.index, from.index);
+    if !stack.take(length) || !stack.take(from.index) || !stack.take(to.index) {
         return None;
     }
     Some(end)
@@ -221,10 +222,13 @@ pub fn table_grow(
     ensures forward { IfSome result (λ end. at < end) }
     ensures inside { IfSome result (λ end. end ≤ length bytes.now) }
 {
-    let Some((code, end)) = table_named(tables, bytes, middle) else {
+    let Some((table, end)) = table_named(tables, bytes, middle) else {
         return None;
     };
-    if !stack.take(0) || !stack.take_below(&tables.known.order, code) || !stack.put(0) {
+    if !stack.take(table.index)
+        || !stack.take_below(&tables.known.order, table.ty)
+        || !stack.put(table.index)
+    {
         return None;
     }
     Some(end)
@@ -246,10 +250,10 @@ pub fn table_size(
     ensures forward { IfSome result (λ end. at < end) }
     ensures inside { IfSome result (λ end. end ≤ length bytes.now) }
 {
-    let Some((_code, end)) = table_named(tables, bytes, middle) else {
+    let Some((table, end)) = table_named(tables, bytes, middle) else {
         return None;
     };
-    if !stack.put(0) {
+    if !stack.put(table.index) {
         return None;
     }
     Some(end)
@@ -271,10 +275,13 @@ pub fn table_fill(
     ensures forward { IfSome result (λ end. at < end) }
     ensures inside { IfSome result (λ end. end ≤ length bytes.now) }
 {
-    let Some((code, end)) = table_named(tables, bytes, middle) else {
+    let Some((table, end)) = table_named(tables, bytes, middle) else {
         return None;
     };
-    if !stack.take(0) || !stack.take_below(&tables.known.order, code) || !stack.take(0) {
+    if !stack.take(table.index)
+        || !stack.take_below(&tables.known.order, table.ty)
+        || !stack.take(table.index)
+    {
         return None;
     }
     Some(end)

@@ -1,4 +1,4 @@
-//! Loads and stores of vectors, of memory 0.
+//! Loads and stores of vectors.
 
 ghost use Rattle.std.specs.Prelude.{◌≡◌, ◌<◌, ◌≤◌, ◌∷◌, ℕ, List, length, [], IfSome};
 ghost use Rattle.wasm_operator_validator_fast_tables.specs.Loop.{Leads, all};
@@ -27,13 +27,13 @@ pub(crate) fn vector_load(
     ensures inside { IfSome result (λ end. end ≤ length bytes.now) }
 {
     let natural = vector_load_shape(code);
-    if natural >= NO_ALIGNMENT || !tables.known.memory {
+    if natural >= NO_ALIGNMENT {
         return None;
     }
-    let Some(end) = argument_at(bytes, middle, natural, tables.features) else {
+    let Some((end, address)) = argument_at(bytes, middle, natural, tables) else {
         return None;
     };
-    if !stack.change(0, VECTOR) {
+    if !stack.change(address, VECTOR) {
         return None;
     }
     Some(end)
@@ -57,13 +57,10 @@ pub(crate) fn vector_store(
     ensures forward { IfSome result (λ end. at < end) }
     ensures inside { IfSome result (λ end. end ≤ length bytes.now) }
 {
-    if !tables.known.memory {
-        return None;
-    }
-    let Some(end) = argument_at(bytes, middle, 4, tables.features) else {
+    let Some((end, address)) = argument_at(bytes, middle, 4, tables) else {
         return None;
     };
-    if !stack.take(VECTOR) || !stack.take(0) {
+    if !stack.take(VECTOR) || !stack.take(address) {
         return None;
     }
     Some(end)
@@ -87,16 +84,16 @@ pub(crate) fn lane_load(
     ensures inside { IfSome result (λ end. end ≤ length bytes.now) }
 {
     let (natural, lanes) = lane_load_shape(code);
-    if natural >= NO_ALIGNMENT || !tables.known.memory {
+    if natural >= NO_ALIGNMENT {
         return None;
     }
-    let Some(next) = argument_at(bytes, middle, natural, tables.features) else {
+    let Some((next, address)) = argument_at(bytes, middle, natural, tables) else {
         return None;
     };
     let Some(end) = lane_end(bytes, next, lanes) else {
         return None;
     };
-    if !stack.take(VECTOR) || !stack.change(0, VECTOR) {
+    if !stack.take(VECTOR) || !stack.change(address, VECTOR) {
         return None;
     }
     Some(end)
@@ -120,16 +117,16 @@ pub(crate) fn lane_store(
     ensures inside { IfSome result (λ end. end ≤ length bytes.now) }
 {
     let (natural, lanes) = lane_store_shape(code);
-    if natural >= NO_ALIGNMENT || !tables.known.memory {
+    if natural >= NO_ALIGNMENT {
         return None;
     }
-    let Some(next) = argument_at(bytes, middle, natural, tables.features) else {
+    let Some((next, address)) = argument_at(bytes, middle, natural, tables) else {
         return None;
     };
     let Some(end) = lane_end(bytes, next, lanes) else {
         return None;
     };
-    if !stack.take(VECTOR) || !stack.take(0) {
+    if !stack.take(VECTOR) || !stack.take(address) {
         return None;
     }
     Some(end)

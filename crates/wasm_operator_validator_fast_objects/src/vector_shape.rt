@@ -33,13 +33,13 @@ pub enum VectorClass {
     Extract,
     /// A vector with another number in one lane.
     Replace,
-    /// A load from memory 0.
+    /// A load.
     Load,
-    /// A store to memory 0.
+    /// A store.
     Store,
-    /// A load of one lane from memory 0.
+    /// A load of one lane.
     LoadLane,
-    /// A store of one lane to memory 0.
+    /// A store of one lane.
     StoreLane,
 }
 

@@ -1,17 +1,24 @@
 -- Indices, arguments of accesses and constants, at an offset in the bytes.
-use Rattle.std.proofs.Common.{◌≡◌, ◌∙◌, ℕ, ℤ, suc, pos, ◌+◌, ◌-◌, ◌*◌, ◌/◌, ◌%◌, ◌+ℤ◌, ◌-ℤ◌, ◌*ℤ◌, ◌<◌, ◌≤◌, List, Bool, true, false, length, drop, get_or, refl, sym, arith}
+use Rattle.std.proofs.Common.{◌≡◌, ◌∙◌, ℕ, ℤ, suc, pos, ◌+◌, ◌-◌, ◌*◌, ◌/◌, ◌%◌, ◌+ℤ◌, ◌-ℤ◌, ◌*ℤ◌, ◌<◌, ◌≤◌, List, Bool, true, false, None, length, drop, get_or, refl, sym, arith}
+use Rattle.std.specs.Prelude.{◌&&◌}
 use Rattle.std.proofs.lemmas.Bool.{lt-ltb, le-ltb}
 use Rattle.std.proofs.lemmas.List.{get_or-drop, length-drop}
-use Rattle.wasm_types.specs.decoding.Decoder.{State, Done, byte}
+use Rattle.wasm_types.specs.decoding.Decoder.{State, Done, Decoder, ◌>>=◌, pure, byte}
 use Rattle.wasm_types.specs.decoding.Leb.{unsigned, signed, last_bits, seven_bits, u32}
 use Rattle.wasm_types.specs.decoding.Numbers.{behind, GivesAt}
-use Rattle.wasm_types.specs.settings.Features.{has, Memory64}
+use Rattle.wasm_types.specs.settings.Features.{has, Memory64, MultiMemory}
 use Rattle.wasm_types_decoding.proofs.AtOnce.{unsigned_of_one, unsigned_of_two}
 use Rattle.wasm_types_decoding.proofs.LebGroups.{byte_here, behind_none}
 use Rattle.wasm_operators_encoding.specs.immediates.Bytes.{index_or_zero}
-use Rattle.wasm_operators_encoding.specs.immediates.MemoryArguments.{offset}
-use Rattle.wasm_operators_frequent.proofs.Carried.{access_there}
-use Rattle.wasm_operator_validator_fast_steps.specs.Shapes.{IsArgumentAt}
+use Rattle.wasm_operators_immediates.specs.Kinds.{AccessOrdering}
+use Rattle.wasm_operators_immediates.specs.declared.memory.MemArg.{MemArg}
+use Rattle.wasm_operators_encoding.specs.immediates.MemoryArguments.{may_order, flags_in, flags_from, flags, named_memory, named_ordering, offset}
+use Rattle.wasm_operators_encoding.specs.immediates.MemoryArguments.{argument, after_flags, memory_argument}
+use Rattle.wasm_operators_frequent.proofs.ShortReading.{gives_then}
+use Rattle.wasm_operator_validator_fast_tables.specs.declared.tables.Tables.{Tables}
+use Rattle.wasm_operator_validator_fast_tables.specs.Values.{address_of}
+use Rattle.wasm_operator_validator_fast_tables.specs.Tables.{no_code, Reaches}
+use Rattle.wasm_operator_validator_fast_steps.specs.Shapes.{IsArgumentAt, NamesMemory}
 
 -- ---- indices of tables
 
@@ -217,27 +224,132 @@ unfolding offset
 offset_of_two true text i two high low = unsigned_of_two text i two 7 1 high low
 offset_of_two false text i two high low = unsigned_of_two text i two 2 4 high low
 
-module _ (features : ℕ) (text : List ℕ) (i natural : ℕ) (small : get_or text i 0 < 16) (inside : i + 2 < length text) (aligned : get_or text i 0 ≤ natural) where
-  argument_of : (x e : ℕ) → GivesAt (offset (has Memory64 features)) text (i + 1) x e → x < 0x1_0000_0000 → IsArgumentAt features text i natural e
-  argument_of x e g few = record {
-    align = get_or text i 0;
-    offset = x;
-    read = access_there features natural text i (get_or text i 0) (omega (arith, inside)) refl small (has Memory64 features) x e g refl;
-    aligned = aligned;
-    reached = few;
+-- flags that name no memory
+small_flags : (order memory : Bool) (place b : ℕ) (t : State) → b < 16 → flags_from order memory place b t ≡ Done (flags_in b) t
+small_flags order memory place b t lt =
+    let d : b / 16 ≡ 0 = omega (arith, lt) in
+    let f : b / 32 ≡ 0 = omega (arith, lt) in
+    let h : b / 64 ≡ 0 = omega (arith, lt) in
+    rw (lt-ltb b 128 (omega (arith, lt)), d, f, h) refl
+
+-- flags that name one
+naming_flags : (order : Bool) (place b : ℕ) (t : State) → 64 ≤ b → b < 80 → flags_from order true place b t ≡ Done (flags_in b) t
+naming_flags order place b t ge lt =
+    let d : b / 16 ≡ 4 = omega (arith, ge, lt) in
+    let f : b / 32 ≡ 2 = omega (arith, ge, lt) in
+    let h : b / 64 ≡ 1 = omega (arith, ge, lt) in
+    rw (lt-ltb b 128 (omega (arith, lt)), d, f, h) refl
+
+module _ (text : List ℕ) (i : ℕ) (lt : i < length text) where
+  flags_by : get_or text i 0 < 128 → (order memory : Bool) → ((place : ℕ) (t : State) → flags_from order memory place (get_or text i 0) t ≡ Done (flags_in (get_or text i 0)) t)
+      → GivesAt (flags order memory) text i (flags_in (get_or text i 0)) (i + 1)
+  unfolding flags
+  flags_by low order memory h = record {
+    forward = omega arith;
+    inside = omega (arith, lt);
+    gives = λ s same. rw ((index_of_one text i lt low).gives s same) (h s.place (behind (i + 1 - i) s));
   }
 
-  pub argument_of_one : get_or text (i + 1) 0 < 128 → IsArgumentAt features text i natural (i + 2)
-  argument_of_one low =
-      let n : i + 1 + 1 ≡ i + 2 = omega arith in
-      rw n at (argument_of (get_or text (i + 1) 0) (i + 1 + 1) (offset_of_one (has Memory64 features) text (i + 1) (omega (arith, inside)) low) (omega (arith, low)))
+  module _ (features natural : ℕ) (access : AccessOrdering) where
+    after_none : get_or text i 0 < 16 → (x e : ℕ) → GivesAt (offset (has Memory64 features)) text (i + 1) x e
+        → GivesAt (after_flags features access natural (flags_in (get_or text i 0))) text (i + 1) (argument (get_or text i 0 % 16) natural 0 None x) e
+    unfolding after_flags named_memory named_ordering
+    after_none small x e g = record {
+      forward = g.forward;
+      inside = g.inside;
+      gives = λ s same.
+          let f : get_or text i 0 / 32 ≡ 0 = omega (arith, small) in
+          let h : get_or text i 0 / 64 ≡ 0 = omega (arith, small) in
+          rw (f, h, g.gives s same) refl;
+    }
 
-  pub argument_of_two : 128 ≤ get_or text (i + 1) 0 → get_or text (i + 1) 0 < 256 → get_or text (i + 2) 0 < 128 → IsArgumentAt features text i natural (i + 3)
-  argument_of_two high is_byte low =
-      let n : i + 1 + 2 ≡ i + 3 = omega arith in
-      let m : i + 1 + 1 ≡ i + 2 = omega arith in
-      let last : get_or text (i + 1 + 1) 0 < 128 = rw m low in
-      rw n at (argument_of _ (i + 1 + 2) (offset_of_two (has Memory64 features) text (i + 1) (omega (arith, inside)) high last) (omega (arith, last, is_byte)))
+    -- what follows the index of a memory
+    behind_memory : ℕ → Decoder MemArg
+    behind_memory n = named_ordering access false >>= λ ordering. offset (has Memory64 features) >>= λ x. pure (argument (get_or text i 0 % 16) natural n ordering x)
+
+    after_memory : (n k x e : ℕ) → GivesAt (offset (has Memory64 features)) text k x e → GivesAt (behind_memory n) text k (argument (get_or text i 0 % 16) natural n None x) e
+    unfolding named_ordering
+    after_memory n k x e g = record { forward = g.forward; inside = g.inside; gives = λ s same. rw (g.gives s same) refl }
+
+    after_one : 64 ≤ get_or text i 0 → get_or text i 0 < 80 → (n k x e : ℕ) → GivesAt u32 text (i + 1) n k → GivesAt (offset (has Memory64 features)) text k x e
+        → GivesAt (after_flags features access natural (flags_in (get_or text i 0))) text (i + 1) (argument (get_or text i 0 % 16) natural n None x) e
+    unfolding after_flags named_memory
+    after_one ge small n k x e g o =
+        let whole = gives_then u32 text (i + 1) n behind_memory k (argument (get_or text i 0 % 16) natural n None x) e g (after_memory n k x e o) in
+        record {
+          forward = whole.forward;
+          inside = whole.inside;
+          gives = λ s same.
+              let f : get_or text i 0 / 32 ≡ 2 = omega (arith, ge, small) in
+              let h : get_or text i 0 / 64 ≡ 1 = omega (arith, ge, small) in
+              rw (f, h) (whole.gives s same);
+        }
+
+-- it names no memory
+pub names_none : (features : ℕ) (text : List ℕ) (i : ℕ) → i < length text → get_or text i 0 < 16 → NamesMemory features text i 0 (i + 1)
+unfolding memory_argument
+names_none features text i lt small access natural x e g =
+    gives_then (flags (may_order features access) (has MultiMemory features)) text i (flags_in (get_or text i 0)) (after_flags features access natural) (i + 1)
+    (argument (get_or text i 0 % 16) natural 0 None x) e
+    (flags_by text i lt (omega (arith, small)) (may_order features access) (has MultiMemory features) (λ place t. small_flags _ _ place _ t small))
+    (after_none text i lt features natural access small x e g)
+
+-- it names one
+pub names_one : (features : ℕ) (text : List ℕ) (i n k : ℕ) → i < length text → 64 ≤ get_or text i 0 → get_or text i 0 < 80 → has MultiMemory features ≡ true
+    → GivesAt u32 text (i + 1) n k → NamesMemory features text i n k
+unfolding memory_argument
+names_one features text i n k lt ge small may g access natural x e o =
+    gives_then (flags (may_order features access) (has MultiMemory features)) text i (flags_in (get_or text i 0)) (after_flags features access natural) (i + 1)
+    (argument (get_or text i 0 % 16) natural n None x) e
+    (flags_by text i lt (omega (arith, small)) (may_order features access) (has MultiMemory features) (λ place t. rw may (naming_flags (may_order features access) place (get_or text i 0) t ge small)))
+    (after_one text i lt features natural access ge small n k x e g o)
+
+module _ (t : Tables) (text : List ℕ) (i natural : ℕ) where
+  pub argued : (memory k x e address : ℕ) → NamesMemory t.features.0 text i memory k → GivesAt (offset (has Memory64 t.features.0)) text k x e
+      → get_or text i 0 % 16 ≤ natural → x < 0x1_0000_0000 → Reaches t memory address → IsArgumentAt t text i natural address e
+  argued memory k x e address names g aligned few there = record {
+    memory = memory;
+    offset = x;
+    read = λ access. names access natural x e g;
+    aligned = aligned;
+    reached = few;
+    there = there;
+  }
+
+  -- how many bytes it has and the code of the addresses, in one number
+  pub argued_long : (e address : ℕ) → IsArgumentAt t text i natural address e → address < 2 → i ≤ e
+      → IsArgumentAt t text i natural (((e - i) * 2 + address) % 2) (i + ((e - i) * 2 + address) / 2)
+  argued_long e address h few forward =
+      let low : ((e - i) * 2 + address) % 2 ≡ address = omega (arith, few) in
+      let high : i + ((e - i) * 2 + address) / 2 ≡ e = omega (arith, few, forward) in
+      rw (low, high) h
+
+  module _ (small : get_or text i 0 < 16) (inside : i + 2 < length text) (aligned : get_or text i 0 ≤ natural) (has_memory : t.known.memory < no_code) where
+    argument_of : (x e : ℕ) → GivesAt (offset (has Memory64 t.features.0)) text (i + 1) x e → x < 0x1_0000_0000 → IsArgumentAt t text i natural t.known.memory e
+    argument_of x e g few =
+        argued 0 (i + 1) x e t.known.memory (names_none t.features.0 text i (omega (arith, inside)) small) g (omega (arith, small, aligned)) few (λ ids m knows. knows.memory has_memory)
+
+    pub argument_of_one : get_or text (i + 1) 0 < 128 → IsArgumentAt t text i natural t.known.memory (i + 2)
+    argument_of_one low =
+        let n : i + 1 + 1 ≡ i + 2 = omega arith in
+        rw n at (argument_of (get_or text (i + 1) 0) (i + 1 + 1) (offset_of_one (has Memory64 t.features.0) text (i + 1) (omega (arith, inside)) low) (omega (arith, low)))
+
+    pub argument_of_two : 128 ≤ get_or text (i + 1) 0 → get_or text (i + 1) 0 < 256 → get_or text (i + 2) 0 < 128 → IsArgumentAt t text i natural t.known.memory (i + 3)
+    argument_of_two high is_byte low =
+        let n : i + 1 + 2 ≡ i + 3 = omega arith in
+        let m : i + 1 + 1 ≡ i + 2 = omega arith in
+        let last : get_or text (i + 1 + 1) 0 < 128 = rw m low in
+        rw n at (argument_of _ (i + 1 + 2) (offset_of_two (has Memory64 t.features.0) text (i + 1) (omega (arith, inside)) high last) (omega (arith, last, is_byte)))
+
+-- ---- lengths of copies
+
+pub shorter_none : (to from : ℕ) → to ≡ 0 → (a b : Bool) → to ≡ address_of a → from ≡ address_of b → 0 ≡ address_of (a && b)
+shorter_none to from z true b e f = absurd (omega (arith, z, e))
+shorter_none to from z false b e f = refl
+
+pub shorter_other : (to from : ℕ) → 0 < to → (a b : Bool) → to ≡ address_of a → from ≡ address_of b → from ≡ address_of (a && b)
+shorter_other to from z true b e f = f
+shorter_other to from z false b e f = absurd (omega (arith, z, e))
 
 -- ---- an index and how many bytes it has, in one number
 

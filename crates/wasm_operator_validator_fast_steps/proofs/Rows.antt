@@ -2,7 +2,8 @@
 use Rattle.std.proofs.Common.{◌≤◌, ◌^◌, None, lt-ltb, Bool, ◌≡◌, ◌∙◌, ℕ, ℤ, suc, zero, ◌+◌, ◌<◌, List, [], ◌∷◌, ◌++◌, true, false, Some, refl, sym, ap, subst, arith, length, map, reverse, get_or, slice_get}
 use Rattle.std.proofs.lemmas.List.{map-append}
 use Rattle.std.proofs.lemmas.Grind.{common_steps}
-use Rattle.std.specs.Prelude.{if◌then◌else◌, ◌==◌, not, All}
+use Rattle.std.specs.Prelude.{if◌then◌else◌, ◌==◌, ◌%◌, ◌&&◌, not, All}
+use Rattle.std.proofs.Math.Bool.{or-true}
 use Rattle.wasm_types.specs.decoding.Leb.{u32, s32, s64}
 use Rattle.wasm_types.specs.decoding.Text.{word}
 use Rattle.wasm_types.specs.reader.declared.words.Ieee32.{Ieee32}
@@ -19,7 +20,7 @@ use Rattle.wasm_operators_immediates.specs.Kinds.{Plain as Plainly}
 use Rattle.wasm_operators_immediates.specs.Immediates.{Index, IndexOrZero, Label, I32Constant, I64Constant, F32Constant, F64Constant, MemoryArgument}
 use Rattle.wasm_operators_encoding.specs.immediates.Bytes.{index_or_zero}
 use Rattle.wasm_operators_encoding.specs.immediates.Immediates.{may_index}
-use Rattle.wasm_operators_encoding.specs.immediates.MemoryArguments.{argument, memory_argument}
+use Rattle.wasm_operators_encoding.specs.immediates.MemoryArguments.{argument}
 use Rattle.wasm_operators_frequent.specs.Short.{Begins, BeginsPrefixed, IsTold}
 use Rattle.wasm_operators_frequent.proofs.ShortReading.{told_with, told_with_two, told_alone, is_told, is_told_with, is_told_with_two, prefixed_of, prefixed_is, opcode_is, low_is_no_prefix}
 use Rattle.wasm_operators_frequent.proofs.Carried.{index_of, label_of, i32_of, i64_of, f32_of, f64_of, zero_of, access_of}
@@ -30,6 +31,7 @@ use Rattle.wasm_operators_enums.specs.declared.constant.ConstOperator.TheVariant
 use Rattle.wasm_operators_immediates.specs.declared.frames.FrameKind.{FrameKind}
 use Rattle.wasm_operators_immediates.specs.declared.frames.FrameKind.TheVariants as frames
 use Rattle.wasm_operators_immediates.specs.declared.memory.MemArg.{MemArg}
+use Rattle.wasm_operators_immediates.specs.declared.memory.MemArgTarget.TheVariants.{Memory as InMemory}
 use Rattle.wasm_operators_immediates.specs.declared.proposal.Proposal.TheVariants as proposals
 use Rattle.wasm_operators_enums.specs.Op as op
 use Rattle.wasm_operators_enums.specs.Op.{Op}
@@ -38,7 +40,8 @@ use Rattle.wasm_operators_enums.specs.declared.role.Role.TheVariants.{Plain}
 use Rattle.wasm_types.specs.trees.Types.{number, i32}
 use Rattle.wasm_operator_validator_rules.specs.Operands.{ValueType, Operand, known, all_known, stack, AllBelow}
 use Rattle.wasm_operator_validator_rules.specs.Context.{Context, Global, Initialised, Signature, IsFunctionType, MayUse, may_use, address_type, label_of as label_types}
-use Rattle.wasm_operator_validator_rules.specs.Accesses.{load, store, may_access}
+use Rattle.wasm_operator_validator_rules.specs.Accesses.{Access, load, store, is_aligned, may_access, operands_of, results_of}
+use Rattle.wasm_operator_validator_rules.specs.Numbers.{numbers}
 use Rattle.wasm_operator_validator_rules.specs.InstructionTypes.{◌⟶◌, accesses, memory_at, global_at, names_data, provided, shorter}
 use Rattle.wasm_operator_validator_rules.specs.Row.{Row, FitEach, IsLabel, IsNumber, after}
 use Rattle.wasm_operator_validator_rules.specs.Typed.{Steps}
@@ -46,12 +49,13 @@ use Rattle.wasm_operator_validator_state.specs.laws.Operands.{all_below_refl}
 use Rattle.wasm_operator_validator_fast_tables.specs.declared.tables.Open.{Open}
 use Rattle.wasm_operator_validator_fast_tables.specs.declared.tables.Sig.{Sig}
 use Rattle.wasm_operator_validator_fast_tables.specs.declared.tables.Held.{Held}
+use Rattle.wasm_operator_validator_fast_tables.specs.declared.tables.Indexed.{Indexed}
 use Rattle.wasm_operator_validator_fast_tables.specs.declared.tables.Tables.{Tables}
 use Rattle.wasm_operator_validator_fast_tables.specs.Stacks.{Values, with_all}
-use Rattle.wasm_operator_validator_fast_tables.specs.Values.{number_of, type_of, types, operands, AreBelow}
-use Rattle.wasm_operator_validator_fast_tables.specs.Tables.{no_code, params_in, results_in, signature_in, label_in, Fits, CallsThrough, ReturnsBy}
-use Rattle.wasm_operator_validator_fast_tables.specs.Loop.{label, Full, inside_all, Leads}
-use Rattle.wasm_operator_validator_fast_steps.specs.Shapes.{IsNumberAt, IsAccessAt}
+use Rattle.wasm_operator_validator_fast_tables.specs.Values.{number_of, type_of, types, operands, address_of, AreBelow}
+use Rattle.wasm_operator_validator_fast_tables.specs.Tables.{no_code, params_in, results_in, signature_in, label_in, Fits, Reaches, CallsThrough, ReturnsBy}
+use Rattle.wasm_operator_validator_fast_tables.specs.Loop.{label, HasValue, Full, inside_all, Leads}
+use Rattle.wasm_operator_validator_fast_steps.specs.Shapes.{IsNumberAt, IsAccessAt, IsArgumentAt}
 use Rattle.wasm_operator_validator_fast_steps.specs.Labels.{Takes, AreLabels}
 use Rattle.wasm_operator_validator_fast_steps.proofs.Coded.{first, of_feature}
 use Rattle.wasm_operator_validator_fast_steps.proofs.Spelled.{labels_stand}
@@ -98,35 +102,41 @@ some_is x y e = cc
 pub function_of : (t u : TypeTree) (b : Signature) (ts : List TypeTree) (y : ℕ) → slice_get ts y ≡ Some t → slice_get ts y ≡ Some u → IsFunctionType u b → IsFunctionType t b
 function_of t u b ts y e f h = subst (λ (x : TypeTree). IsFunctionType x b) (some_is u t (sym f ∙ e)) h
 
-loaded : (c : Context) (x : MemArg) (m : MemoryType) (ty : ℕ) → slice_get c.«module».memories x.memory ≡ Some m → may_access false m x ≡ true → m.memory64 ≡ false
-    → accesses c false (Some (record { access = load (number_of ty); argument = x })) ≡ Some ((number i32 ∷ []) ⟶ (number (number_of ty) ∷ []))
-loaded c x m ty there may narrow = rw (there, may, narrow) refl
+-- a code of addresses stands for their type
+pub addressed : (ids : List TypeTree) (code : ℕ) (wide : Bool) → code ≡ address_of wide → type_of ids code ≡ address_type wide
+addressed ids code true e = rw e refl
+addressed ids code false e = rw e refl
 
-stored : (c : Context) (x : MemArg) (m : MemoryType) (ty : ℕ) → slice_get c.«module».memories x.memory ≡ Some m → may_access false m x ≡ true → m.memory64 ≡ false
-    → accesses c false (Some (record { access = store (number_of ty); argument = x })) ≡ Some ((number i32 ∷ number (number_of ty) ∷ []) ⟶ [])
-stored c x m ty there may narrow = rw (there, may, narrow) refl
+-- an offset of 32 bits is in every memory
+pub may_reach : (is_atomic : Bool) (m : MemoryType) (x : MemArg) → is_aligned is_atomic x ≡ true → x.offset < 0x1_0000_0000 → x.target ≡ InMemory → may_access is_atomic m x ≡ true
+may_reach is_atomic m x aligned reached target = rw (aligned, lt-ltb x.offset (2 ^ 32) (omega (arith, reached)), or-true m.memory64, target) refl
 
-sized : (c : Context) (m : MemoryType) → slice_get c.«module».memories 0 ≡ Some m → m.memory64 ≡ false
-    → memory_at c 0 (λ k. Some ([] ⟶ address_type k.memory64 ∷ [])) ≡ Some ([] ⟶ number i32 ∷ [])
-sized c m there narrow = rw (there, narrow) refl
+pub accessed : (c : Context) (is_atomic : Bool) (x : MemArg) (m : MemoryType) (a : Access) → slice_get c.«module».memories x.memory ≡ Some m → may_access is_atomic m x ≡ true
+    → accesses c is_atomic (Some (record { access = a; argument = x })) ≡ Some ((address_type m.memory64 ∷ numbers (operands_of a)) ⟶ numbers (results_of a))
+accessed c is_atomic x m a there may = rw (there, may) refl
 
-grown : (c : Context) (m : MemoryType) → slice_get c.«module».memories 0 ≡ Some m → m.memory64 ≡ false
-    → memory_at c 0 (λ k. Some (address_type k.memory64 ∷ [] ⟶ address_type k.memory64 ∷ [])) ≡ Some (number i32 ∷ [] ⟶ number i32 ∷ [])
-grown c m there narrow = rw (there, narrow) refl
+sized : (c : Context) (x : ℕ) (m : MemoryType) → slice_get c.«module».memories x ≡ Some m
+    → memory_at c x (λ k. Some ([] ⟶ address_type k.memory64 ∷ [])) ≡ Some ([] ⟶ address_type m.memory64 ∷ [])
+sized c x m there = rw there refl
 
-copied : (c : Context) (m : MemoryType) → slice_get c.«module».memories 0 ≡ Some m → m.memory64 ≡ false
-    → memory_at c 0 (λ k. memory_at c 0 (λ n. Some (address_type k.memory64 ∷ address_type n.memory64 ∷ shorter k.memory64 n.memory64 ∷ [] ⟶ [])))
-    ≡ Some (number i32 ∷ number i32 ∷ number i32 ∷ [] ⟶ [])
-copied c m there narrow = rw (there, narrow) refl
+grown : (c : Context) (x : ℕ) (m : MemoryType) → slice_get c.«module».memories x ≡ Some m
+    → memory_at c x (λ k. Some (address_type k.memory64 ∷ [] ⟶ address_type k.memory64 ∷ [])) ≡ Some (address_type m.memory64 ∷ [] ⟶ address_type m.memory64 ∷ [])
+grown c x m there = rw there refl
 
-filled : (c : Context) (m : MemoryType) → slice_get c.«module».memories 0 ≡ Some m → m.memory64 ≡ false
-    → memory_at c 0 (λ k. Some (address_type k.memory64 ∷ number i32 ∷ address_type k.memory64 ∷ [] ⟶ [])) ≡ Some (number i32 ∷ number i32 ∷ number i32 ∷ [] ⟶ [])
-filled c m there narrow = rw (there, narrow) refl
+copied : (c : Context) (x y : ℕ) (m k : MemoryType) → slice_get c.«module».memories x ≡ Some m → slice_get c.«module».memories y ≡ Some k
+    → memory_at c x (λ a. memory_at c y (λ b. Some (address_type a.memory64 ∷ address_type b.memory64 ∷ shorter a.memory64 b.memory64 ∷ [] ⟶ [])))
+    ≡ Some (address_type m.memory64 ∷ address_type k.memory64 ∷ shorter m.memory64 k.memory64 ∷ [] ⟶ [])
+copied c x y m k there also = rw (there, also) refl
 
-inited : (c : Context) (m : MemoryType) (d : ℕ) → slice_get c.«module».memories 0 ≡ Some m → m.memory64 ≡ false → names_data c.«module».data_count d ≡ true
-    → memory_at c 0 (λ k. provided (names_data c.«module».data_count d) (address_type k.memory64 ∷ number i32 ∷ number i32 ∷ [] ⟶ []))
-    ≡ Some (number i32 ∷ number i32 ∷ number i32 ∷ [] ⟶ [])
-inited c m d there narrow names = rw (there, narrow, names) refl
+filled : (c : Context) (x : ℕ) (m : MemoryType) → slice_get c.«module».memories x ≡ Some m
+    → memory_at c x (λ k. Some (address_type k.memory64 ∷ number i32 ∷ address_type k.memory64 ∷ [] ⟶ []))
+    ≡ Some (address_type m.memory64 ∷ number i32 ∷ address_type m.memory64 ∷ [] ⟶ [])
+filled c x m there = rw there refl
+
+inited : (c : Context) (x : ℕ) (m : MemoryType) (d : ℕ) → slice_get c.«module».memories x ≡ Some m → names_data c.«module».data_count d ≡ true
+    → memory_at c x (λ k. provided (names_data c.«module».data_count d) (address_type k.memory64 ∷ number i32 ∷ number i32 ∷ [] ⟶ []))
+    ≡ Some (address_type m.memory64 ∷ number i32 ∷ number i32 ∷ [] ⟶ [])
+inited c x m d there names = rw (there, names) refl
 
 global_read : (c : Context) (x : ℕ) (v : Global) (t : ValueType) → slice_get c.«module».globals x ≡ Some v → may_use c v.shared ≡ true → v.content ≡ t
     → global_at c x (λ w. Some ([] ⟶ w.content ∷ [])) ≡ Some ([] ⟶ t ∷ [])
@@ -141,15 +151,15 @@ pub not_not : (b : Bool) → not b ≡ false → b ≡ true
 not_not true e = refl
 not_not false e = cc
 
-set_or : (b y : Bool) → y ≡ true → (if b then true else y) ≡ true
+pub set_or : (b y : Bool) → y ≡ true → (if b then true else y) ≡ true
 set_or true y e = refl
 set_or false y e = e
 
 -- a table whose references may be taken for references to functions
-pub goes_through : (t : Tables) (x code : ℕ) → slice_get t.known.tables.items x ≡ Some code → code < no_code → AreBelow t.known.order (code ∷ []) (8 ∷ []) → CallsThrough t x
-goes_through t x code at coded below ids m knows =
-    let (tab, there, narrow, is) = knows.tables x code at coded in
-    (tab, there, narrow, (false, subst (λ (y : ValueType). Below y (type_of ids 8)) (sym is) (below ids knows.steps).0))
+pub goes_through : (t : Tables) (x : ℕ) (s : Indexed) → slice_get t.known.tables.items x ≡ Some s → s.ty < no_code → AreBelow t.known.order (s.ty ∷ []) (8 ∷ []) → CallsThrough t x s.index
+goes_through t x s at coded below ids m knows =
+    let (tab, there, wide, is) = knows.tables x s at coded in
+    (tab, there, wide, (false, subst (λ (y : ValueType). Below y (type_of ids 8)) (sym is) (below ids knows.steps).0))
 
 -- ---- one that exchanges operands
 
@@ -158,16 +168,16 @@ module _ (t : Tables) (text : List ℕ) (i e : ℕ) (o : Open) (outer : List Ope
   Here ids c = inside_all ids c t.known.flat.items (o ∷ outer)
 
   -- whatever it does to the operands of the innermost frame
-  pub took_by : (p : Op) (a b u : List ℕ) → Stands t.features.0 text i e p → role_of p ≡ Plain → ((set : Initialised) → Full t set → Full t (after p set))
+  pub took_by : (p : Op) (a b u : List ℕ) → Stands t.features.0 text i e p → role_of p ≡ Plain → ((set : Initialised) → Full t o.set set → Full t o.set (after p set))
       → v ≡ (a, u) → w ≡ (b, u)
-      → ((ids : List TypeTree) (z : Settings) (c : Context) → Fits ids z text t c → (set : Initialised) → Full t set → Steps (Here ids c) set p (operands ids a) (operands ids b))
+      → ((ids : List TypeTree) (z : Settings) (c : Context) → Fits ids z text t c → (set : Initialised) → Full t o.set set → Steps (Here ids c) set p (operands ids a) (operands ids b))
       → Leads text t i (o ∷ outer) v e (o ∷ outer) w
   took_by p a b u stands is keeps before behind steps ids z c fits =
       step ids z text t c i e (o ∷ outer) (o ∷ outer) v w fits p stands (rw (before, behind) (plain_more ids t c o outer a b u p is keeps (steps ids z c fits)))
 
-  pub took : (p : Op) (ts us r u : List ℕ) → Stands t.features.0 text i e p → role_of p ≡ Plain → ((set : Initialised) → Full t set → Full t (after p set))
+  pub took : (p : Op) (ts us r u : List ℕ) → Stands t.features.0 text i e p → role_of p ≡ Plain → ((set : Initialised) → Full t o.set set → Full t o.set (after p set))
       → v ≡ (reverse ts ++ r, u) → w ≡ (reverse us ++ r, u)
-      → ((ids : List TypeTree) (z : Settings) (c : Context) → Fits ids z text t c → (set : Initialised) → Full t set → Row (Here ids c) set p (all_known (types ids ts)) (all_known (types ids us)))
+      → ((ids : List TypeTree) (z : Settings) (c : Context) → Fits ids z text t c → (set : Initialised) → Full t o.set set → Row (Here ids c) set p (all_known (types ids ts)) (all_known (types ids us)))
       → Leads text t i (o ∷ outer) v e (o ∷ outer) w
   took p ts us r u stands is keeps before behind row =
       took_by p (reverse ts ++ r) (reverse us ++ r) u stands is keeps before behind
@@ -183,20 +193,20 @@ module _ (t : Tables) (text : List ℕ) (i e : ℕ) (o : Open) (outer : List Ope
 
   -- ---- variables
 
-  pub took_local_get : Begins text i 0x20 → (x : ℕ) → GivesAt u32 text (i + 1) x e → x < length t.locals.items → w ≡ (get_or t.locals.items x 0 ∷ v.0, v.1)
+  pub took_local_get : Begins text i 0x20 → (x : ℕ) → GivesAt u32 text (i + 1) x e → x < length t.locals.items → HasValue t o.set x → w ≡ (get_or t.locals.items x 0 ∷ v.0, v.1)
       → Leads text t i (o ∷ outer) v e (o ∷ outer) w
-  took_local_get begins x g lt put =
+  took_local_get begins x g lt has put =
       took (op.Memory (memory.LocalGet x)) [] ((get_or t.locals.items x 0) ∷ []) v.0 v.1
       (stands (op.Memory (memory.LocalGet x)) (told_with t.features.0 text i 32 32 begins refl (op.Memory (memory.LocalGet x)) refl refl _ refl refl refl (Index kind.Locals x) e refl (λ limits. index_of _ _ _ _ kind.Locals x g)))
       refl (λ set full. full) refl put
-      (λ ids z c fits set full. (first c.bits _ fits.allows refl, (type_of ids (get_or t.locals.items x 0), record { local = fits.locals x lt; used = uses (Here ids c) _ fits.unshared }, full x lt, (refl, refl))))
+      (λ ids z c fits set full. (first c.bits _ fits.allows refl, (type_of ids (get_or t.locals.items x 0), record { local = fits.locals x lt; used = uses (Here ids c) _ fits.unshared }, full x lt has, (refl, refl))))
 
   pub took_local_set : Begins text i 0x21 → (x : ℕ) → GivesAt u32 text (i + 1) x e → x < length t.locals.items → v ≡ (get_or t.locals.items x 0 ∷ w.0, w.1)
       → Leads text t i (o ∷ outer) v e (o ∷ outer) w
   took_local_set begins x g lt taken =
       took (op.Memory (memory.LocalSet x)) ((get_or t.locals.items x 0) ∷ []) [] w.0 w.1
       (stands (op.Memory (memory.LocalSet x)) (told_with t.features.0 text i 33 33 begins refl (op.Memory (memory.LocalSet x)) refl refl _ refl refl refl (Index kind.Locals x) e refl (λ limits. index_of _ _ _ _ kind.Locals x g)))
-      refl (λ set full k lt. set_or (x == k) (set k) (full k lt)) taken refl
+      refl (λ set full k lt has. set_or (x == k) (set k) (full k lt has)) taken refl
       (λ ids z c fits set full. (first c.bits _ fits.allows refl, (type_of ids (get_or t.locals.items x 0), record { local = fits.locals x lt; used = uses (Here ids c) _ fits.unshared }, (refl, refl))))
 
   pub took_local_tee : Begins text i 0x22 → (x : ℕ) → GivesAt u32 text (i + 1) x e → x < length t.locals.items → (r : List ℕ) → v ≡ (get_or t.locals.items x 0 ∷ r, v.1) → w ≡ v
@@ -204,7 +214,7 @@ module _ (t : Tables) (text : List ℕ) (i e : ℕ) (o : Open) (outer : List Ope
   took_local_tee begins x g lt r has stays =
       took (op.Memory (memory.LocalTee x)) ((get_or t.locals.items x 0) ∷ []) ((get_or t.locals.items x 0) ∷ []) r v.1
       (stands (op.Memory (memory.LocalTee x)) (told_with t.features.0 text i 34 34 begins refl (op.Memory (memory.LocalTee x)) refl refl _ refl refl refl (Index kind.Locals x) e refl (λ limits. index_of _ _ _ _ kind.Locals x g)))
-      refl (λ set full k lt. set_or (x == k) (set k) (full k lt)) has (stays ∙ has)
+      refl (λ set full k lt has. set_or (x == k) (set k) (full k lt has)) has (stays ∙ has)
       (λ ids z c fits set full. (first c.bits _ fits.allows refl, (type_of ids (get_or t.locals.items x 0), record { local = fits.locals x lt; used = uses (Here ids c) _ fits.unshared }, (refl, refl))))
 
   pub took_global_get : Begins text i 0x23 → (x : ℕ) → GivesAt u32 text (i + 1) x e → (h : Held) → slice_get t.known.globals.items x ≡ Some h → h.ty < no_code → w ≡ (h.ty ∷ v.0, v.1)
@@ -277,95 +287,132 @@ module _ (t : Tables) (text : List ℕ) (i e : ℕ) (o : Open) (outer : List Ope
 
   -- ---- memories
 
-  pub took_load : (code natural ty : ℕ) → Begins text i code → IsAccessAt load code natural ty → t.known.memory ≡ true → (align offset : ℕ)
-      → GivesAt (memory_argument t.features.0 Plainly natural) text (i + 1) (argument align natural 0 None offset) e → align ≤ natural → offset < 0x1_0000_0000
-      → (r u : List ℕ) → v ≡ (0 ∷ r, u) → w ≡ (ty ∷ r, u) → Leads text t i (o ∷ outer) v e (o ∷ outer) w
-  took_load code natural ty begins k has align offset g aligned reached r u taken put =
-      let x = argument align natural 0 None offset in
+  pub took_load : (code natural ty address : ℕ) → Begins text i code → IsAccessAt load code natural ty → IsArgumentAt t text (i + 1) natural address e
+      → (r u : List ℕ) → v ≡ (address ∷ r, u) → w ≡ (ty ∷ r, u) → Leads text t i (o ∷ outer) v e (o ∷ outer) w
+  took_load code natural ty address begins k h r u taken put =
+      let x = argument (get_or text (i + 1) 0 % 16) natural h.memory None h.offset in
       let p = op.Memory (k.operator x) in
-      took p (0 ∷ []) (ty ∷ []) r u
+      took p (address ∷ []) (ty ∷ []) r u
       (stands p (told_with t.features.0 text i code code begins refl p (opcode_is p code (k.no_prefix x) (k.code_is x)) (low_is_no_prefix code k.low) _ refl (k.canonical x) refl
-      (MemoryArgument Plainly natural x) e (k.carries x) (λ limits. access_of _ _ _ _ natural x g)))
+      (MemoryArgument Plainly natural x) e (k.carries x) (λ limits. access_of _ _ _ _ natural x (h.read Plainly))))
       refl (λ set full. rw (k.keeps x set) full) taken put
       (λ ids z c fits set full.
-      let (m, there, narrow) = fits.knows.memory has in
-      let may : may_access false m x ≡ true = rw (lt-ltb align (natural + 1) (omega (arith, aligned)), narrow, lt-ltb offset (2 ^ 32) (omega (arith, reached))) refl in (
+      let (m, there, wide) = h.there ids c.«module» fits.knows in
+      let may = may_reach false m x (lt-ltb (get_or text (i + 1) 0 % 16) (natural + 1) (omega (arith, h.aligned))) h.reached refl in (
         first c.bits _ fits.allows (k.of x),
-        k.row x (Here ids c) set _ _ (_, k.table x (Here ids c) ∙ loaded (Here ids c) x m ty there may narrow, (refl, ap (λ (y : ValueType). all_known (y ∷ [])) (k.of_number ids))),
+        k.row x (Here ids c) set _ _ (
+          _,
+          k.table x (Here ids c) ∙ accessed (Here ids c) false x m (load (number_of ty)) there may,
+          (ap (λ (y : ValueType). all_known (y ∷ [])) (addressed ids address m.memory64 wide), ap (λ (y : ValueType). all_known (y ∷ [])) (k.of_number ids)),
+        ),
       ))
 
-  pub took_store : (code natural ty : ℕ) → Begins text i code → IsAccessAt store code natural ty → t.known.memory ≡ true → (align offset : ℕ)
-      → GivesAt (memory_argument t.features.0 Plainly natural) text (i + 1) (argument align natural 0 None offset) e → align ≤ natural → offset < 0x1_0000_0000
-      → (r u : List ℕ) → v ≡ (ty ∷ 0 ∷ r, u) → w ≡ (r, u) → Leads text t i (o ∷ outer) v e (o ∷ outer) w
-  took_store code natural ty begins k has align offset g aligned reached r u taken put =
-      let x = argument align natural 0 None offset in
+  pub took_store : (code natural ty address : ℕ) → Begins text i code → IsAccessAt store code natural ty → IsArgumentAt t text (i + 1) natural address e
+      → (r u : List ℕ) → v ≡ (ty ∷ address ∷ r, u) → w ≡ (r, u) → Leads text t i (o ∷ outer) v e (o ∷ outer) w
+  took_store code natural ty address begins k h r u taken put =
+      let x = argument (get_or text (i + 1) 0 % 16) natural h.memory None h.offset in
       let p = op.Memory (k.operator x) in
-      took p (0 ∷ ty ∷ []) [] r u
+      took p (address ∷ ty ∷ []) [] r u
       (stands p (told_with t.features.0 text i code code begins refl p (opcode_is p code (k.no_prefix x) (k.code_is x)) (low_is_no_prefix code k.low) _ refl (k.canonical x) refl
-      (MemoryArgument Plainly natural x) e (k.carries x) (λ limits. access_of _ _ _ _ natural x g)))
+      (MemoryArgument Plainly natural x) e (k.carries x) (λ limits. access_of _ _ _ _ natural x (h.read Plainly))))
       refl (λ set full. rw (k.keeps x set) full) taken put
       (λ ids z c fits set full.
-      let (m, there, narrow) = fits.knows.memory has in
-      let may : may_access false m x ≡ true = rw (lt-ltb align (natural + 1) (omega (arith, aligned)), narrow, lt-ltb offset (2 ^ 32) (omega (arith, reached))) refl in (
+      let (m, there, wide) = h.there ids c.«module» fits.knows in
+      let may = may_reach false m x (lt-ltb (get_or text (i + 1) 0 % 16) (natural + 1) (omega (arith, h.aligned))) h.reached refl in (
         first c.bits _ fits.allows (k.of x),
-        k.row x (Here ids c) set _ _ (_, k.table x (Here ids c) ∙ stored (Here ids c) x m ty there may narrow, (ap (λ (y : ValueType). all_known (number i32 ∷ y ∷ [])) (k.of_number ids), refl)),
+        k.row x (Here ids c) set _ _ (
+          _,
+          k.table x (Here ids c) ∙ accessed (Here ids c) false x m (store (number_of ty)) there may,
+          (
+            ap (λ (y : ValueType). all_known (y ∷ type_of ids ty ∷ [])) (addressed ids address m.memory64 wide)
+            ∙ ap (λ (y : ValueType). all_known (address_type m.memory64 ∷ y ∷ [])) (k.of_number ids),
+            refl,
+          ),
+        ),
       ))
 
-  pub took_memory_size : Begins text i 63 → t.known.memory ≡ true → ((allowed : Bool) → GivesAt (index_or_zero allowed) text (i + 1) 0 e) → w ≡ (0 ∷ v.0, v.1) → Leads text t i (o ∷ outer) v e (o ∷ outer) w
-  took_memory_size begins has g put =
-      took (op.Memory (memory.MemorySize 0)) [] (0 ∷ []) v.0 v.1
-      (stands (op.Memory (memory.MemorySize 0)) (told_with t.features.0 text i 63 63 begins refl (op.Memory (memory.MemorySize 0)) refl refl _ refl refl refl (IndexOrZero kind.Memories 0) e refl (λ limits. zero_of _ _ _ _ kind.Memories 0 (g _))))
+  pub took_memory_size : (x address : ℕ) → Begins text i 63 → Reaches t x address → GivesAt (index_or_zero (may_index t.features.0 kind.Memories)) text (i + 1) x e
+      → w ≡ (address ∷ v.0, v.1) → Leads text t i (o ∷ outer) v e (o ∷ outer) w
+  took_memory_size x address begins has g put =
+      let p = op.Memory (memory.MemorySize x) in
+      took p [] (address ∷ []) v.0 v.1
+      (stands p (told_with t.features.0 text i 63 63 begins refl p refl refl _ refl refl refl (IndexOrZero kind.Memories x) e refl (λ limits. zero_of _ _ _ _ kind.Memories x g)))
       refl (λ set full. full) refl put
       (λ ids z c fits set full.
-      let (m, there, narrow) = fits.knows.memory has in
-      (first c.bits _ fits.allows refl, (_, sized (Here ids c) m there narrow, (refl, refl))))
+      let (m, there, wide) = has ids c.«module» fits.knows in
+      (first c.bits _ fits.allows refl, (_, sized (Here ids c) x m there, (refl, ap (λ (y : ValueType). all_known (y ∷ [])) (addressed ids address m.memory64 wide)))))
 
-  pub took_memory_grow : Begins text i 64 → t.known.memory ≡ true → ((allowed : Bool) → GivesAt (index_or_zero allowed) text (i + 1) 0 e) → (r : List ℕ) → v ≡ (0 ∷ r, v.1) → w ≡ v → Leads text t i (o ∷ outer) v e (o ∷ outer) w
-  took_memory_grow begins has g r there_is stays =
-      took (op.Memory (memory.MemoryGrow 0)) (0 ∷ []) (0 ∷ []) r v.1
-      (stands (op.Memory (memory.MemoryGrow 0)) (told_with t.features.0 text i 64 64 begins refl (op.Memory (memory.MemoryGrow 0)) refl refl _ refl refl refl (IndexOrZero kind.Memories 0) e refl (λ limits. zero_of _ _ _ _ kind.Memories 0 (g _))))
+  pub took_memory_grow : (x address : ℕ) → Begins text i 64 → Reaches t x address → GivesAt (index_or_zero (may_index t.features.0 kind.Memories)) text (i + 1) x e
+      → (r : List ℕ) → v ≡ (address ∷ r, v.1) → w ≡ v → Leads text t i (o ∷ outer) v e (o ∷ outer) w
+  took_memory_grow x address begins has g r there_is stays =
+      let p = op.Memory (memory.MemoryGrow x) in
+      took p (address ∷ []) (address ∷ []) r v.1
+      (stands p (told_with t.features.0 text i 64 64 begins refl p refl refl _ refl refl refl (IndexOrZero kind.Memories x) e refl (λ limits. zero_of _ _ _ _ kind.Memories x g)))
       refl (λ set full. full) there_is (stays ∙ there_is)
       (λ ids z c fits set full.
-      let (m, there, narrow) = fits.knows.memory has in
-      (first c.bits _ fits.allows refl, (_, grown (Here ids c) m there narrow, (refl, refl))))
+      let (m, there, wide) = has ids c.«module» fits.knows in
+      let is = ap (λ (y : ValueType). all_known (y ∷ [])) (addressed ids address m.memory64 wide) in
+      (first c.bits _ fits.allows refl, (_, grown (Here ids c) x m there, (is, is))))
 
-  pub took_copy : (n k : ℕ) → BeginsPrefixed text i 0xfc 10 n → t.known.memory ≡ true → GivesAt u32 text n 0 k → GivesAt u32 text k 0 e → (r u : List ℕ) → v ≡ (0 ∷ 0 ∷ 0 ∷ r, u) → w ≡ (r, u)
+  pub took_copy : (n k : ℕ) → BeginsPrefixed text i 0xfc 10 n → (x y to from least : ℕ) → GivesAt u32 text n x k → GivesAt u32 text k y e → Reaches t x to → Reaches t y from
+      → ((a b : Bool) → to ≡ address_of a → from ≡ address_of b → least ≡ address_of (a && b)) → (r u : List ℕ) → v ≡ (least ∷ from ∷ to ∷ r, u) → w ≡ (r, u)
       → Leads text t i (o ∷ outer) v e (o ∷ outer) w
-  took_copy n k begins has g h r u taken put =
-      let p = op.Bulk (bulk.MemoryCopy 0 0) in
+  took_copy n k begins x y to from least g h has also lengths r u taken put =
+      let p = op.Bulk (bulk.MemoryCopy x y) in
       let at = prefixed_of text i 0xfc 10 10 n begins refl refl p refl in
-      took p (0 ∷ 0 ∷ 0 ∷ []) [] r u
-      (stands p (is_told_with_two t.features.0 text i n p at _ refl refl refl (Index kind.Memories 0) (Index kind.Memories 0) k e refl
-      (λ limits. index_of _ _ _ _ kind.Memories 0 g) (λ limits. index_of _ _ _ _ kind.Memories 0 h)))
+      took p (to ∷ from ∷ least ∷ []) [] r u
+      (stands p (is_told_with_two t.features.0 text i n p at _ refl refl refl (Index kind.Memories x) (Index kind.Memories y) k e refl
+      (λ limits. index_of _ _ _ _ kind.Memories x g) (λ limits. index_of _ _ _ _ kind.Memories y h)))
       refl (λ set full. full) taken put
       (λ ids z c fits set full.
-      let (m, there, narrow) = fits.knows.memory has in
-      (of_feature c.bits p proposals.BulkMemoryOpt BulkMemoryOpt fits.allows refl fits.allows.bulk refl, (_, copied (Here ids c) m there narrow, (refl, refl))))
+      let (a, there, wide) = has ids c.«module» fits.knows in
+      let (b, other, broad) = also ids c.«module» fits.knows in
+      let long = addressed ids least (a.memory64 && b.memory64) (lengths a.memory64 b.memory64 wide broad) in (
+        of_feature c.bits p proposals.BulkMemoryOpt BulkMemoryOpt fits.allows refl fits.allows.bulk refl,
+        (
+          _,
+          copied (Here ids c) x y a b there other,
+          (
+            ap (λ (z : ValueType). all_known (z ∷ type_of ids from ∷ type_of ids least ∷ [])) (addressed ids to a.memory64 wide)
+            ∙ ap (λ (z : ValueType). all_known (address_type a.memory64 ∷ z ∷ type_of ids least ∷ [])) (addressed ids from b.memory64 broad)
+            ∙ ap (λ (z : ValueType). all_known (address_type a.memory64 ∷ address_type b.memory64 ∷ z ∷ [])) long,
+            refl,
+          ),
+        ),
+      ))
 
-  pub took_fill : (n : ℕ) → BeginsPrefixed text i 0xfc 11 n → t.known.memory ≡ true → GivesAt u32 text n 0 e → (r u : List ℕ) → v ≡ (0 ∷ 0 ∷ 0 ∷ r, u) → w ≡ (r, u)
+  pub took_fill : (n x address : ℕ) → BeginsPrefixed text i 0xfc 11 n → Reaches t x address → GivesAt u32 text n x e → (r u : List ℕ) → v ≡ (address ∷ 0 ∷ address ∷ r, u) → w ≡ (r, u)
       → Leads text t i (o ∷ outer) v e (o ∷ outer) w
-  took_fill n begins has g r u taken put =
-      let p = op.Bulk (bulk.MemoryFill 0) in
+  took_fill n x address begins has g r u taken put =
+      let p = op.Bulk (bulk.MemoryFill x) in
       let at = prefixed_of text i 0xfc 11 11 n begins refl refl p refl in
-      took p (0 ∷ 0 ∷ 0 ∷ []) [] r u
-      (stands p (is_told_with t.features.0 text i n p at _ refl refl refl (Index kind.Memories 0) e refl (λ limits. index_of _ _ _ _ kind.Memories 0 g)))
+      took p (address ∷ 0 ∷ address ∷ []) [] r u
+      (stands p (is_told_with t.features.0 text i n p at _ refl refl refl (Index kind.Memories x) e refl (λ limits. index_of _ _ _ _ kind.Memories x g)))
       refl (λ set full. full) taken put
       (λ ids z c fits set full.
-      let (m, there, narrow) = fits.knows.memory has in
-      (of_feature c.bits p proposals.BulkMemoryOpt BulkMemoryOpt fits.allows refl fits.allows.bulk refl, (_, filled (Here ids c) m there narrow, (refl, refl))))
+      let (m, there, wide) = has ids c.«module» fits.knows in (
+        of_feature c.bits p proposals.BulkMemoryOpt BulkMemoryOpt fits.allows refl fits.allows.bulk refl,
+        (_, filled (Here ids c) x m there, (ap (λ (y : ValueType). all_known (y ∷ number i32 ∷ y ∷ [])) (addressed ids address m.memory64 wide), refl)),
+      ))
 
-  pub took_init : (n k : ℕ) → BeginsPrefixed text i 0xfc 8 n → t.known.memory ≡ true → Has t.features.0 BulkMemory → (d : ℕ) → GivesAt u32 text n d k → GivesAt u32 text k 0 e
-      → d < t.known.«data» → (r u : List ℕ) → v ≡ (0 ∷ 0 ∷ 0 ∷ r, u) → w ≡ (r, u) → Leads text t i (o ∷ outer) v e (o ∷ outer) w
-  took_init n k begins has allowed d g h lt r u taken put =
-      let p = op.Bulk (bulk.MemoryInit d 0) in
+  pub took_init : (n k x address : ℕ) → BeginsPrefixed text i 0xfc 8 n → Reaches t x address → Has t.features.0 BulkMemory → (d : ℕ) → GivesAt u32 text n d k → GivesAt u32 text k x e
+      → d < t.known.«data» → (r u : List ℕ) → v ≡ (0 ∷ 0 ∷ address ∷ r, u) → w ≡ (r, u) → Leads text t i (o ∷ outer) v e (o ∷ outer) w
+  took_init n k x address begins has allowed d g h lt r u taken put =
+      let p = op.Bulk (bulk.MemoryInit d x) in
       let at = prefixed_of text i 0xfc 8 8 n begins refl refl p refl in
-      took p (0 ∷ 0 ∷ 0 ∷ []) [] r u
-      (stands p (is_told_with_two t.features.0 text i n p at _ refl refl refl (Index kind.DataSegments d) (Index kind.Memories 0) k e refl
-      (λ limits. index_of _ _ _ _ kind.DataSegments d g) (λ limits. index_of _ _ _ _ kind.Memories 0 h)))
+      took p (address ∷ 0 ∷ 0 ∷ []) [] r u
+      (stands p (is_told_with_two t.features.0 text i n p at _ refl refl refl (Index kind.DataSegments d) (Index kind.Memories x) k e refl
+      (λ limits. index_of _ _ _ _ kind.DataSegments d g) (λ limits. index_of _ _ _ _ kind.Memories x h)))
       refl (λ set full. full) taken put
       (λ ids z c fits set full.
-      let (m, there, narrow) = fits.knows.memory has in
-      (of_feature c.bits p proposals.BulkMemory BulkMemory fits.allows refl (rw fits.bits allowed) refl, (_, inited (Here ids c) m d there narrow (fits.knows.«data» d lt), (refl, refl))))
+      let (m, there, wide) = has ids c.«module» fits.knows in (
+        of_feature c.bits p proposals.BulkMemory BulkMemory fits.allows refl (rw fits.bits allowed) refl,
+        (
+          _,
+          inited (Here ids c) x m d there (fits.knows.«data» d lt),
+          (ap (λ (y : ValueType). all_known (y ∷ number i32 ∷ number i32 ∷ [])) (addressed ids address m.memory64 wide), refl),
+        ),
+      ))
 
   pub took_data_drop : (n : ℕ) → BeginsPrefixed text i 0xfc 9 n → Has t.features.0 BulkMemory → (d : ℕ) → GivesAt u32 text n d e → d < t.known.«data» → w ≡ v
       → Leads text t i (o ∷ outer) v e (o ∷ outer) w
@@ -423,23 +470,23 @@ module _ (t : Tables) (text : List ℕ) (i e : ℕ) (o : Open) (outer : List Ope
         ),
       ))
 
-  pub took_indirect : Begins text i 0x11 → (x : ℕ) → CallsThrough t x → (y n : ℕ) → GivesAt u32 text (i + 1) y n
+  pub took_indirect : Begins text i 0x11 → (x a : ℕ) → CallsThrough t x a → (y n : ℕ) → GivesAt u32 text (i + 1) y n
       → GivesAt (index_or_zero (may_index t.features.0 kind.Tables)) text n x e
       → (s : Sig) → slice_get t.known.types.items y ≡ Some s → s.param_count ≤ length t.known.flat.items
       → (ps rs : List ℕ) → ps ≡ params_in t.known.flat.items s → rs ≡ results_in t.known.flat.items s
-      → (m k : Values) → v ≡ (0 ∷ m.0, m.1) → m ≡ with_all ps k → w ≡ with_all rs k → Leads text t i (o ∷ outer) v e (o ∷ outer) w
-  took_indirect begins x through y n g h s type usable ps rs same_ps same_rs m k index taken put =
+      → (m k : Values) → v ≡ (a ∷ m.0, m.1) → m ≡ with_all ps k → w ≡ with_all rs k → Leads text t i (o ∷ outer) v e (o ∷ outer) w
+  took_indirect begins x a through y n g h s type usable ps rs same_ps same_rs m k index taken put =
       let p = op.Control (control.CallIndirect y x) in
-      let all : reverse (ps ++ 0 ∷ []) ++ k.0 ≡ 0 ∷ (reverse ps ++ k.0) = grind (arith, common_steps) in
-      took p (ps ++ 0 ∷ []) rs k.0 k.1
+      let all : reverse (ps ++ a ∷ []) ++ k.0 ≡ a ∷ (reverse ps ++ k.0) = grind (arith, common_steps) in
+      took p (ps ++ a ∷ []) rs k.0 k.1
       (stands p (told_with_two t.features.0 text i 17 17 begins refl p refl refl _ refl refl refl (Index kind.Types y) (IndexOrZero kind.Tables x) n e refl
       (λ limits. index_of _ _ _ _ kind.Types y g) (λ limits. zero_of _ _ _ _ kind.Tables x h)))
-      refl (λ set full. full) (index ∙ ap (λ (x : Values). (0 ∷ x.0, x.1)) taken ∙ ap (λ xs. (xs, k.1)) (sym all)) put
+      refl (λ set full. full) (index ∙ ap (λ (x : Values). (a ∷ x.0, x.1)) taken ∙ ap (λ xs. (xs, k.1)) (sym all)) put
       (λ ids z c fits set full.
-      let (tab, there, narrow, functions) = through ids c.«module» fits.knows in
+      let (tab, there, wide, functions) = through ids c.«module» fits.knows in
       let (f, at, is) = fits.knows.types y s type usable in
       let b = signature_in ids t.known.flat.items s in
-      let address : number i32 ≡ address_type tab.table64 = rw narrow refl in (
+      let address = addressed ids a tab.table64 wide in (
         first c.bits _ fits.allows refl,
         (
           tab,
@@ -454,7 +501,7 @@ module _ (t : Tables) (text : List ℕ) (i e : ℕ) (o : Open) (outer : List Ope
             function = is;
           },
           (
-            ap all_known (map-append (type_of ids) ps (0 ∷ []) ∙ ap (λ xs. types ids xs ++ number i32 ∷ []) same_ps ∙ ap (λ (x : ValueType). b.params ++ x ∷ []) address),
+            ap all_known (map-append (type_of ids) ps (a ∷ []) ∙ ap (λ xs. types ids xs ++ type_of ids a ∷ []) same_ps ∙ ap (λ (x : ValueType). b.params ++ x ∷ []) address),
             ap (λ xs. all_known (types ids xs)) same_rs,
           ),
         ),
@@ -502,9 +549,9 @@ module _ (t : Tables) (text : List ℕ) (i e : ℕ) (o : Open) (outer : List Ope
   pub popped_all : (ls r : List ℕ) (ids : List TypeTree) → operands ids (reverse ls ++ r) ≡ reverse (reverse (operands ids r) ++ all_known (types ids ls)) ++ []
   popped_all ls r ids = on_stack ids ls r ∙ (let h : stack (types ids ls) ++ operands ids r ≡ reverse (reverse (operands ids r) ++ all_known (types ids ls)) ++ [] = grind (arith, common_steps) in h)
 
-  pub took_away : (p : Op) (a rs u : List ℕ) → Stands t.features.0 text i e p → role_of p ≡ Plain → ((set : Initialised) → Full t set → Full t (after p set))
+  pub took_away : (p : Op) (a rs u : List ℕ) → Stands t.features.0 text i e p → role_of p ≡ Plain → ((set : Initialised) → Full t o.set set → Full t o.set (after p set))
       → v ≡ (a, u) → w ≡ with_all rs ([], u) → (popped : List TypeTree → List Operand) → ((ids : List TypeTree) → operands ids a ≡ reverse (popped ids) ++ [])
-      → ((ids : List TypeTree) (z : Settings) (c : Context) → Fits ids z text t c → (set : Initialised) → Full t set → Row (Here ids c) set p (popped ids) (all_known (types ids rs)))
+      → ((ids : List TypeTree) (z : Settings) (c : Context) → Fits ids z text t c → (set : Initialised) → Full t o.set set → Row (Here ids c) set p (popped ids) (all_known (types ids rs)))
       → Leads text t i (o ∷ outer) v e (o ∷ outer) w
   took_away p a rs u stands is keeps before behind popped all row =
       took_by p a (reverse rs ++ []) u stands is keeps before behind
@@ -519,10 +566,10 @@ module _ (t : Tables) (text : List ℕ) (i e : ℕ) (o : Open) (outer : List Ope
       refl (λ set full. full) taken put (λ ids. reverse (operands ids m.0) ++ all_known (types ids ls)) (popped_all ls m.0)
       (λ ids z c fits set full. (first c.bits _ fits.allows refl, (types ids ls, reverse (operands ids m.0), label_there ids c d f there ls same, refl)))
 
-  pub popped_index : (ls r : List ℕ) (ids : List TypeTree) → operands ids (0 ∷ (reverse ls ++ r)) ≡ reverse (reverse (operands ids r) ++ (all_known (types ids ls) ++ known (number i32) ∷ [])) ++ []
-  popped_index ls r ids =
-      ap (λ xs. known (number i32) ∷ xs) (on_stack ids ls r)
-      ∙ (let h : known (number i32) ∷ (stack (types ids ls) ++ operands ids r) ≡ reverse (reverse (operands ids r) ++ (all_known (types ids ls) ++ known (number i32) ∷ [])) ++ [] = grind (arith, common_steps) in h)
+  pub popped_index : (a : ℕ) (ls r : List ℕ) (ids : List TypeTree) → operands ids (a ∷ (reverse ls ++ r)) ≡ reverse (reverse (operands ids r) ++ (all_known (types ids ls) ++ known (type_of ids a) ∷ [])) ++ []
+  popped_index a ls r ids =
+      ap (λ xs. known (type_of ids a) ∷ xs) (on_stack ids ls r)
+      ∙ (let h : known (type_of ids a) ∷ (stack (types ids ls) ++ operands ids r) ≡ reverse (reverse (operands ids r) ++ (all_known (types ids ls) ++ known (type_of ids a) ∷ [])) ++ [] = grind (arith, common_steps) in h)
 
   pub took_br_table : Begins text i 0x0e → (count n : ℕ) → GivesAt u32 text (i + 1) count n → count ≤ length text → (ls : List ℕ)
       → AreLabels t.known.flat.items text (o ∷ outer) n count ls e → (m k : Values) (rs : List ℕ) → v ≡ (0 ∷ m.0, m.1) → m ≡ with_all ls k → w ≡ with_all rs ([], k.1)
@@ -531,7 +578,7 @@ module _ (t : Tables) (text : List ℕ) (i e : ℕ) (o : Open) (outer : List Ope
       took_away (op.Control (control.BrTable (record { targets = h.targets; default = h.default }))) (0 ∷ (reverse ls ++ k.0)) rs k.1
       (labels_stand t.known.flat.items text (o ∷ outer) i count n e ls t.features.0 begins g few h)
       refl (λ set full. full) (index ∙ ap (λ (x : Values). (0 ∷ x.0, x.1)) taken) put
-      (λ ids. reverse (operands ids k.0) ++ (all_known (types ids ls) ++ known (number i32) ∷ [])) (popped_index ls k.0)
+      (λ ids. reverse (operands ids k.0) ++ (all_known (types ids ls) ++ known (number i32) ∷ [])) (popped_index 0 ls k.0)
       (λ ids z c fits set full. (first c.bits _ fits.allows refl, (all_known (types ids ls), reverse (operands ids k.0), fit_each ids c ls (h.default ∷ h.targets) h.take, refl)))
 
   pub took_return : Begins text i 0x0f → i + 1 ≡ e → (ls : List ℕ) → ls ≡ results_in t.known.flat.items t.results → (m : Values) (rs : List ℕ) → v ≡ with_all ls m → w ≡ with_all rs ([], m.1)
@@ -570,22 +617,22 @@ module _ (t : Tables) (text : List ℕ) (i e : ℕ) (o : Open) (outer : List Ope
         ),
       ))
 
-  pub took_return_indirect : Begins text i 0x13 → Has t.features.0 TailCall → (x : ℕ) → CallsThrough t x → (y n : ℕ) → GivesAt u32 text (i + 1) y n
+  pub took_return_indirect : Begins text i 0x13 → Has t.features.0 TailCall → (x a : ℕ) → CallsThrough t x a → (y n : ℕ) → GivesAt u32 text (i + 1) y n
       → GivesAt u32 text n x e
-      → (ps : List ℕ) → ReturnsBy t y ps → (m k : Values) (rs : List ℕ) → v ≡ (0 ∷ m.0, m.1) → m ≡ with_all ps k → w ≡ with_all rs ([], k.1)
+      → (ps : List ℕ) → ReturnsBy t y ps → (m k : Values) (rs : List ℕ) → v ≡ (a ∷ m.0, m.1) → m ≡ with_all ps k → w ≡ with_all rs ([], k.1)
       → Leads text t i (o ∷ outer) v e (o ∷ outer) w
-  took_return_indirect begins has x through y n g there_is ps h m k rs index taken put =
+  took_return_indirect begins has x a through y n g there_is ps h m k rs index taken put =
       let p = op.Control (control.ReturnCallIndirect y x) in
-      took_away p (0 ∷ (reverse ps ++ k.0)) rs k.1
+      took_away p (a ∷ (reverse ps ++ k.0)) rs k.1
       (stands p (told_with_two t.features.0 text i 19 19 begins refl p refl refl _ refl refl refl (Index kind.Types y) (Index kind.Tables x) n e refl
       (λ limits. index_of _ _ _ _ kind.Types y g) (λ limits. index_of _ _ _ _ kind.Tables x there_is)))
-      refl (λ set full. full) (index ∙ ap (λ (x : Values). (0 ∷ x.0, x.1)) taken) put
-      (λ ids. reverse (operands ids k.0) ++ (all_known (types ids ps) ++ known (number i32) ∷ [])) (popped_index ps k.0)
+      refl (λ set full. full) (index ∙ ap (λ (x : Values). (a ∷ x.0, x.1)) taken) put
+      (λ ids. reverse (operands ids k.0) ++ (all_known (types ids ps) ++ known (type_of ids a) ∷ [])) (popped_index a ps k.0)
       (λ ids z c fits set full.
-      let (tab, there, narrow, functions) = through ids c.«module» fits.knows in
+      let (tab, there, wide, functions) = through ids c.«module» fits.knows in
       let (f, at, is) = fits.knows.types y h.sig h.at h.usable in
       let b = signature_in ids t.known.flat.items h.sig in
-      let address : number i32 ≡ address_type tab.table64 = rw narrow refl in (
+      let address = addressed ids a tab.table64 wide in (
         of_feature c.bits p proposals.TailCall TailCall fits.allows refl (rw fits.bits has) refl,
         (
           tab,
@@ -601,7 +648,7 @@ module _ (t : Tables) (text : List ℕ) (i e : ℕ) (o : Open) (outer : List Ope
             function = is;
           },
           gives_the_same ids z c fits y ps h,
-          ap (λ xs. reverse (operands ids k.0) ++ xs) (ap (λ xs. all_known (types ids xs) ++ known (number i32) ∷ []) h.takes ∙ sym (map-append known b.params (number i32 ∷ []))
+          ap (λ xs. reverse (operands ids k.0) ++ xs) (ap (λ xs. all_known (types ids xs) ++ known (type_of ids a) ∷ []) h.takes ∙ sym (map-append known b.params (type_of ids a ∷ []))
               ∙ ap (λ (x : ValueType). all_known (b.params ++ x ∷ [])) address),
         ),
       ))

@@ -1,5 +1,5 @@
 -- What operators on numbers take and give, by their codes (WebAssembly 3.0, binary format, instructions).
-use Rattle.std.specs.Prelude.{◌≡◌, ◌<◌, ◌≤◌, ℕ, List, [], ◌∷◌, Option, None, Some, IsTrue, false}
+use Rattle.std.specs.Prelude.{◌≡◌, ◌<◌, ◌≤◌, ◌%◌, ℕ, get_or, List, [], ◌∷◌, Option, None, Some, IsTrue, false}
 use Rattle.wasm_operators_enums.specs.declared.numeric.NumericOperator.{NumericOperator}
 use Rattle.wasm_operators_enums.specs.numbers.Table.{numeric_info}
 use Rattle.wasm_operator_validator_rules.specs.Numbers.{class_of, taken_by, given_by, numbers}
@@ -11,17 +11,19 @@ use Rattle.wasm_operators_enums.specs.declared.memory.MemoryOperator.{MemoryOper
 use Rattle.wasm_operators_enums.specs.Op as op
 use Rattle.wasm_operators_enums.specs.Table.{info_of}
 use Rattle.wasm_operators_enums.specs.Immediates.{immediates_of, is_canonical}
-use Rattle.wasm_operators_immediates.specs.Kinds.{Plain}
+use Rattle.wasm_operators_immediates.specs.Kinds.{AccessOrdering, Plain}
 use Rattle.wasm_operators_immediates.specs.Immediates.{MemoryArgument}
 use Rattle.wasm_operator_validator_rules.specs.Accesses.{Access, load, store}
 use Rattle.wasm_operator_validator_rules.specs.Operands.{Operand}
 use Rattle.wasm_operator_validator_rules.specs.Context.{Context, Initialised}
 use Rattle.wasm_operator_validator_rules.specs.InstructionTypes.{instruction_type, accesses}
 use Rattle.wasm_operator_validator_rules.specs.Row.{TableRow, GroupRow, IsEnabled, after}
-use Rattle.wasm_operator_validator_fast_tables.specs.Tables.{Allows}
+use Rattle.wasm_operator_validator_fast_tables.specs.declared.tables.Tables.{Tables}
+use Rattle.wasm_operator_validator_fast_tables.specs.Tables.{Allows, Reaches}
 use Rattle.wasm_operator_validator_fast_tables.specs.Values.{number_of, type_of, types}
 use Rattle.wasm_types.specs.decoding.Numbers.{GivesAt}
-use Rattle.wasm_operators_encoding.specs.immediates.MemoryArguments.{argument, memory_argument}
+use Rattle.wasm_types.specs.settings.Features.{Memory64, has}
+use Rattle.wasm_operators_encoding.specs.immediates.MemoryArguments.{argument, memory_argument, offset}
 use Rattle.wasm_operator_validator_fast_steps.specs.declared.shape.Class.{Class}
 use Rattle.wasm_operator_validator_fast_steps.specs.declared.shape.Class.TheVariants as class
 
@@ -85,13 +87,21 @@ IsClass class.F64Const code = code ≡ 0x44
 IsClass class.Prefixed code = code ≡ 0xfc
 IsClass _ code = Unit {0}
 
--- the argument of an access to memory 0, of this natural alignment, stands from one offset to another
-pub record IsArgumentAt (features : ℕ) (text : List ℕ) (i natural j : ℕ) : Type 0 where
-  pub align : ℕ
+-- what an argument begins with stands from one offset to another: its flags, and the index of a memory if they name one; an offset is to follow
+abbrev pub NamesMemory : ℕ → List ℕ → ℕ → ℕ → ℕ → Type 0
+NamesMemory features text i memory j = (access : AccessOrdering) (natural x e : ℕ) → GivesAt (offset (has Memory64 features)) text j x e
+    → GivesAt (memory_argument features access natural) text i (argument (get_or text i 0 % 16) natural memory None x) e
+
+-- The argument of an access of this natural alignment to a memory whose addresses are of this code stands from one offset to another. Its first
+-- byte says how it is aligned.
+pub record IsArgumentAt (t : Tables) (text : List ℕ) (i natural address j : ℕ) : Type 0 where
+  pub memory : ℕ
   pub offset : ℕ
-  pub read : GivesAt (memory_argument features Plain natural) text i (argument align natural 0 None offset) j
-  pub aligned : align ≤ natural
+  pub read : (access : AccessOrdering) → GivesAt (memory_argument t.features.0 access natural) text i
+      (argument (get_or text i 0 % 16) natural memory None offset) j
+  pub aligned : get_or text i 0 % 16 ≤ natural
   pub reached : offset < 0x1_0000_0000
+  pub there : Reaches t memory address
 
 -- behind the prefix `fc` this code is that of a conversion between these types
 abbrev pub IsSaturating : Option (ℕ × ℕ) → ℕ → Type 0

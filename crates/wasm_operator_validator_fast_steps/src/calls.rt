@@ -8,7 +8,7 @@ ghost use Rattle.wasm_operators_encoding.specs.immediates.Immediates.{may_index}
 ghost use Rattle.wasm_operators_frequent.specs.Short.{Begins};
 ghost use Rattle.wasm_operator_validator_fast_tables.specs.Stacks.{Values, with_all};
 ghost use Rattle.wasm_operator_validator_fast_tables.specs.Values.{IsLowered};
-ghost use Rattle.wasm_operator_validator_fast_tables.specs.Tables.{CallsThrough, ReturnsBy, params_in, results_in};
+ghost use Rattle.wasm_operator_validator_fast_tables.specs.Tables.{CallsThrough, ReturnsBy, no_code, params_in, results_in};
 ghost use Rattle.wasm_operator_validator_fast_tables.specs.Loop.{Leads, all};
 
 use crate::indices::index_at;
@@ -114,27 +114,27 @@ fn table_index_at(bytes: &[u8], at: usize, features: WasmFeatures) -> Option<(u3
     Some((table, end))
 }
 
-// Whether functions may be called through the table at an index, which is one of 32 bits then. Out of line, since code mostly calls through table 0.
+// The code of the indices of the table at an index, if functions may be called through it. Out of line, since code mostly calls through table 0.
 #[inline(never)]
-fn calls_through_another(tables: &Tables, table: u32) -> bool
-    ensures { result ≡ true → CallsThrough tables.now table }
+fn calls_through_another(tables: &Tables, table: u32) -> u32
+    ensures { result < no_code → CallsThrough tables.now table result }
 {
     let index = table as usize;
-    let codes = tables.known.tables.as_slice();
-    if index >= codes.len() {
-        return false;
+    let held = tables.known.tables.as_slice();
+    if index >= held.len() {
+        return NO_CODE;
     }
-    let code = codes[index];
-    if code >= NO_CODE || !tables.known.order.may_be_taken(code, FUNC) {
-        return false;
+    let it = held[index];
+    if it.ty >= NO_CODE || !tables.known.order.may_be_taken(it.ty, FUNC) {
+        return NO_CODE;
     }
-    true
+    it.index
 }
 
 // The same of any table.
 #[inline(always)]
-fn calls_through(tables: &Tables, table: u32) -> bool
-    ensures { result ≡ true → CallsThrough tables.now table }
+fn calls_through(tables: &Tables, table: u32) -> u32
+    ensures { result < no_code → CallsThrough tables.now table result }
 {
     if table == 0 {
         return tables.known.table;
@@ -165,10 +165,11 @@ pub fn call_indirect(
     };
     let index = index as usize;
     let types = tables.known.types.as_slice();
-    if !calls_through(tables, table) || index >= types.len() {
+    let code = calls_through(tables, table);
+    if code >= NO_CODE || index >= types.len() {
         return None;
     }
-    if !stack.take(0) || !pass(tables, types[index], stack) {
+    if !stack.take(code) || !pass(tables, types[index], stack) {
         return None;
     }
     Some(end)
@@ -264,13 +265,14 @@ pub fn return_call_indirect(
     let Some((table, end)) = index_at(bytes, middle) else {
         return None;
     };
-    if !calls_through(tables, table) {
+    let code = calls_through(tables, table);
+    if code >= NO_CODE {
         return None;
     }
     let Some(params) = returned(tables, ty) else {
         return None;
     };
-    if !stack.take(0) || !stack.take_all(&tables.known.order, params) {
+    if !stack.take(code) || !stack.take_all(&tables.known.order, params) {
         return None;
     }
     let Some(next) = unreached(tables, bytes, end, stack, opens) else {

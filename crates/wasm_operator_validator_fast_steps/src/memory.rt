@@ -1,13 +1,12 @@
-//! Memory 0, and data segments.
+//! Memories, and data segments.
 
 ghost use Rattle.std.specs.Prelude.{◌≡◌, ◌<◌, ◌≤◌, ◌∷◌, ℕ, List, length, [], IfSome};
 ghost use Rattle.wasm_operators_frequent.specs.Short.{Begins, BeginsPrefixed};
 ghost use Rattle.wasm_operator_validator_fast_tables.specs.Loop.{Leads, all};
 
-use crate::indices::argument_at;
+use crate::indices::{addresses_of, argument_at, memory_index_at, shorter};
 use crate::shape::{load_shape, store_shape};
 use wasm_operator_validator_fast_tables::{NO_CODE, Opens, Stack, Tables};
-use wasm_operators_frequent::zero_at;
 use wasm_types_decoding::short_u32_at;
 
 /// A load.
@@ -27,13 +26,13 @@ pub fn load(
     ensures inside { IfSome result (λ end. end ≤ length bytes.now) }
 {
     let (natural, gives) = load_shape(code);
-    if gives >= NO_CODE || !tables.known.memory {
+    if gives >= NO_CODE {
         return None;
     }
-    let Some(end) = argument_at(bytes, at + 1, natural, tables.features) else {
+    let Some((end, address)) = argument_at(bytes, at + 1, natural, tables) else {
         return None;
     };
-    if !stack.change(0, gives) {
+    if !stack.change(address, gives) {
         return None;
     }
     Some(end)
@@ -56,19 +55,19 @@ pub fn store(
     ensures inside { IfSome result (λ end. end ≤ length bytes.now) }
 {
     let (natural, takes) = store_shape(code);
-    if takes >= NO_CODE || !tables.known.memory {
+    if takes >= NO_CODE {
         return None;
     }
-    let Some(end) = argument_at(bytes, at + 1, natural, tables.features) else {
+    let Some((end, address)) = argument_at(bytes, at + 1, natural, tables) else {
         return None;
     };
-    if !stack.take(takes) || !stack.take(0) {
+    if !stack.take(takes) || !stack.take(address) {
         return None;
     }
     Some(end)
 }
 
-/// How large it is.
+/// How large a memory is.
 #[inline(always)]
 pub fn memory_size(
     tables: &Tables,
@@ -83,19 +82,17 @@ pub fn memory_size(
     ensures forward { IfSome result (λ end. at < end) }
     ensures inside { IfSome result (λ end. end ≤ length bytes.now) }
 {
-    if !tables.known.memory {
-        return None;
-    }
-    let Some((_memory, end)) = zero_at(bytes, at + 1) else {
+    let Some((memory, end)) = memory_index_at(bytes, at + 1, tables.features) else {
         return None;
     };
-    if !stack.put(0) {
+    let address = addresses_of(tables, memory);
+    if address >= NO_CODE || !stack.put(address) {
         return None;
     }
     Some(end)
 }
 
-/// It grows.
+/// A memory grows.
 #[inline(always)]
 pub fn memory_grow(
     tables: &Tables,
@@ -110,19 +107,17 @@ pub fn memory_grow(
     ensures forward { IfSome result (λ end. at < end) }
     ensures inside { IfSome result (λ end. end ≤ length bytes.now) }
 {
-    if !tables.known.memory {
-        return None;
-    }
-    let Some((_memory, end)) = zero_at(bytes, at + 1) else {
+    let Some((memory, end)) = memory_index_at(bytes, at + 1, tables.features) else {
         return None;
     };
-    if !stack.has(0) {
+    let address = addresses_of(tables, memory);
+    if address >= NO_CODE || !stack.has(address) {
         return None;
     }
     Some(end)
 }
 
-/// A part of it is copied.
+/// A part of a memory is copied to another, or within it.
 #[inline(always)]
 pub fn memory_copy(
     middle: usize,
@@ -138,25 +133,25 @@ pub fn memory_copy(
     ensures forward { IfSome result (λ end. at < end) }
     ensures inside { IfSome result (λ end. end ≤ length bytes.now) }
 {
-    if !tables.known.memory {
-        return None;
-    }
     let Some((to, next)) = short_u32_at(bytes, middle) else {
         return None;
     };
     let Some((from, end)) = short_u32_at(bytes, next) else {
         return None;
     };
-    if to != 0 || from != 0 {
+    let target = addresses_of(tables, to);
+    let source = addresses_of(tables, from);
+    if target >= NO_CODE || source >= NO_CODE {
         return None;
     }
-    if !stack.take(0) || !stack.take(0) || !stack.take(0) {
+    let length = shorter(target, source);
+    if !stack.take(length) || !stack.take(source) || !stack.take(target) {
         return None;
     }
     Some(end)
 }
 
-/// A part of it is filled.
+/// A part of a memory is filled.
 #[inline(always)]
 pub fn memory_fill(
     middle: usize,
@@ -172,22 +167,20 @@ pub fn memory_fill(
     ensures forward { IfSome result (λ end. at < end) }
     ensures inside { IfSome result (λ end. end ≤ length bytes.now) }
 {
-    if !tables.known.memory {
-        return None;
-    }
     let Some((memory, end)) = short_u32_at(bytes, middle) else {
         return None;
     };
-    if memory != 0 {
+    let address = addresses_of(tables, memory);
+    if address >= NO_CODE {
         return None;
     }
-    if !stack.take(0) || !stack.take(0) || !stack.take(0) {
+    if !stack.take(address) || !stack.take(0) || !stack.take(address) {
         return None;
     }
     Some(end)
 }
 
-/// A part of it is written from a data segment.
+/// A part of a memory is written from a data segment.
 #[inline(always)]
 pub fn memory_init(
     middle: usize,
@@ -203,7 +196,7 @@ pub fn memory_init(
     ensures forward { IfSome result (λ end. at < end) }
     ensures inside { IfSome result (λ end. end ≤ length bytes.now) }
 {
-    if !tables.known.memory || !tables.features.bulk_memory() {
+    if !tables.features.bulk_memory() {
         return None;
     }
     let Some((segment, next)) = short_u32_at(bytes, middle) else {
@@ -212,10 +205,11 @@ pub fn memory_init(
     let Some((memory, end)) = short_u32_at(bytes, next) else {
         return None;
     };
-    if memory != 0 || segment >= tables.known.data {
+    let address = addresses_of(tables, memory);
+    if address >= NO_CODE || segment >= tables.known.data {
         return None;
     }
-    if !stack.take(0) || !stack.take(0) || !stack.take(0) {
+    if !stack.take(0) || !stack.take(0) || !stack.take(address) {
         return None;
     }
     Some(end)

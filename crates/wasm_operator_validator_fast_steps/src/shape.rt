@@ -42,9 +42,9 @@ pub enum Class {
     F64Const,
     /// An operator behind the prefix `fc`.
     Prefixed,
-    /// A load from memory 0.
+    /// A load.
     Load,
-    /// A store to memory 0.
+    /// A store.
     Store,
     /// An operator that makes a number of one.
     Change,
@@ -242,7 +242,7 @@ pub fn class_of(code: u8) -> Class
     }
 }
 
-/// How many times the natural alignment of a load from memory 0 is doubled, and the type that it gives.
+/// How many times the natural alignment of a load is doubled, and the type that it gives.
 #[inline(always)]
 pub fn load_shape(code: u8) -> (u8, u32)
     ensures access { result.1 < no_code → IsAccessAt load_of code result.0 result.1 }
@@ -267,7 +267,7 @@ pub fn load_shape(code: u8) -> (u8, u32)
     }
 }
 
-/// The same of a store to memory 0, and the type that it takes.
+/// The same of a store, and the type that it takes.
 #[inline(always)]
 pub fn store_shape(code: u8) -> (u8, u32)
     ensures access { result.1 < no_code → IsAccessAt store_of code result.0 result.1 }

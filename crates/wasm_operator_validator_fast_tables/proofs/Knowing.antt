@@ -20,8 +20,8 @@ use Rattle.wasm_operator_validator_state.specs.blocks.Signatures.{IsFunctionAt}
 use Rattle.wasm_operator_validator_fast_tables.specs.declared.tables.Sig.{Sig}
 use Rattle.wasm_operator_validator_fast_tables.specs.Stacks.{part}
 use Rattle.wasm_operator_validator_fast_tables.specs.declared.tables.Named.{Named}
-use Rattle.wasm_operator_validator_fast_tables.specs.Values.{type_of, types}
-use Rattle.wasm_operator_validator_fast_tables.specs.Tables.{params_in, results_in, signature_in, IsTypeIn, IsCalleeIn, HasTable}
+use Rattle.wasm_operator_validator_fast_tables.specs.Values.{type_of, types, address_of}
+use Rattle.wasm_operator_validator_fast_tables.specs.Tables.{params_in, results_in, signature_in, IsTypeIn, IsCalleeIn, HasTableAt}
 use Rattle.wasm_operator_validator_fast_tables.specs.Known.{IsMore, StandAlone, ArePlacedIn, IsUsableIn, IsSigIn, AreSigsIn, AreFunctionsIn, AreCalleesOf, AreReferencedIn}
 use Rattle.wasm_operator_validator_fast_tables.proofs.Standing.{reference_is}
 
@@ -227,9 +227,9 @@ callee_known ids m flat fs ss hs x s functions types callees at le =
     let (h, other, is) = types y s signed le in
     (f, there, subst (λ (t : TypeTree). IsFunctionType t (signature_in ids flat s)) (twice m.types y h f other also) is)
 
-pub table_known : (m : Meaning) (t : Table) (b : Bool) → Some t ≡ slice_get m.«module».tables 0 → t.table64 ≡ false → IsTrue b ↔ Below t.element (ref true (abstract false func)) → b ≡ true
-    → HasTable m.«module»
-table_known m t b at narrow i holds = (t, sym at, narrow, (false, i.0 holds))
+pub table_known : (m : Meaning) (t : Table) (b : Bool) (code : ℕ) → Some t ≡ slice_get m.«module».tables 0 → code ≡ address_of t.table64
+    → IsTrue b ↔ Below t.element (ref true (abstract false func)) → b ≡ true → HasTableAt m.«module» 0 code
+table_known m t b code at wide i holds = (t, sym at, wide, (false, i.0 holds))
 
 -- ---- functions that code may refer to
 

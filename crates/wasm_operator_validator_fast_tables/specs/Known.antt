@@ -13,11 +13,12 @@ use Rattle.wasm_operator_validator_rules.specs.Row.{IsOneOf}
 use Rattle.wasm_operator_validator_fast_tables.specs.declared.order.Step.{Step}
 use Rattle.wasm_operator_validator_fast_tables.specs.declared.tables.Sig.{Sig}
 use Rattle.wasm_operator_validator_fast_tables.specs.declared.tables.Held.{Held}
+use Rattle.wasm_operator_validator_fast_tables.specs.declared.tables.Indexed.{Indexed}
 use Rattle.wasm_operator_validator_fast_tables.specs.declared.tables.Field.{Field}
 use Rattle.wasm_operator_validator_fast_tables.specs.declared.tables.Named.{Named}
 use Rattle.wasm_operator_validator_fast_tables.specs.Stacks.{part}
 use Rattle.wasm_operator_validator_fast_tables.specs.Values.{abstract_of, type_of, types}
-use Rattle.wasm_operator_validator_fast_tables.specs.Tables.{no_code, params_in, signature_in, HasTypeIn, IsGlobalIn, IsTableIn, IsElementIn, IsNamedIn, ArePlaced}
+use Rattle.wasm_operator_validator_fast_tables.specs.Tables.{no_code, params_in, signature_in, HasTypeIn, IsGlobalIn, HasMemoryAt, IsTableIn, IsElementIn, IsNamedIn, ArePlaced}
 
 -- at most so many were put behind the others
 abbrev pub IsMore : List ℕ → List ℕ → ℕ → Type 0
@@ -52,8 +53,11 @@ AreReferencedIn m bs = (x : ℕ) → slice_get bs x ≡ Some true → IsOneOf x 
 abbrev pub AreGlobalsIn : List TypeTree → Module → List Held → Type 0
 AreGlobalsIn ids m hs = (x : ℕ) (h : Held) → slice_get hs x ≡ Some h → IsGlobalIn ids m x h
 
-abbrev pub AreTablesIn : List TypeTree → Module → List ℕ → Type 0
-AreTablesIn ids m cs = (x code : ℕ) → slice_get cs x ≡ Some code → IsTableIn ids m x code
+abbrev pub AreTablesIn : List TypeTree → Module → List Indexed → Type 0
+AreTablesIn ids m ts = (x : ℕ) (s : Indexed) → slice_get ts x ≡ Some s → IsTableIn ids m x s
+
+abbrev pub AreMemoriesIn : Module → List ℕ → Type 0
+AreMemoriesIn m cs = (x code : ℕ) → slice_get cs x ≡ Some code → HasMemoryAt m x code
 
 abbrev pub AreElementsIn : List TypeTree → Module → List ℕ → Type 0
 AreElementsIn ids m cs = (x code : ℕ) → slice_get cs x ≡ Some code → IsElementIn ids m x code

@@ -21,10 +21,11 @@ use Rattle.wasm_operator_validator_fast_tables.specs.declared.tables.Defined.{De
 use Rattle.wasm_operator_validator_fast_tables.specs.declared.tables.Defined.TheVariants as defined
 use Rattle.wasm_operator_validator_fast_tables.specs.declared.tables.Named.{Named}
 use Rattle.wasm_operator_validator_fast_tables.specs.declared.tables.Held.{Held}
+use Rattle.wasm_operator_validator_fast_tables.specs.declared.tables.Indexed.{Indexed}
 use Rattle.wasm_operator_validator_fast_tables.specs.declared.tables.Known.{Known}
 use Rattle.wasm_operator_validator_fast_tables.specs.declared.tables.Tables.{Tables}
 use Rattle.wasm_operator_validator_fast_tables.specs.Stacks.{part}
-use Rattle.wasm_operator_validator_fast_tables.specs.Values.{type_of, types, AreSteps}
+use Rattle.wasm_operator_validator_fast_tables.specs.Values.{type_of, types, address_of, AreSteps}
 
 -- ---- signatures
 
@@ -64,21 +65,18 @@ no_code = 0xffffffff
 abbrev pub IsGlobalIn : List TypeTree → Module → ℕ → Held → Type 0
 IsGlobalIn ids m x h = h.ty < no_code → (v : Global) × (slice_get m.globals x ≡ Some v) × (v.content ≡ type_of ids h.ty) × (v.mutable ≡ h.mutable)
 
--- memory 0 is one of 32 bits
-abbrev pub HasMemory : Module → Type 0
-HasMemory m = (t : MemoryType) × (slice_get m.memories 0 ≡ Some t) × (t.memory64 ≡ false)
+-- the memory at an index has addresses of this code
+abbrev pub HasMemoryAt : Module → ℕ → ℕ → Type 0
+HasMemoryAt m x code = (t : MemoryType) × (slice_get m.memories x ≡ Some t) × (code ≡ address_of t.memory64)
 
--- the table at an index is one of functions, and of 32 bits
-abbrev pub HasTableAt : Module → ℕ → Type 0
-HasTableAt m x = (t : Table) × (slice_get m.tables x ≡ Some t) × (t.table64 ≡ false)
+-- the table at an index is one of functions, and has indices of this code
+abbrev pub HasTableAt : Module → ℕ → ℕ → Type 0
+HasTableAt m x code = (t : Table) × (slice_get m.tables x ≡ Some t) × (code ≡ address_of t.table64)
     × ((s : Bool) × Below t.element (ref true (abstract s func)))
 
-abbrev pub HasTable : Module → Type 0
-HasTable m = HasTableAt m 0
-
--- the table at an index is one of 32 bits, and of references of this code, if that is one
-abbrev pub IsTableIn : List TypeTree → Module → ℕ → ℕ → Type 0
-IsTableIn ids m x code = code < no_code → (t : Table) × (slice_get m.tables x ≡ Some t) × (t.table64 ≡ false) × (t.element ≡ type_of ids code)
+-- the table at an index has references and indices of these codes, as far as the first is one
+abbrev pub IsTableIn : List TypeTree → Module → ℕ → Indexed → Type 0
+IsTableIn ids m x s = s.ty < no_code → (t : Table) × (slice_get m.tables x ≡ Some t) × (s.index ≡ address_of t.table64) × (t.element ≡ type_of ids s.ty)
 
 -- so are the references of the element segment at an index
 abbrev pub IsElementIn : List TypeTree → Module → ℕ → ℕ → Type 0
@@ -142,11 +140,12 @@ pub record Knows (ids : List TypeTree) (m : Module) (k : Known) : Type 0 where
   pub places : (y : ℕ) (n : Named) → slice_get k.named.items y ≡ Some n → n.code < no_code → ArePlaced k.flat.items y n
   pub steps : AreSteps ids k.order
   pub tags : (x : ℕ) (s : Sig) → slice_get k.tags.items x ≡ Some s → IsTagIn ids m k.flat.items x s
-  pub tables : (x code : ℕ) → slice_get k.tables.items x ≡ Some code → IsTableIn ids m x code
+  pub tables : (x : ℕ) (s : Indexed) → slice_get k.tables.items x ≡ Some s → IsTableIn ids m x s
   pub elements : (x code : ℕ) → slice_get k.elements.items x ≡ Some code → IsElementIn ids m x code
   pub «data» : (d : ℕ) → d < k.«data» → names_data m.data_count d ≡ true
-  pub memory : k.memory ≡ true → HasMemory m
-  pub table : k.table ≡ true → HasTable m
+  pub memories : (x code : ℕ) → slice_get k.memories.items x ≡ Some code → HasMemoryAt m x code
+  pub memory : k.memory < no_code → HasMemoryAt m 0 k.memory
+  pub table : k.table < no_code → HasTableAt m 0 k.table
 
 -- ---- bodies
 
@@ -195,15 +194,21 @@ pub record Fits (ids : List TypeTree) (z : Settings) (text : List ℕ) (t : Tabl
 abbrev pub HasDefault : ℕ → Type 0
 HasDefault code = (ids : List TypeTree) → defaultable (type_of ids code) ≡ true
 
--- so do the locals, except the first so many, which the caller gives
+-- so do the first locals, except so many, which the caller gives
 abbrev pub BeginSet : Tables → ℕ → Type 0
-BeginSet t params = (x : ℕ) → x < length t.locals.items → (x < params) ⊎ HasDefault (get_or t.locals.items x 0)
+BeginSet t params = (x : ℕ) → x < length t.locals.items → x < t.certain → (x < params) ⊎ HasDefault (get_or t.locals.items x 0)
 
 -- ---- calls through tables
 
--- functions may be called through the table at an index, in any module that the tables stand for
-abbrev pub CallsThrough : Tables → ℕ → Type 0
-CallsThrough t x = (ids : List TypeTree) (m : Module) → Knows ids m t.known → HasTableAt m x
+-- functions may be called through the table at an index by indices of this code, in any module that the tables stand for
+abbrev pub CallsThrough : Tables → ℕ → ℕ → Type 0
+CallsThrough t x code = (ids : List TypeTree) (m : Module) → Knows ids m t.known → HasTableAt m x code
+
+-- ---- memories
+
+-- the memory at an index has addresses of this code, in any module that the tables stand for
+abbrev pub Reaches : Tables → ℕ → ℕ → Type 0
+Reaches t x code = (ids : List TypeTree) (m : Module) → Knows ids m t.known → HasMemoryAt m x code
 
 -- ---- calls in the place of a return
 

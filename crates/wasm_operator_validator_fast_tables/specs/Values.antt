@@ -1,6 +1,6 @@
 -- Types as codes of 32 bits: 0 to 3 for numbers, 4 for vectors; from 8 on two for each heap type, the first of references that may be null. Abstract heap
 -- types come first, and from 40 on those behind the ids of the validator (WebAssembly 3.0, structure, value types).
-use Rattle.std.specs.Prelude.{◌≡◌, ◌-◌, ◌/◌, ◌%◌, ◌==◌, ℕ, false, List, map, nat_lt, slice_get, Some, if◌then◌else◌}
+use Rattle.std.specs.Prelude.{◌≡◌, ◌-◌, ◌/◌, ◌%◌, ◌==◌, ℕ, Bool, true, false, List, map, nat_lt, slice_get, Some, if◌then◌else◌}
 use Rattle.wasm_types.specs.trees.Types.{Number, i32, i64, f32, f64, v128, Abstract, func, extern, any, none, noextern, nofunc, eq, struct, array, i31, exn, noexn}
 use Rattle.wasm_types.specs.trees.Types.{HeapOf, abstract, concrete, number, ref}
 use Rattle.wasm_types.specs.trees.Trees.{TypeTree}
@@ -26,6 +26,11 @@ heap_of ids n = if nat_lt n 16 then abstract false (abstract_of n) else concrete
 
 abbrev pub type_of : List TypeTree → ℕ → ValueType
 type_of ids n = if nat_lt n 8 then number (number_of n) else ref (n % 2 == 0) (heap_of ids ((n - 8) / 2))
+
+-- the code of the addresses of a memory, and of the indices of a table, of 64 bits or of 32
+abbrev pub address_of : Bool → ℕ
+address_of true = 1
+address_of false = 0
 
 abbrev pub types : List TypeTree → List ℕ → List ValueType
 types ids ns = map (type_of ids) ns

@@ -1,10 +1,10 @@
 //! Types as codes: 0 to 3 for numbers, 4 for vectors, and from 8 on two for each heap type, the first of references that may be null.
 
-ghost use Rattle.std.specs.Prelude.{◌≡◌, ◌<◌, ◌==◌, IfSome};
+ghost use Rattle.std.specs.Prelude.{◌≡◌, ◌<◌, ◌==◌, true, IfSome};
 ghost use Rattle.wasm_types.specs.values.Trees.{abstract_of as tree_of};
 ghost use Rattle.wasm_operator_validator_state.specs.resources.Meaning.{Meaning, type_in, reference_in};
 ghost use Rattle.wasm_operator_validator_fast_tables.specs.Values.{abstract_of, type_of};
-ghost use Rattle.wasm_operator_validator_fast_tables.specs.Tables.{no_code};
+ghost use Rattle.wasm_operator_validator_fast_tables.specs.Tables.{no_code, HasDefault};
 
 use crate::tables::NO_CODE;
 use wasm_types::{AbstractHeapType, HeapType, RefType, UnpackedIndex, ValType};
@@ -100,4 +100,14 @@ pub fn code_of(ty: &ValType) -> u32
         ValType::V128 => VECTOR,
         ValType::Ref(ty) => code_of_reference(*ty),
     }
+}
+
+/// Whether values of the type that a code stands for have a default.
+pub fn has_default(code: u32) -> bool
+    ensures { result ≡ true → HasDefault code }
+{
+    if code < 8 {
+        return true;
+    }
+    code % 2 == 0
 }

@@ -1,30 +1,41 @@
-//! Tables and element segments, by the codes of their references.
+//! Tables, element segments and memories, by codes.
 
-ghost use Rattle.std.specs.Prelude.{◌≡◌, ◌<◌, ℕ, false};
+ghost use Rattle.std.specs.Prelude.{◌≡◌, ◌<◌, ℕ};
 ghost use Rattle.wasm_operator_validator_state.specs.resources.Meaning.{Meaning, reference_in};
-ghost use Rattle.wasm_operator_validator_fast_tables.specs.Values.{type_of};
+ghost use Rattle.wasm_operator_validator_fast_tables.specs.Values.{type_of, address_of};
 ghost use Rattle.wasm_operator_validator_fast_tables.specs.Tables.{no_code};
-ghost use Rattle.wasm_operator_validator_fast_tables.specs.Known.{AreTablesIn, AreElementsIn};
+ghost use Rattle.wasm_operator_validator_fast_tables.specs.Known.{AreTablesIn, AreElementsIn, AreMemoriesIn};
 
 use crate::codes::code_of_reference;
-use crate::tables::NO_CODE;
+use crate::tables::Indexed;
 use std::alloc::Global;
 use wasm_operator_validator_state::WasmModuleResources;
 use wasm_types::TableType;
 
-// The code of the references of a table, if it is one of 32 bits.
-fn code_of_table(table: TableType) -> u32
-    ensures narrow { result < no_code → table.table64 ≡ false }
-    ensures code { result < no_code → (m : Meaning) → reference_in m table.element_type ≡ type_of m.ids result }
+/// The code of addresses, or of indices, of 64 bits or of 32.
+pub(crate) fn address_of(wide: bool) -> u32
+    ensures { result ≡ address_of wide }
 {
-    if table.table64 {
-        return NO_CODE;
+    if wide { 1 } else { 0 }
+}
+
+// A table by codes.
+fn indexed_of(table: TableType) -> Indexed
+    ensures index { result.index ≡ address_of table.table64 }
+    ensures code { result.ty < no_code → (m : Meaning) → reference_in m table.element_type ≡ type_of m.ids result.ty }
+{
+    Indexed {
+        ty: code_of_reference(table.element_type),
+        index: address_of(table.table64),
     }
-    code_of_reference(table.element_type)
 }
 
 /// The tables, in order, as far as there is memory.
-pub(crate) fn tables_of<R: WasmModuleResources>(alloc: Global, resources: &R, most: u32) -> Vec<u32>
+pub(crate) fn tables_of<R: WasmModuleResources>(
+    alloc: Global,
+    resources: &R,
+    most: u32,
+) -> Vec<Indexed>
     ensures { let m = R.meaning resources.now in AreTablesIn m.ids m.«module» result.items }
 {
     let mut tables = Vec::new(alloc);
@@ -32,7 +43,7 @@ pub(crate) fn tables_of<R: WasmModuleResources>(alloc: Global, resources: &R, mo
         let Some(table) = resources.table_at(at) else {
             return tables;
         };
-        let Ok(()) = tables.push(code_of_table(table)) else {
+        let Ok(()) = tables.push(indexed_of(table)) else {
             return tables;
         };
     }
@@ -57,4 +68,24 @@ pub(crate) fn elements_of<R: WasmModuleResources>(
         };
     }
     elements
+}
+
+/// The memories, in order, as far as there is memory.
+pub(crate) fn memories_of<R: WasmModuleResources>(
+    alloc: Global,
+    resources: &R,
+    most: u32,
+) -> Vec<u32>
+    ensures { AreMemoriesIn (R.meaning resources.now).«module» result.items }
+{
+    let mut memories = Vec::new(alloc);
+    for at in 0..most {
+        let Some(memory) = resources.memory_at(at) else {
+            return memories;
+        };
+        let Ok(()) = memories.push(address_of(memory.memory64)) else {
+            return memories;
+        };
+    }
+    memories
 }

@@ -6,14 +6,14 @@ ghost use Rattle.wasm_types.specs.trees.Below.{Below};
 ghost use Rattle.wasm_operator_validator_state.specs.State.{types_in};
 ghost use Rattle.wasm_operator_validator_state.specs.resources.Meaning.{Meaning, reference_in};
 ghost use Rattle.wasm_operator_validator_fast_tables.specs.Values.{types};
-ghost use Rattle.wasm_operator_validator_fast_tables.specs.Tables.{Knows, HasMemory, HasTable};
+ghost use Rattle.wasm_operator_validator_fast_tables.specs.Tables.{Knows, HasMemoryAt, HasTableAt, no_code};
 ghost use Rattle.wasm_operator_validator_fast_tables.specs.Known.{IsMore, StandAlone, IsSigIn, AreSigsIn, AreFunctionsIn, AreCalleesOf, AreReferencedIn, AreGlobalsIn};
 
 use crate::codes::{DEFINED, code_of};
-use crate::elements::{elements_of, tables_of};
+use crate::elements::{address_of, elements_of, memories_of, tables_of};
 use crate::naming::name_all;
 use crate::order::Order;
-use crate::tables::{Defined, Held, Known, NO_CODE, Named, Sig};
+use crate::tables::{Held, Known, NO_CODE, Sig};
 use crate::tags::{data_of, sign_tags};
 use std::alloc::Global;
 use wasm_operator_validator_state::WasmModuleResources;
@@ -48,25 +48,23 @@ pub fn known_of<R: WasmModuleResources>(alloc: Global, resources: &R, most: u32)
     sign_tags(resources, &mut flat, &mut tags, most);
     let functions = functions_of(alloc, resources, most);
     let callees = callees_of(alloc, functions.as_slice(), types.as_slice());
-    let tables = tables_of(alloc, resources, most);
-    let elements = elements_of(alloc, resources, most);
-    let wanted = may_refer(named.as_slice(), tables.as_slice(), elements.as_slice());
     Some(Known {
         flat,
         types,
         named,
         fields,
         order: Order::new(steps),
-        referenced: referenced_of(alloc, resources, functions.as_slice().len() as u32, wanted),
+        referenced: referenced_of(alloc, resources, functions.as_slice().len() as u32),
         functions,
         callees,
         globals: globals_of(alloc, resources, most),
         tags,
-        tables,
-        elements,
+        tables: tables_of(alloc, resources, most),
+        elements: elements_of(alloc, resources, most),
+        memories: memories_of(alloc, resources, most),
         data: data_of(resources),
-        memory: has_memory(resources),
-        table: has_table(resources),
+        memory: first_memory(resources),
+        table: first_table(resources),
     })
 }
 
@@ -203,34 +201,11 @@ fn callees_of(alloc: Global, functions: &[u32], types: &[Sig]) -> Vec<Sig>
     callees
 }
 
-// Whether code of a module with these types, tables and element segments may well refer to functions. Compilers of languages without references
-// write one table and one segment.
-fn may_refer(named: &[Named], tables: &[u32], elements: &[u32]) -> bool {
-    if tables.len() > 1 || elements.len() > 1 {
-        return true;
-    }
-    for it in named {
-        match it.defined {
-            Defined::Struct(_, _) | Defined::Array(_) => return true,
-            Defined::Function | Defined::Other => {}
-        }
-    }
-    false
-}
-
-// Whether code may refer to each of so many functions, as far as there is memory, if that is wanted: each answer is a search in a set.
-fn referenced_of<R: WasmModuleResources>(
-    alloc: Global,
-    resources: &R,
-    count: u32,
-    wanted: bool,
-) -> Vec<bool>
+// Whether code may refer to each of so many functions, as far as there is memory.
+fn referenced_of<R: WasmModuleResources>(alloc: Global, resources: &R, count: u32) -> Vec<bool>
     ensures { AreReferencedIn (R.meaning resources.now).«module» result.items }
 {
     let mut referenced = Vec::new(alloc);
-    if !wanted {
-        return referenced;
-    }
     for at in 0..count {
         let may = resources.is_function_referenced(at);
         let Ok(()) = referenced.push(may) else {
@@ -260,30 +235,27 @@ fn globals_of<R: WasmModuleResources>(alloc: Global, resources: &R, most: u32) -
     globals
 }
 
-// Whether memory 0 is one of 32 bits.
-fn has_memory<R: WasmModuleResources>(resources: &R) -> bool
-    ensures { result ≡ true → HasMemory (R.meaning resources.now).«module» }
+// The code of the addresses of memory 0.
+fn first_memory<R: WasmModuleResources>(resources: &R) -> u32
+    ensures { result < no_code → HasMemoryAt (R.meaning resources.now).«module» 0 result }
 {
     let Some(memory) = resources.memory_at(0) else {
-        return false;
+        return NO_CODE;
     };
-    if memory.memory64 {
-        return false;
-    }
-    true
+    address_of(memory.memory64)
 }
 
-// Whether table 0 is one of functions and of 32 bits.
-fn has_table<R: WasmModuleResources>(resources: &R) -> bool
-    ensures { result ≡ true → HasTable (R.meaning resources.now).«module» }
+// The code of the indices of table 0, if it is one of functions.
+fn first_table<R: WasmModuleResources>(resources: &R) -> u32
+    ensures { result < no_code → HasTableAt (R.meaning resources.now).«module» 0 result }
 {
     let Some(table) = resources.table_at(0) else {
-        return false;
+        return NO_CODE;
     };
-    if table.table64 || !is_of_functions(resources, table.element_type) {
-        return false;
+    if !is_of_functions(resources, table.element_type) {
+        return NO_CODE;
     }
-    true
+    address_of(table.table64)
 }
 
 // Whether references of a type are references to functions.

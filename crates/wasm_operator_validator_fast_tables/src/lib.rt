@@ -22,7 +22,7 @@ mod tags;
 mod written;
 
 pub use codes::{
-    ANY, ARRAY, DEFINED, EQ, EXN, EXTERN, FUNC, I31, VECTOR, code_of, code_of_reference,
+    ANY, ARRAY, DEFINED, EQ, EXN, EXTERN, FUNC, I31, VECTOR, code_of, code_of_reference, has_default,
 };
 pub use known::known_of;
 pub use lookups::{frame_at, inner_results, is_bare, label, part};
@@ -30,5 +30,5 @@ pub use opens::Opens;
 pub use order::{Order, Step};
 pub use pile::Pile;
 pub use stack::Stack;
-pub use tables::{Defined, Field, Held, Known, NO_CODE, Named, Open, Sig, Tables};
+pub use tables::{Defined, Field, Held, Indexed, Known, NO_CODE, Named, Open, Sig, Tables};
 pub use written::{begins_index, heap_at, value_at};

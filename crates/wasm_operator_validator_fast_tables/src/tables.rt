@@ -23,6 +23,13 @@ pub struct Held {
     pub mutable: bool,
 }
 
+/// A table: its references as a code, and its indices.
+#[derive(Clone, Copy)]
+pub struct Indexed {
+    pub ty: u32,
+    pub index: u32,
+}
+
 /// A field or an element: the code of what is read, whether it is packed, and whether it may be written.
 #[derive(Clone, Copy)]
 pub struct Field {
@@ -53,9 +60,9 @@ pub struct Named {
 
 /// What bodies ask of a module: codes, one after the other, first 40 that stand for themselves, then two for each type of the module, then the
 /// types of signatures; where those of each function type lie there; what each type is, and the fields of structures; what is below what;
-/// functions by the indices of their types and by their signatures, and whether code may refer to them; globals; tags, by where their parameters lie; tables and element
-/// segments, by the codes of their references, except that a table of 64 bits has no code; how many data segments there are; whether memory 0 is
-/// one of 32 bits, and table 0 one of functions and of 32 bits.
+/// functions by the indices of their types and by their signatures, and whether code may refer to them; globals; tags, by where their parameters
+/// lie; tables; element segments, by the codes of their references; memories, by the codes of their addresses; how many data segments there are;
+/// the code of the addresses of memory 0, and that of the indices of table 0 if it is one of functions: no code if there is none.
 #[derive(Drop)]
 pub struct Known {
     pub flat: Vec<u32>,
@@ -68,29 +75,34 @@ pub struct Known {
     pub referenced: Vec<bool>,
     pub globals: Vec<Held>,
     pub tags: Vec<Sig>,
-    pub tables: Vec<u32>,
+    pub tables: Vec<Indexed>,
     pub elements: Vec<u32>,
+    pub memories: Vec<u32>,
     pub data: u32,
-    pub memory: bool,
-    pub table: bool,
+    pub memory: u32,
+    pub table: u32,
 }
 
-/// What one body asks: its module, its locals as codes, the results of its function, the features that it is read by, whether these have
-/// references, and whether they have vectors and operators on these are judged.
+/// What one body asks: its module, its locals as codes, how many of them from the first on have values wherever they are read, the results of
+/// its function, the features that it is read by, whether these have references, and whether they have vectors and operators on these are
+/// judged.
 #[derive(Drop)]
 pub struct Tables {
     pub known: Known,
     pub locals: Vec<u32>,
+    pub certain: usize,
     pub results: Sig,
     pub features: WasmFeatures,
     pub references: bool,
     pub vectors: bool,
 }
 
-/// An open frame, and how many operands lie under the frame around it.
+/// An open frame, how many operands lie under the frame around it, and which locals have values there, a bit each: of 64 from the first on that
+/// has none from the start.
 #[derive(Clone, Copy)]
 pub struct Open {
     pub kind: FrameKind,
     pub base: usize,
+    pub set: u64,
     pub sig: Sig,
 }

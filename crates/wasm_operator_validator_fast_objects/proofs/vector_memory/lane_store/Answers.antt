@@ -11,6 +11,6 @@ returns-clause-leads c =
     let taken = c.if-not-take.ensures refl in
     let address = c.if-not-take-2.ensures refl in
     let last = c.take-else-not-take.new.self in
-    took_lane_reach c.args.tables.now c.args.bytes.now c.args.at c.in-Some-lane_end.end c.args.opens.now.inner c.args.opens.now.outer c.args.stack.now last (store v128) c.args.code c.args.middle c.in-Some.next natural lanes c.requires
-    (c.lane_store_shape-natural.ensures c.if-natural-ge-NO_ALIGNMENT.false) c.in-Some.ensures c.in-Some-lane_end.ensures c.if-not-tables.false
-    (0 ∷ 4 ∷ []) [] last.0 last.1 (λ ids. refl) (λ ids. refl) (taken ∙ ap (λ (x : Values). (4 ∷ x.0, x.1)) address) refl
+    took_lane_reach c.args.tables.now c.args.bytes.now c.args.at c.in-Some-lane_end.end c.args.opens.now.inner c.args.opens.now.outer c.args.stack.now last (store v128) c.args.code c.args.middle c.in-Some.next natural lanes c.in-Some.address c.requires
+    (c.lane_store_shape-natural.ensures c.if-natural-ge-NO_ALIGNMENT.false) c.in-Some.ensures c.in-Some-lane_end.ensures
+    (4 ∷ []) [] last.0 last.1 (λ ids. refl) (λ ids. refl) (taken ∙ ap (λ (x : Values). (4 ∷ x.0, x.1)) address) refl

@@ -12,6 +12,6 @@ returns-clause-leads c =
     let taken = c.if-not-take.ensures refl in
     let address = c.if-not-take-2.ensures refl in
     let last = c.take-else-not-take.new.self in
-    took_reach c.args.tables.now c.args.bytes.now c.args.at c.in-Some.end c.args.opens.now.inner c.args.opens.now.outer c.args.stack.now last (store v128) c.args.code c.args.middle 4 c.requires.begins
-    (reaching (λ a. simd.V128Store a) c.requires.class (λ a. refl) (λ a. refl) (λ a. refl) (λ a. refl)) c.in-Some.ensures c.if-not-tables.false
-    (0 ∷ 4 ∷ []) [] last.0 last.1 (λ ids. refl) (λ ids. refl) (taken ∙ ap (λ (x : Values). (4 ∷ x.0, x.1)) address) refl
+    took_reach c.args.tables.now c.args.bytes.now c.args.at c.in-Some.end c.args.opens.now.inner c.args.opens.now.outer c.args.stack.now last (store v128) c.args.code c.args.middle 4 c.in-Some.address c.requires.begins
+    (reaching (λ a. simd.V128Store a) c.requires.class (λ a. refl) (λ a. refl) (λ a. refl) (λ a. refl)) c.in-Some.ensures
+    (4 ∷ []) [] last.0 last.1 (λ ids. refl) (λ ids. refl) (taken ∙ ap (λ (x : Values). (4 ∷ x.0, x.1)) address) refl

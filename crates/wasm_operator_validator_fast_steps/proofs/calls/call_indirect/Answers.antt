@@ -15,9 +15,9 @@ returns-clause-leads c =
     let ps = params_in c.args.tables.now.known.flat.items s in
     let (m, low, put) = rw types at (c.if-not-pass.ensures.passed refl) in
     let opens = c.args.opens.now.inner ∷ c.args.opens.now.outer in
-    lowered c.args.tables.now c.args.bytes.now c.args.at c.in-Some-table_index_at.end c.args.opens.now.inner c.args.opens.now.outer opens c.args.stack.now (0 ∷ (with_all ps m).0, m.1) c.pass.new.stack
-    (lower_past c.args.tables.now.known.order 0 c.args.stack.now c.take.new.self (with_all ps m) (c.if-not-take.ensures refl) low)
-    (took_indirect c.args.tables.now c.args.bytes.now c.args.at c.in-Some-table_index_at.end c.args.opens.now.inner c.args.opens.now.outer (0 ∷ (with_all ps m).0, m.1) c.pass.new.stack c.requires c.in-Some-table_index_at.table (c.if-not-calls_through.ensures refl) c.in-Some.index c.in-Some.middle c.in-Some.ensures
+    lowered c.args.tables.now c.args.bytes.now c.args.at c.in-Some-table_index_at.end c.args.opens.now.inner c.args.opens.now.outer opens c.args.stack.now (c.calls_through-code.result ∷ (with_all ps m).0, m.1) c.pass.new.stack
+    (lower_past c.args.tables.now.known.order c.calls_through-code.result c.args.stack.now c.take.new.self (with_all ps m) (c.if-not-take.ensures refl) low)
+    (took_indirect c.args.tables.now c.args.bytes.now c.args.at c.in-Some-table_index_at.end c.args.opens.now.inner c.args.opens.now.outer (c.calls_through-code.result ∷ (with_all ps m).0, m.1) c.pass.new.stack c.requires c.in-Some-table_index_at.table c.calls_through-code.result (c.calls_through-code.ensures c.if-code-ge-NO_CODE.false) c.in-Some.index c.in-Some.middle c.in-Some.ensures
     c.in-Some-table_index_at.ensures
     s (slice_get-get_or c.args.tables.now.known.types.items c.in-Some.index none (rw types at c.if-index-types.false))
     (rw types at (c.if-not-pass.ensures.usable refl)) ps (results_in c.args.tables.now.known.flat.items s) refl refl (with_all ps m) m refl refl put)

@@ -5,6 +5,7 @@ use Rattle.wasm_operator_validator_fast_steps.proofs.calls.calls_through_another
 
 pub returns : goal.returns
 returns c =
-    let codes = c.as_slice-codes.ensures.value in
-    λ e. goes_through c.args.tables.now c.args.table _ (slice_get-get_or c.args.tables.now.known.tables.items c.args.table 0 (rw codes at c.if-index-codes.false))
-    (rw codes at c.if-code-ge-NO_CODE.false) (rw codes at (c.if-not-may_be_taken.ensures refl))
+    let held = c.as_slice-held.ensures.value in
+    λ lt. rw held (goes_through c.args.tables.now c.args.table _
+    (slice_get-get_or c.args.tables.now.known.tables.items c.args.table (record { ty = 0; index = 0 }) (rw held at c.if-index-held.false))
+    (rw held at c.if-it-ge-NO_CODE.false) (rw held at (c.if-not-may_be_taken.ensures refl)))

@@ -8,14 +8,11 @@ returns-then-bytes-at-lt128 c =
     let a = c.requires.inside in
     let small : get_or c.args.bytes.now c.args.at 0 < 16 = omega (arith, c.if-bytes-at.false, c.requires.few) in
     let b = c.if-bytes-at-le2.false in
-    argument_of_one c.args.features.0 c.args.bytes.now c.args.at c.args.natural small (omega (arith, a, b)) c.if-bytes-at.false c.if-bytes-at-lt128.true
+    argument_of_one c.args.tables.now c.args.bytes.now c.args.at c.args.natural small (omega (arith, a, b)) c.if-bytes-at.false c.if-address-ge-NO_CODE.false c.if-bytes-at-lt128.true
 
 pub returns-then-bytes-at-lt128-2 : goal.returns-then-bytes-at-lt128-2
 returns-then-bytes-at-lt128-2 c =
     let a = c.requires.inside in
     let small : get_or c.args.bytes.now c.args.at 0 < 16 = omega (arith, c.if-bytes-at.false, c.requires.few) in
     let b = c.if-bytes-at-le2.false in
-    argument_of_two c.args.features.0 c.args.bytes.now c.args.at c.args.natural small (omega (arith, a, b)) c.if-bytes-at.false c.if-bytes-at-lt128.false (omega arith) c.if-bytes-at-lt128-2.true
-
-pub returns : goal.returns
-returns c = c.long_argument_at-end.ensures (omega (arith, c.if-end-eq0.false))
+    argument_of_two c.args.tables.now c.args.bytes.now c.args.at c.args.natural small (omega (arith, a, b)) c.if-bytes-at.false c.if-address-ge-NO_CODE.false c.if-bytes-at-lt128.false (omega arith) c.if-bytes-at-lt128-2.true

@@ -7,6 +7,6 @@ use Rattle.wasm_operator_validator_fast_tables.proofs.elements.tables_of.Goals a
 pub loop-at-preserved : goal.loop-at-preserved
 loop-at-preserved g c =
     let m = g.R.WasmModuleResources.meaning c.args.resources.now in
-    each_more (IsTableIn m.ids m.«module») c.loop-at.tables.items c.push.new.self.items c.code_of_table.result c.loop-at.at c.in-Ok.ensures.items
+    each_more (IsTableIn m.ids m.«module») c.loop-at.tables.items c.push.new.self.items c.indexed_of.result c.loop-at.at c.in-Ok.ensures.items
     c.loop-at.invariant
-    (λ lt. (table_in m c.in-Some.table, sym c.in-Some.ensures, c.code_of_table.ensures.narrow lt, c.code_of_table.ensures.code lt m))
+    (λ lt. (table_in m c.in-Some.table, sym c.in-Some.ensures, c.indexed_of.ensures.index, c.indexed_of.ensures.code lt m))

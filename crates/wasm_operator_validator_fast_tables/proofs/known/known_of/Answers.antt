@@ -26,12 +26,13 @@ returns g c =
       referenced = c.referenced_of.ensures;
       globals = c.globals_of.ensures;
       tags = λ x s at. tag_known m.ids m.«module» last x s few (c.sign_tags.ensures.tags x s at);
-      tables = c.tables_of-tables.ensures;
-      elements = c.elements_of-elements.ensures;
+      tables = c.tables_of.ensures;
+      elements = c.elements_of.ensures;
       «data» = c.data_of.ensures;
       named = c.name_all.ensures.named;
       places = placed_more first last _ c.name_all.new.named.items more c.name_all.ensures.places;
       steps = subst (λ (steps : List Step). AreSteps m.ids steps) (sym c.new.ensures) c.name_all.ensures.steps;
-      memory = c.has_memory.ensures;
-      table = c.has_table.ensures;
+      memories = c.memories_of.ensures;
+      memory = c.first_memory.ensures;
+      table = c.first_table.ensures;
     }

@@ -1,8 +1,0 @@
-use Rattle.wasm_operator_validator_state.specs.resources.Meaning.{table_in}
-use Rattle.wasm_operator_validator_fast_tables.proofs.Knowing.{table_known}
-use Rattle.wasm_operator_validator_fast_tables.proofs.known.has_table.Goals as goal
-
-pub returns : goal.returns
-returns g c =
-    let m = g.R.WasmModuleResources.meaning c.args.resources.now in
-    λ e. table_known m (table_in m c.in-Some.table) c.is_of_functions.result c.in-Some.ensures c.if-table.false c.is_of_functions.ensures c.if-not-is_of_functions.false
