@@ -1,5 +1,7 @@
 -- What operators on vectors take and give, from what their tables say.
-use Rattle.std.proofs.Common.{◌≡◌, ◌∙◌, ℕ, List, [], ◌∷◌, refl, sym, ap}
+use Rattle.std.proofs.Common.{◌≡◌, ◌∙◌, ◌+◌, ℕ, true, List, [], ◌∷◌, sym, ap, subst}
+use Rattle.wasm_types.specs.decoding.Leb.{u32}
+use Rattle.wasm_types.specs.decoding.Numbers.{GivesAt}
 use Rattle.wasm_types.specs.trees.Trees.{TypeTree}
 use Rattle.wasm_operators_immediates.specs.Immediates.{Lane, MemoryArgument}
 use Rattle.wasm_operators_immediates.specs.Kinds.{Plain}
@@ -12,11 +14,27 @@ use Rattle.wasm_operators_enums.specs.VectorsImmediates.{simd_immediates}
 use Rattle.wasm_operators_enums.specs.VectorsTable.{simd_info, simd_numeric_info}
 use Rattle.wasm_operators_encoding.specs.Opcodes.{Opcode, prefixed}
 use Rattle.wasm_operators_encoding.specs.Operators.{opcode_of}
+use Rattle.wasm_operators_frequent.specs.Short.{Begins}
 use Rattle.wasm_operator_validator_rules.specs.Accesses.{Access}
 use Rattle.wasm_operator_validator_rules.specs.Numbers.{numbers}
 use Rattle.wasm_operator_validator_rules.specs.Vectors.{VectorClass as Work, vectors_taken, vectors_given, vector_class, work_of, on_lanes, reaches}
+use Rattle.wasm_operator_validator_fast_tables.specs.declared.tables.Tables.{Tables}
 use Rattle.wasm_operator_validator_fast_tables.specs.Values.{types}
-use Rattle.wasm_operator_validator_fast_objects.specs.Vectors.{proposal_of, IsLanesAt, IsLaneAt, IsReachAt, IsLaneReachAt}
+use Rattle.wasm_operator_validator_fast_objects.specs.declared.vector_shape.VectorClass.{VectorClass}
+use Rattle.wasm_operator_validator_fast_objects.specs.Vectors.{proposal_of, MayRelax, IsVectorAt, IsVectorClass, IsLanesAt, IsLaneAt, IsReachAt, IsLaneReachAt}
+
+-- ---- at an offset
+
+-- one of any code begins there
+pub vector_at : (text : List ℕ) (t : Tables) (i code n : ℕ) → Begins text i 0xfd → t.vectors ≡ true → GivesAt u32 text (i + 1) code n → MayRelax t.features.0 code
+    → IsVectorAt text t i code n
+vector_at text t i code n begins on g relaxed = record { begins = record { prefix_there = begins; code_there = g }; on = on; relaxed = relaxed }
+
+-- a code of a class that was found
+pub by_class : (l k : VectorClass) (code : ℕ) → IsVectorClass k code → k ≡ l → IsVectorClass l code
+by_class l k code is same = subst (λ (m : VectorClass). IsVectorClass m code) same is
+
+-- ---- by a code
 
 -- an opcode by another name of its code
 moved : (o : Opcode) (code n : ℕ) → code ≡ n → o ≡ prefixed 0xfd n → o ≡ prefixed 0xfd code
