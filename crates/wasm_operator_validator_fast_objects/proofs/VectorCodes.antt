@@ -46,7 +46,7 @@ pub numeric : {takes gives : List ℕ} {code n : ℕ} (o : SimdNumericOperator) 
 numeric o is there of taken given = record {
   operator = o;
   opcode = moved _ _ _ is there;
-  asks = of ∙ ap proposal_of (sym is);
+  asks = of ∙ ap (λ (k : ℕ). proposal_of k) (sym is);
   taken = taken;
   given = given;
 }

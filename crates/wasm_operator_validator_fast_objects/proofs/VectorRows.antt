@@ -21,11 +21,11 @@ use Rattle.wasm_operators_encoding.specs.immediates.MemoryArguments.{argument, S
 use Rattle.wasm_operators_frequent.specs.Short.{BeginsPrefixed}
 use Rattle.wasm_operator_validator_rules.specs.Accesses.{Access, operands_of, results_of}
 use Rattle.wasm_operator_validator_rules.specs.Context.{Context}
-use Rattle.wasm_operator_validator_rules.specs.InstructionTypes.{InstructionType, ◌⟶◌, accesses, where_vectors, work_type}
+use Rattle.wasm_operator_validator_rules.specs.InstructionTypes.{InstructionType, ◌⟶◌, accesses, lanes_type, where_vectors, work_type}
 use Rattle.wasm_operator_validator_rules.specs.Numbers.{numbers}
 use Rattle.wasm_operator_validator_rules.specs.Operands.{ValueType, all_known}
 use Rattle.wasm_operator_validator_rules.specs.Row.{IsEnabled}
-use Rattle.wasm_operator_validator_rules.specs.Vectors.{VectorClass as Work, VectorWork, on_lanes, reaches, vectors_taken, vectors_given, work_of}
+use Rattle.wasm_operator_validator_rules.specs.Vectors.{VectorWork, on_lanes, reaches, vectors_taken, vectors_given, vector_class, work_of}
 use Rattle.wasm_operator_validator_fast_tables.specs.declared.tables.Open.{Open}
 use Rattle.wasm_operator_validator_fast_tables.specs.declared.tables.Tables.{Tables}
 use Rattle.wasm_operator_validator_fast_tables.specs.Stacks.{Values}
@@ -70,7 +70,11 @@ module _ (t : Tables) (text : List ℕ) (i e : ℕ) (o : Open) (outer : List Ope
       took t text i e o outer v w p ts us r u (stands_bare t.features.0 text i e code p at.begins k.opcode refl refl) refl (λ set full. full) taken put
       (λ ids z c fits set full. (
         enabled c.bits code p fits.allows (fits.vectors at.on) (λ le. rw fits.bits (at.relaxed le)) k.asks,
-        (_, switched (Here ids c) _ (fits.vectors at.on).judged, (ap all_known (k.taken ids), ap all_known (k.given ids))),
+        (
+          lanes_type (vector_class k.operator),
+          switched (Here ids c) (Some (lanes_type (vector_class k.operator))) (fits.vectors at.on).judged,
+          (ap all_known (k.taken ids), ap all_known (k.given ids)),
+        ),
       ))
 
   -- one that carries something, by what it does
@@ -82,7 +86,7 @@ module _ (t : Tables) (text : List ℕ) (i e : ℕ) (o : Open) (outer : List Ope
         took t text i e o outer v w (op.Simd x) ts us r u stands refl (λ set full. full) taken put
         (λ ids z c fits set full. (
           of_feature c.bits (op.Simd x) proposals.Simd feature.Simd fits.allows asks (fits.vectors at.on).simd refl,
-          (types ids ts ⟶ types ids us, switched (Here ids c) _ (fits.vectors at.on).judged ∙ does ids z c fits, (refl, refl)),
+          (types ids ts ⟶ types ids us, switched (Here ids c) (work_type (Here ids c) (work_of x)) (fits.vectors at.on).judged ∙ does ids z c fits, (refl, refl)),
         ))
 
   -- one that carries the index of a lane
