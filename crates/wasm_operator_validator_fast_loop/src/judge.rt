@@ -31,6 +31,7 @@ use wasm_operator_validator_fast_objects::structs::{
 use wasm_operator_validator_fast_objects::tables::{
     elem_drop, table_copy, table_fill, table_get, table_grow, table_init, table_set, table_size,
 };
+use wasm_operator_validator_fast_objects::vectors::vector;
 use wasm_operator_validator_fast_steps::blocks::{begin_if, begin_loop, block, end, finish, turn};
 use wasm_operator_validator_fast_steps::branches::{br, br_if, br_table, return_all};
 use wasm_operator_validator_fast_steps::calls::{
@@ -138,7 +139,7 @@ fn away(
     end
 }
 
-/// Takes an operator on references, objects, exceptions, tables or segments, or on locals that may have no value.
+/// Takes an operator on references, objects, exceptions, tables, segments or vectors, or on locals that may have no value.
 #[inline(never)]
 fn referring(
     tables: &Tables,
@@ -175,6 +176,7 @@ fn referring(
         0xd6 => br_on_non_null(tables, bytes, at, stack, opens),
         0xfb => object(tables, bytes, at, stack, opens),
         0xfc => bulk(tables, bytes, at, stack, opens),
+        0xfd => vector(tables, bytes, at, stack, opens),
         _ => None,
     }
 }

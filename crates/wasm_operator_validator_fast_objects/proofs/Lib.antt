@@ -8,3 +8,6 @@ mod Referring
 mod Selecting
 mod StructRows
 mod TableRows
+mod VectorCodes
+mod VectorRows
+mod VectorSpelling

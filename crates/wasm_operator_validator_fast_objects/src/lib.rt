@@ -1,4 +1,4 @@
-//! Steps of the fast loop on references and what holds or has them: tables, structures, arrays, casts and exceptions.
+//! Steps of the fast loop on references and what holds or has them (tables, structures, arrays, casts and exceptions), and on vectors.
 //!
 //! Branches on references are here: `br_on_null` and `br_on_non_null` in `references`, `br_on_cast` in `casts`, `try_table` in `exceptions`. A step
 //! is what `wasm_operator_validator_fast_steps` says.
@@ -10,3 +10,6 @@ pub mod exceptions;
 pub mod references;
 pub mod structs;
 pub mod tables;
+mod vector_memory;
+mod vector_shape;
+pub mod vectors;

@@ -1,0 +1,9 @@
+use Rattle.std.proofs.Common.{◌∷◌, [], refl}
+use Rattle.wasm_operator_validator_fast_objects.proofs.VectorRows.{took_lanes}
+use Rattle.wasm_operator_validator_fast_objects.proofs.vectors.splat.Goals as goal
+
+pub returns-clause-leads : goal.returns-clause-leads
+returns-clause-leads c =
+    let takes = c.splat_shape-takes.result in
+    let (rest, taken, put) = c.if-not-change.ensures refl in
+    took_lanes c.args.tables.now c.args.bytes.now c.args.at c.args.middle c.args.opens.now.inner c.args.opens.now.outer c.args.stack.now c.change.new.self c.args.code c.requires (takes ∷ []) (4 ∷ []) (c.splat_shape-takes.ensures c.if-takes-ge-NO_CODE.false) rest c.args.stack.now.1 taken put
