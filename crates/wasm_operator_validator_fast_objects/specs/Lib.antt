@@ -1,5 +1,7 @@
--- Rules: what operators on structures, arrays and tables find in the tables of a module, branches on casts, and clauses of `try_table`.
+-- Rules: what operators on structures, arrays and tables find in the tables of a module, branches on casts, clauses of `try_table`, and what atomic
+-- accesses take and give.
 pub mod Objects
 pub mod Casts
 pub mod Exceptions
 pub mod Tables
+pub mod Atomics
