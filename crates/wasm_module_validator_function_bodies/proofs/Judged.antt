@@ -2,7 +2,7 @@
 use Rattle.std.proofs.Common.{◌≡◌, ◌≤◌, ◌<◌, ◌∙◌, ◌+◌, ◌-◌, ◌⊎◌, inl, inr, ℕ, zero, suc, List, [], ◌∷◌, ◌++◌, Bool, false, Option, Some, None, refl, sym, ap, subst, arith, append-nil, length, take, drop, map, replicate, get_or, slice_get}
 use Rattle.std.specs.Prelude.{All, option_map}
 use Rattle.std.proofs.lemmas.Bool.{cases_lt}
-use Rattle.std.proofs.lemmas.List.{append_assoc, length-append, length-map, length-replicate, map-append, get_or-append_right, length_push}
+use Rattle.std.proofs.lemmas.List.{append_assoc, length-append, length-map, length-replicate, map-append, length_push}
 use Rattle.wasm_types.specs.decoding.Decoder.{Many}
 use Rattle.wasm_types.specs.decoding.Leb.{u32, IsUnsigned, IsListed}
 use Rattle.wasm_types.specs.settings.Settings.{Settings}
@@ -31,7 +31,7 @@ use Rattle.wasm_operator_validator_fast_tables.specs.declared.tables.Tables.{Tab
 use Rattle.wasm_operator_validator_fast_tables.specs.Values.{type_of, types}
 use Rattle.wasm_operator_validator_fast_tables.specs.Tables.{Knows, AllowsLists, HasDefault, BeginSet, Fits, params_in, results_in, signature_in}
 use Rattle.wasm_operator_validator_fast_tables.specs.Written.{IsValueAt}
-use Rattle.wasm_operator_validator_fast_steps.proofs.Spelled.{many_more, unsigned_at, all_cons, all_tail}
+use Rattle.wasm_operator_validator_fast_steps.proofs.Spelled.{many_more, unsigned_at}
 use Rattle.wasm_operator_validator_fast_tables.proofs.Writing.{spelled_at}
 use Rattle.wasm_module_validator_function_bodies.specs.Functions.{SpellsValidFunction}
 use Rattle.wasm_module_validator_function_bodies.specs.Plain.{MayTell, AreOfSame, AreLocals, TakesGroup, TakesAll, Begins}
@@ -56,14 +56,6 @@ each_push : {A : Type 0} (P : A → Type 0) (xs : List A) (x : A) → Each P xs 
 each_push P [] x h p = (p, tt)
 each_push P (y ∷ xs) x h p = (h.0, each_push P xs x h.1 p)
 
-all_append : {A : Type 0} (P : A → Type 0) (xs ys : List A) → All P xs → All P ys → All P (xs ++ ys)
-all_append P [] ys h k = k
-all_append P (x ∷ xs) ys h k = all_cons P x (xs ++ ys) (h 0 x (omega arith)) (all_append P xs ys (all_tail P x xs h) k)
-
-all_replicate : {A : Type 0} (P : A → Type 0) (n : ℕ) (x : A) → P x → All P (replicate n x)
-all_replicate P zero x p = λ k d lt. absurd (omega (arith, lt))
-all_replicate P (suc n) x p = all_cons P x (replicate n x) p (all_replicate P n x p)
-
 -- ---- types
 
 -- what a module means by a value type, by its types alone
@@ -83,9 +75,9 @@ meant_value m (ref b h) = ap (λ (k : HeapOf TypeTree). ref b k) (meant_heap m h
 
 -- ---- one group
 
-pub took_group : (t : Tables) (text : List ℕ) (i count k code place j : ℕ) → GivesAt u32 text i count k → IsValueAt text t k code place j → HasDefault code
+pub took_group : (t : Tables) (text : List ℕ) (i count k code place j : ℕ) → GivesAt u32 text i count k → IsValueAt text t k code place j
     → (before after : List ℕ) → after ≡ before ++ replicate count code → TakesGroup t text i before after j
-took_group t text i count k code place j g v defaulted before after put =
+took_group t text i count k code place j g v before after put =
     let (counted, counts, whole) = unsigned_at text i count k g in
     let (typed, spelled, next) = spelled_at value_type SpelledValue decides-value_type text k j v.written v.read in
     record {
@@ -95,8 +87,7 @@ took_group t text i count k code place j g v defaulted before after put =
       whole = whole ∙ ap (λ (r : List ℕ). counted ++ r) next ∙ sym (append_assoc counted typed (drop j text));
       code = code;
       put = put;
-      defaulted = defaulted;
-      means = λ ids bits m may. v.means ids bits m may.knows may.allows may.references;
+      means = λ ids bits m may. v.means ids bits m may.knows may.allows may.references may.vectors;
       inside = v.read.inside;
     }
 
@@ -112,7 +103,6 @@ pub record TakesSome (t : Tables) (text : List ℕ) (i k : ℕ) (before after : 
   pub codes : List ℕ
   pub put : after ≡ before ++ codes
   pub many : length codes ≡ total groups
-  pub defaulted : All HasDefault codes
   pub means : (ids : List TypeTree) (z : Settings) (m : Module) → MayTell ids z.features m t → AreLocals ids z m groups codes
   pub inside : j ≤ length text
 
@@ -126,7 +116,6 @@ took_none t text i before le = record {
   codes = [];
   put = sym (append-nil before);
   many = refl;
-  defaulted = λ k d lt. absurd (omega (arith, lt));
   means = λ ids z m may. record { typed = refl; valid = tt };
   inside = le;
 }
@@ -160,7 +149,6 @@ took_more t text i k before middle after j n h one =
       codes = h.codes ++ cs;
       put = one.put ∙ ap (λ (l : List ℕ). l ++ cs) h.put ∙ append_assoc before h.codes cs;
       many = omega (arith, many, sum, few, h.many);
-      defaulted = all_append HasDefault h.codes cs h.defaulted (all_replicate HasDefault one.group.count one.code one.defaulted);
       means = λ ids z m may. more_locals ids z m h.groups h.codes one.group one.code (h.means ids z m may) (one.means ids z.features m may);
       inside = one.inside;
     }
@@ -188,7 +176,6 @@ took_all t text count i before after j g h =
       codes = h.codes;
       put = h.put;
       many = h.many;
-      defaulted = h.defaulted;
       means = h.means;
       inside = h.inside;
     }
@@ -199,6 +186,7 @@ same_tells t u ids bits m same may = record {
   knows = subst (λ (k : Known). Knows ids m k) (sym same.known) may.knows;
   allows = may.allows;
   references = λ on. may.references (sym same.references ∙ on);
+  vectors = λ on. may.vectors (sym same.vectors ∙ on);
 }
 
 -- what stands by tables of the same module
@@ -210,7 +198,6 @@ same_group t u text i before after j same h = record {
   whole = h.whole;
   code = h.code;
   put = h.put;
-  defaulted = h.defaulted;
   means = λ ids bits m may. h.means ids bits m (same_tells t u ids bits m same may);
   inside = h.inside;
 }
@@ -224,13 +211,12 @@ same_all t u text before after j same h = record {
   codes = h.codes;
   put = h.put;
   many = h.many;
-  defaulted = h.defaulted;
   means = λ ids z m may. h.means ids z m (same_tells t u ids z.features m same may);
   inside = h.inside;
 }
 
 pub same_then : (t u v : Tables) → AreOfSame t u → AreOfSame u v → AreOfSame t v
-same_then t u v h k = record { known = k.known ∙ h.known; features = k.features ∙ h.features; references = k.references ∙ h.references }
+same_then t u v h k = record { known = k.known ∙ h.known; features = k.features ∙ h.features; references = k.references ∙ h.references; vectors = k.vectors ∙ h.vectors }
 
 -- ---- the whole function
 
@@ -239,19 +225,14 @@ local_at ids [] k lt = absurd (omega (arith, lt))
 local_at ids (x ∷ xs) zero lt = refl
 local_at ids (x ∷ xs) (suc k) lt = local_at ids xs k (omega (arith, lt))
 
--- the locals behind the parameters begin with values
-begins_set : (u : Tables) (ps codes : List ℕ) (params : ℕ) → u.locals.items ≡ ps ++ codes → params ≡ length ps → All HasDefault codes → BeginSet u params
-begins_set u ps codes params e n h x lt = either (cases_lt x params)
+-- one more local has a value from the start
+pub certain_more : (locals : List ℕ) (params n : ℕ) → ((x : ℕ) → x < length locals → x < n → (x < params) ⊎ HasDefault (get_or locals x 0)) → HasDefault (get_or locals n 0)
+    → (x : ℕ) → x < length locals → x < n + 1 → (x < params) ⊎ HasDefault (get_or locals x 0)
+certain_more locals params n all one x lt few = either (cases_lt x n)
   where
-    long : length u.locals.items ≡ length ps + length codes
-    long = ap (λ (l : List ℕ). length l) e ∙ length-append ps codes
-
-    there : params ≤ x → get_or u.locals.items x 0 ≡ get_or codes (x - params) 0
-    there le = ap (λ (l : List ℕ). get_or l x 0) e ∙ get_or-append_right ps codes params x 0 (sym n) le
-
-    either : (x < params) ⊎ (params ≤ x) → (x < params) ⊎ HasDefault (get_or u.locals.items x 0)
-    either (inl few) = inl few
-    either (inr le) = inr (subst HasDefault (sym (there le)) (h (x - params) 0 (omega (arith, long, n, le, lt))))
+    either : (x < n) ⊎ (n ≤ x) → (x < params) ⊎ HasDefault (get_or locals x 0)
+    either (inl before) = all x lt before
+    either (inr le) = let same : n ≡ x = omega (arith, le, few) in inr (subst (λ (k : ℕ). HasDefault (get_or locals k 0)) same one)
 
 -- a type that is not shared, by its entry
 pub not_shared : (e : EntryOf TypeTree) (o : Option TypeTree) → Some e ≡ option_map opened o → e.shared ≡ false → (f : TypeTree) → o ≡ Some f → is_shared f ≡ false
@@ -285,6 +266,7 @@ valid_body ids z m x text t u start b may features same within lists unshared ju
       within = within;
       allows = may.allows;
       references = told.references;
+      vectors = told.vectors;
       limits = λ on. lists;
       knows = told.knows;
       locals = λ k lt. ap (λ (l : List ValueType). slice_get l k) all ∙ local_at ids u.locals.items k lt;
@@ -292,7 +274,7 @@ valid_body ids z m x text t u start b may features same within lists unshared ju
       unshared = unshared f at;
     } in
     let many = length-map ps (type_of ids) in
-    let (c, spelled, body) = judged g fits (length s.params) (begins_set u ps h.codes (length s.params) h.put many h.defaulted) in
+    let (c, spelled, body) = judged g fits (length s.params) (λ k lt sure. subst (λ (n : ℕ). (k < n) ⊎ HasDefault (get_or u.locals.items k 0)) (sym many) (b.certain k lt sure)) in
     let count = ap (λ (l : List ℕ). length l) h.put in
     let parts = length-append ps h.codes in
     let most = b.within in

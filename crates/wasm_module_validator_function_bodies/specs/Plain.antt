@@ -1,5 +1,5 @@
 -- The beginning of a body that is judged in one loop: its locals as codes (WebAssembly 3.0, binary format, modules, code section).
-use Rattle.std.specs.Prelude.{◌≡◌, ◌≤◌, ℕ, List, [], ◌∷◌, ◌++◌, All, length, drop, replicate, slice_get, Some, true}
+use Rattle.std.specs.Prelude.{◌≡◌, ◌<◌, ◌≤◌, ◌⊎◌, ℕ, List, [], ◌∷◌, ◌++◌, length, drop, get_or, replicate, slice_get, Some, true}
 use Rattle.wasm_types.specs.decoding.Leb.{IsListed}
 use Rattle.wasm_types.specs.settings.Settings.{Settings}
 use Rattle.wasm_types.specs.trees.Trees.{TypeTree}
@@ -9,7 +9,7 @@ use Rattle.wasm_module_validator_section_order.specs.rules.Valid.{Each, IsValidV
 use Rattle.wasm_operator_validator_fast_tables.specs.declared.tables.Sig.{Sig}
 use Rattle.wasm_operator_validator_fast_tables.specs.declared.tables.Tables.{Tables}
 use Rattle.wasm_operator_validator_fast_tables.specs.Values.{type_of, types}
-use Rattle.wasm_operator_validator_fast_tables.specs.Tables.{Knows, Allows, AllowsReferences, HasDefault, params_in}
+use Rattle.wasm_operator_validator_fast_tables.specs.Tables.{Knows, Allows, AllowsReferences, AllowsVectors, HasDefault, params_in}
 use Rattle.wasm_module_validator_function_bodies.specs.declared.plain.PlainJudge.{PlainJudge}
 
 -- tables stand for what they name of a module, by the types behind its ids, and these features are those that they ask
@@ -17,6 +17,7 @@ pub record MayTell (ids : List TypeTree) (bits : ℕ) (m : Module) (t : Tables) 
   pub knows : Knows ids m t.known
   pub allows : Allows bits
   pub references : t.references ≡ true → AllowsReferences bits
+  pub vectors : t.vectors ≡ true → AllowsVectors bits
 
 -- a judge, as far as it is for use, knows this module and these features
 pub record KnowsModule (m : Module) (bits : ℕ) (j : PlainJudge) : Type 0 where
@@ -32,6 +33,7 @@ pub record AreOfSame (before after : Tables) : Type 0 where
   pub known : after.known ≡ before.known
   pub features : after.features ≡ before.features
   pub references : after.references ≡ before.references
+  pub vectors : after.vectors ≡ before.vectors
 
 -- a group of locals stands from one offset to the other, and their codes were put behind the others
 pub record TakesGroup (t : Tables) (text : List ℕ) (i : ℕ) (before after : List ℕ) (j : ℕ) : Type 0 where
@@ -41,7 +43,6 @@ pub record TakesGroup (t : Tables) (text : List ℕ) (i : ℕ) (before after : L
   pub whole : drop i text ≡ front ++ drop j text
   pub code : ℕ
   pub put : after ≡ before ++ replicate group.count code
-  pub defaulted : HasDefault code
   pub means : (ids : List TypeTree) (bits : ℕ) (m : Module) → MayTell ids bits m t → IsType bits m group.type (type_of ids code)
   pub inside : j ≤ length text
 
@@ -59,7 +60,6 @@ pub record TakesAll (t : Tables) (text before after : List ℕ) (j : ℕ) : Type
   pub codes : List ℕ
   pub put : after ≡ before ++ codes
   pub many : length codes ≡ total groups
-  pub defaulted : All HasDefault codes
   pub means : (ids : List TypeTree) (z : Settings) (m : Module) → MayTell ids z.features m t → AreLocals ids z m groups codes
   pub inside : j ≤ length text
 
@@ -70,4 +70,5 @@ pub record Begins (before after : Tables) (x : ℕ) (text : List ℕ) (most star
   pub usable : sig.param_count ≤ length before.known.flat.items
   pub results : after.results ≡ sig
   pub locals : TakesAll before text (params_in before.known.flat.items sig) after.locals.items start
+  pub certain : (x : ℕ) → x < length after.locals.items → x < after.certain → (x < length (params_in before.known.flat.items sig)) ⊎ HasDefault (get_or after.locals.items x 0)
   pub within : length after.locals.items ≤ most

@@ -1,7 +1,7 @@
 //! Bodies judged in one loop over codes of operands.
 
-ghost use Rattle.std.specs.Prelude.{◌≡◌, ◌≤◌, ◌++◌, true, IfSome, length, replicate};
-ghost use Rattle.wasm_operator_validator_fast_tables.specs.Tables.{Allows, AllowsLists, AllowsReferences, HasDefault};
+ghost use Rattle.std.specs.Prelude.{◌≡◌, ◌<◌, ◌≤◌, ◌++◌, ◌⊎◌, ℕ, true, IfSome, length, get_or, replicate};
+ghost use Rattle.wasm_operator_validator_fast_tables.specs.Tables.{Allows, AllowsLists, AllowsReferences, AllowsVectors, HasDefault};
 ghost use Rattle.wasm_module_validator_function_bodies.specs.Locals.{judged_by};
 ghost use Rattle.wasm_module_validator_function_bodies.specs.Functions.{SpellsValidFunction};
 ghost use Rattle.wasm_module_validator_function_bodies.specs.Plain.{AreOfSame, TakesGroup, TakesAll, Begins, IsJudgeOf};
@@ -10,7 +10,7 @@ use std::alloc::Global;
 use wasm_operator_validator_driver::WasmModuleResources;
 use wasm_operator_validator_fast_loop::Room;
 use wasm_operator_validator_fast_tables::{
-    Known, NO_CODE, Order, Sig, Tables, known_of, part, value_at,
+    Known, NO_CODE, Order, Sig, Tables, has_default, known_of, part, value_at,
 };
 use wasm_operators_bodies::FunctionBody;
 use wasm_types::{Limits, WasmFeatures};
@@ -108,10 +108,12 @@ fn first_tables(alloc: Global, known: Known, features: WasmFeatures) -> Tables
     ensures known { result.known ≡ known }
     ensures features { result.features ≡ features }
     ensures references { result.references ≡ true → AllowsReferences features.0 }
+    ensures vectors { result.vectors ≡ true → AllowsVectors features.0 }
 {
     Tables {
         known,
         locals: Vec::new(alloc),
+        certain: 0,
         results: Sig {
             params: 0,
             param_count: 0,
@@ -120,6 +122,7 @@ fn first_tables(alloc: Global, known: Known, features: WasmFeatures) -> Tables
         },
         features,
         references: allows_references(features),
+        vectors: allows_vectors(features),
     }
 }
 
@@ -168,6 +171,13 @@ fn allows_references(features: WasmFeatures) -> bool
         && !features.custom_descriptors()
 }
 
+// Whether these have vectors, and operators on them are judged.
+fn allows_vectors(features: WasmFeatures) -> bool
+    ensures { result ≡ true → AllowsVectors features.0 }
+{
+    features.simd() && features.vector_operators()
+}
+
 // Whether operators may carry the lists that the loop takes.
 fn allows_lists(limits: Limits) -> bool
     ensures { result ≡ true → AllowsLists limits }
@@ -190,7 +200,8 @@ fn begin(tables: &mut Tables, ty: u32, bytes: &[u8], limits: Limits) -> Option<u
     let Some(params) = part(tables.known.flat.as_slice(), sig.params, sig.param_count) else {
         return None;
     };
-    let most = bytes.len().saturating_add(64).saturating_add(params.len());
+    let given = params.len();
+    let most = bytes.len().saturating_add(64).saturating_add(given);
     tables.locals.clear();
     let Ok(()) = tables.locals.extend_from_slice(params) else {
         return None;
@@ -201,6 +212,7 @@ fn begin(tables: &mut Tables, ty: u32, bytes: &[u8], limits: Limits) -> Option<u
     if tables.locals.as_slice().len() > limits.locals as usize {
         return None;
     }
+    tables.certain = certain_of(tables.locals.as_slice(), given);
     tables.results = sig;
     Some(start)
 }
@@ -224,8 +236,7 @@ fn take_locals(tables: &mut Tables, bytes: &[u8], most: usize) -> Option<usize>
     Some(end)
 }
 
-// Puts one group of locals behind those that there are. It does not if they have no values where a body begins: references that are never
-// null are left to the complete validator.
+// Puts one group of locals behind those that there are.
 fn take_group(tables: &mut Tables, bytes: &[u8], at: usize, most: usize) -> Option<usize>
     requires { at ≤ length bytes.now }
     ensures taken { IfSome result (TakesGroup tables.old bytes.now at tables.old.locals.items tables.new.locals.items) }
@@ -241,17 +252,25 @@ fn take_group(tables: &mut Tables, bytes: &[u8], at: usize, most: usize) -> Opti
     if held > most || count as usize > most - held {
         return None;
     }
-    if !has_default(code) || !put_times(&mut tables.locals, count, code) {
+    if !put_times(&mut tables.locals, count, code) {
         return None;
     }
     Some(end)
 }
 
-// Whether a local of the type with this code has a value from the start.
-fn has_default(code: u32) -> bool
-    ensures { result ≡ true → HasDefault code }
+// How many locals from the first on have values from the start: so many parameters, and those behind them up to one of references that are never
+// null.
+fn certain_of(locals: &[u32], params: usize) -> usize
+    ensures { (x : ℕ) → x < length locals.now → x < result → (x < params) ⊎ HasDefault (get_or locals.now x 0) }
 {
-    code < 8 || code % 2 == 0
+    let mut certain = params;
+    while certain < locals.len() {
+        if !has_default(locals[certain]) {
+            return certain;
+        }
+        certain += 1;
+    }
+    certain
 }
 
 // Puts so many of one code behind the others.

@@ -1,6 +1,6 @@
 //! The loop.
 
-ghost use Rattle.std.specs.Prelude.{◌≡◌, ◌<◌, ◌≤◌, ◌+◌, ◌∷◌, ℕ, List, true, length, drop, IfSome, None};
+ghost use Rattle.std.specs.Prelude.{◌≡◌, ◌<◌, ◌≤◌, ◌+◌, ◌∷◌, ℕ, List, true, length, drop, take, IfSome, None};
 ghost use Rattle.wasm_types.specs.settings.Settings.{Settings};
 ghost use Rattle.wasm_types.specs.trees.Trees.{TypeTree};
 ghost use Rattle.wasm_operators_encoding.specs.expressions.Code.{Code};
@@ -38,6 +38,7 @@ use wasm_operator_validator_fast_steps::calls::{
     call, call_indirect, call_ref, return_call, return_call_indirect, return_call_ref,
 };
 use wasm_operator_validator_fast_steps::constants::{f32_const, f64_const, i32_const, i64_const};
+use wasm_operator_validator_fast_steps::late::{late_get, late_set, late_tee};
 use wasm_operator_validator_fast_steps::memory::{
     data_drop, load, memory_copy, memory_fill, memory_grow, memory_init, memory_size, store,
 };
@@ -62,7 +63,7 @@ fn next(
     opens: &mut Opens,
 ) -> Option<usize>
     requires more { at + 1 < length bytes.now }
-    requires locals { locals.now ≡ tables.now.locals.items }
+    requires locals { locals.now ≡ take tables.now.certain tables.now.locals.items }
     ensures leads { IfSome result (λ end. Leads bytes.now tables.now at (all opens.old) stack.old
         end (all opens.new) stack.new) }
     ensures forward { IfSome result (λ end. at < end) }
@@ -87,9 +88,18 @@ fn next(
         Class::ReturnCallIndirect => return_call_indirect(tables, bytes, at, stack, opens),
         Class::Drop => drop_top(tables, bytes, at, stack, opens),
         Class::Select => select(tables, bytes, at, stack, opens),
-        Class::LocalGet => local_get(tables, locals, bytes, at, stack, opens),
-        Class::LocalSet => local_set(tables, locals, bytes, at, stack, opens),
-        Class::LocalTee => local_tee(tables, locals, bytes, at, stack, opens),
+        Class::LocalGet => match local_get(tables, locals, bytes, at, stack, opens) {
+            Some(end) => Some(end),
+            None => away(tables, bytes, at, stack, opens),
+        },
+        Class::LocalSet => match local_set(tables, locals, bytes, at, stack, opens) {
+            Some(end) => Some(end),
+            None => away(tables, bytes, at, stack, opens),
+        },
+        Class::LocalTee => match local_tee(tables, locals, bytes, at, stack, opens) {
+            Some(end) => Some(end),
+            None => away(tables, bytes, at, stack, opens),
+        },
         Class::GlobalGet => global_get(tables, bytes, at, stack, opens),
         Class::GlobalSet => global_set(tables, bytes, at, stack, opens),
         Class::MemorySize => memory_size(tables, bytes, at, stack, opens),
@@ -129,7 +139,7 @@ fn away(
     end
 }
 
-/// Takes an operator on references, objects, exceptions, tables or segments, or an atomic one.
+/// Takes an operator on references, objects, exceptions, tables or segments, on locals that may have no value, or an atomic one.
 #[inline(never)]
 fn referring(
     tables: &Tables,
@@ -152,6 +162,9 @@ fn referring(
         0x15 => return_call_ref(tables, bytes, at, stack, opens),
         0x1c => select_typed(tables, bytes, at, stack, opens),
         0x1f => try_table(tables, bytes, at, stack, opens),
+        0x20 => late_get(tables, bytes, at, stack, opens),
+        0x21 => late_set(tables, bytes, at, stack, opens),
+        0x22 => late_tee(tables, bytes, at, stack, opens),
         0x25 => table_get(tables, bytes, at, stack, opens),
         0x26 => table_set(tables, bytes, at, stack, opens),
         0xd0 => ref_null(tables, bytes, at, stack, opens),
@@ -298,7 +311,7 @@ fn step(
     opens: &mut Opens,
 ) -> usize
     requires more { at + 1 < length bytes.now }
-    requires locals { locals.now ≡ tables.now.locals.items }
+    requires locals { locals.now ≡ take tables.now.certain tables.now.locals.items }
     ensures leads { result < length bytes.now → Leads bytes.now tables.now at (all opens.old) stack.old
         result (all opens.new) stack.new }
     ensures forward { at < result }
@@ -317,11 +330,11 @@ fn run(tables: &Tables, bytes: &[u8], start: usize, stack: &mut Stack, opens: &m
     ensures { result ≡ true → (ids : List TypeTree) (z : Settings) (g : Context) → Fits ids z bytes.now tables.now g
         → Goes ids z bytes.now tables.now g start (all opens.old) stack.old }
 {
-    if bytes.len() == 0 {
+    if bytes.len() == 0 || tables.certain > tables.locals.as_slice().len() {
         return false;
     }
     let last = bytes.len() - 1;
-    let locals = tables.locals.as_slice();
+    let locals = &tables.locals.as_slice()[..tables.certain];
     let mut at = start;
     while at < last {
         at = step(tables, locals, bytes, at, stack, opens);
@@ -337,6 +350,7 @@ fn body_frame(results: Sig) -> Open
     Open {
         kind: FrameKind::Block,
         base: 0,
+        set: 0,
         sig: Sig {
             params: 0,
             param_count: 0,

@@ -180,17 +180,6 @@ pub written_is : (p : Place) (t : ValueType) → p.mutable ≡ true → unpacked
 written_is p t may e =
     ap (λ (b : Bool). provided b ((p.reached_by ++ unpacked p.storage ∷ []) ⟶ [])) may ∙ ap (λ (k : ValueType). Some ((p.reached_by ++ k ∷ []) ⟶ [])) e
 
--- numbers have defaults, and references that may be null
-pub number_default : (code : ℕ) → code < 8 → HasDefault code
-number_default code low ids = rw (lt-ltb code 8 low) refl
-
-default_either : (low null : Bool) (k : Number) (h : HeapOf TypeTree) → null ≡ true → defaultable (if low then number k else ref null h) ≡ true
-default_either true null k h e = refl
-default_either false null k h e = e
-
-pub null_default : (code : ℕ) → (code % 2 == 0) ≡ true → HasDefault code
-null_default code even ids = default_either (nat_lt code 8) (code % 2 == 0) (number_of code) (heap_of ids ((code - 8) / 2)) even
-
 -- without descriptors, what is made is of the type
 pub allocated_is : (g : Context) (k : TypeTree) → has CustomDescriptors g.bits ≡ false → allocated g k ≡ ref false (concrete k)
 allocated_is g k off = rw off refl

@@ -75,7 +75,7 @@ module _ (t : Tables) (text : List ℕ) (i e : ℕ) (o : Open) (outer : List Ope
         operands ids m.0,
         (
           of_feature c.bits p proposals.ReferenceTypes feature.ReferenceTypes fits.allows refl (fits.references on).reference_types refl,
-          (x, h.means ids c.bits c.«module» fits.knows fits.allows fits.references, uses here _ fits.unshared, (refl, refl)),
+          (x, h.means ids c.bits c.«module» fits.knows fits.allows fits.references fits.vectors, uses here _ fits.unshared, (refl, refl)),
         ),
         same_below _ _ (on_stack ids (code ∷ code ∷ 0 ∷ []) m.0),
         on_stack ids (code ∷ []) m.0,

@@ -235,16 +235,6 @@ pub fn struct_new(
     Some(end)
 }
 
-/// Whether values of the type that a code stands for have a default.
-pub(crate) fn has_default(code: u32) -> bool
-    ensures { result ≡ true → HasDefault code }
-{
-    if code < 8 {
-        return true;
-    }
-    code % 2 == 0
-}
-
 // Whether all fields have defaults.
 fn have_defaults(fields: &[Field]) -> bool
     ensures { result ≡ true → HaveDefaults fields.now }

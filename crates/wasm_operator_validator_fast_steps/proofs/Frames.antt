@@ -1,6 +1,7 @@
 -- Frames that begin and end, and whole bodies.
-use Rattle.std.proofs.Common.{map, ◌⊎◌, inl, inr, ◌<◌, lt-ltb, get_or, ◌≡◌, ◌∙◌, ℕ, ◌+◌, List, [], ◌∷◌, ◌++◌, Bool, true, false, Some, refl, arith, sym, ap, subst, append-nil, length, drop, reverse, slice_get, nat_lt}
+use Rattle.std.proofs.Common.{map, ◌⊎◌, inl, inr, ◌<◌, lt-ltb, get_or, ◌≡◌, ◌∙◌, ℕ, ◌+◌, ◌-◌, List, [], ◌∷◌, ◌++◌, Bool, true, false, Some, refl, arith, sym, ap, subst, append-nil, length, drop, reverse, slice_get, nat_lt}
 use Rattle.std.proofs.lemmas.List.{map-append}
+use Rattle.std.proofs.lemmas.Nat.Bits.{bit_at-zero}
 use Rattle.std.proofs.lemmas.Grind.{common_steps}
 use Rattle.std.specs.Prelude.{if◌then◌else◌}
 use Rattle.wasm_types.specs.settings.Settings.{Settings}
@@ -32,7 +33,7 @@ use Rattle.wasm_operator_validator_fast_tables.specs.declared.tables.Tables.{Tab
 use Rattle.wasm_operator_validator_fast_tables.specs.Stacks.{Values, lying, with_all}
 use Rattle.wasm_operator_validator_fast_tables.specs.Values.{type_of, types, operands}
 use Rattle.wasm_operator_validator_fast_tables.specs.Tables.{params_in, results_in, signature_in, label_in, Fits, HasDefault, BeginSet}
-use Rattle.wasm_operator_validator_fast_tables.specs.Loop.{outermost, Full, inside_all, label, Closes, Goes, Leads, Enters, Leaves}
+use Rattle.wasm_operator_validator_fast_tables.specs.Loop.{outermost, HasValue, Full, set_before, inside_all, label, Closes, Goes, Leads, Enters, Leaves}
 use Rattle.wasm_operator_validator_fast_steps.proofs.Stepping.{Stands, stood, step}
 use Rattle.wasm_operator_validator_fast_steps.proofs.Rows.{on_stack, same_below}
 
@@ -45,13 +46,13 @@ module _ (t : Tables) (text : List ℕ) (i e : ℕ) (o : Open) (outer : List Ope
   -- the operators of the frame, and then those behind it
   pub opened : (ids : List TypeTree) (p : Op) (n : Open) (ts under : List ℕ) → role_of p ≡ Opens n.kind → entry_of n.kind (signature_in ids t.known.flat.items n.sig) ≡ types ids ts
       → (c : Context) → HasType c (block_type_of p) (signature_in ids t.known.flat.items n.sig) → MayNest (inside_all ids c t.known.flat.items (o ∷ outer)) p
-      → (os : List Op) → Closes ids t c (n ∷ o ∷ outer) (with_all (params_in t.known.flat.items n.sig) ([], under)) os
+      → n.set ≡ o.set → (os : List Op) → Closes ids t c (n ∷ o ∷ outer) (with_all (params_in t.known.flat.items n.sig) ([], under)) os
       → Closes ids t c (o ∷ outer) (with_all ts (lying n.base under)) (p ∷ os)
-  opened ids p n ts under is entry c typed nests os h set before full whole =
+  opened ids p n ts under is entry c typed nests same os h set before full whole =
       let g = inside_all ids c t.known.flat.items (o ∷ outer) in
       let b = signature_in ids t.known.flat.items n.sig in
       let r = (lying n.base under).0 in
-      let (code, rest, inner, walked, body, k) = h set set full full in
+      let (code, rest, inner, walked, body, k) = h set set (subst (λ (b : ℕ). Full t b set) (sym same) full) full in
       (in_open g (record { kind = o.kind; block = signature_in ids t.known.flat.items o.sig; before = before }) set (operands ids (reverse ts ++ r)) p n.kind os
       (λ later. Closes ids t c outer (with_all (results o) (lying o.base (lying n.base under).1)) later) is).1 (
         b,
@@ -77,7 +78,7 @@ module _ (t : Tables) (text : List ℕ) (i e : ℕ) (o : Open) (outer : List Ope
       → v ≡ with_all ts (lying n.base h.under) → Leads text t i (o ∷ outer) v e (n ∷ others) w
   took_opener k s p ts stands is entry typed nests m n others h there ids z c fits =
       step ids z text t c i e (o ∷ outer) (n ∷ others) v w fits p stands
-      (λ os x. rw there (opened ids p n ts h.under (is ∙ ap Opens (sym h.kind)) (rw (h.kind, h.sig) (entry ids)) c (rw h.sig (typed ids z c fits)) (nests ids z c fits) os
+      (λ os x. rw there (opened ids p n ts h.under (is ∙ ap Opens (sym h.kind)) (rw (h.kind, h.sig) (entry ids)) c (rw h.sig (typed ids z c fits)) (nests ids z c fits) h.set os
       (rw (h.frames, h.begun) at x)))
 
   -- an opener by its byte and its block type
@@ -113,7 +114,7 @@ module _ (t : Tables) (text : List ℕ) (i e : ℕ) (o : Open) (outer : List Ope
   single_stands p told behind = rw (← behind) (stood t.features.0 text i (i + 1) p told)
 
   abbrev pub second_part : Open
-  second_part = record { kind = frames.Else; base = o.base; sig = o.sig }
+  second_part = record { kind = frames.Else; base = o.base; set = set_before outer; sig = o.sig }
 
   turned : (ids : List TypeTree) → o.kind ≡ frames.If → (c : Context) → (m : Values) → m.0 ≡ [] → (os : List Op) → Closes ids t c (second_part ∷ outer) (with_all (params_in t.known.flat.items o.sig) m) os
       → Closes ids t c (o ∷ outer) (with_all (results o) m) ((else) ∷ os)
@@ -193,13 +194,14 @@ module _ (flat : List ℕ) (s : Sig) (params : s.param_count ≡ 0) (gives : s.r
   bare_closes ids frames.LegacyCatchAll = tt
 
 module _ (flat : List ℕ) (v w : Values) where
-  pub entered_bare : (k : FrameKind) (s : Sig) (o : Open) (outer : List Open) (n : Open) (others : List Open) → s.param_count ≡ 0 → n.kind ≡ k → n.sig ≡ s → others ≡ o ∷ outer
+  pub entered_bare : (k : FrameKind) (s : Sig) (o : Open) (outer : List Open) (n : Open) (others : List Open) → s.param_count ≡ 0 → n.kind ≡ k → n.sig ≡ s → n.set ≡ o.set → others ≡ o ∷ outer
       → lying n.base w.1 ≡ v → w.0 ≡ [] → Enters flat k s v w o outer n others
-  entered_bare k s o outer n others zero kind sig frames under own =
+  entered_bare k s o outer n others zero kind sig set frames under own =
       let none : params_in flat n.sig ≡ [] = rw (sig, zero) refl in
       record {
         kind = kind;
         sig = sig;
+        set = set;
         frames = frames;
         under = w.1;
         params = rw none (sym under);
@@ -218,13 +220,14 @@ module _ (flat : List ℕ) (v w : Values) where
 
 -- a frame begins on its parameters, and one ends with its results
 module _ (flat : List ℕ) (xs : List ℕ) (m b w : Values) where
-  pub entered_with : (k : FrameKind) (s : Sig) (o : Open) (outer : List Open) (n : Open) (others : List Open) → n.kind ≡ k → n.sig ≡ s → others ≡ o ∷ outer
+  pub entered_with : (k : FrameKind) (s : Sig) (o : Open) (outer : List Open) (n : Open) (others : List Open) → n.kind ≡ k → n.sig ≡ s → n.set ≡ o.set → others ≡ o ∷ outer
       → xs ≡ params_in flat s → lying n.base b.1 ≡ m → b.0 ≡ [] → w ≡ with_all xs b → Enters flat k s (with_all xs m) w o outer n others
-  entered_with k s o outer n others kind sig frames is under own put =
+  entered_with k s o outer n others kind sig set frames is under own put =
       let same : xs ≡ params_in flat n.sig = is ∙ sym (ap (params_in flat) sig) in
       record {
         kind = kind;
         sig = sig;
+        set = set;
         frames = frames;
         under = b.1;
         params = ap (λ (ys : List ℕ). with_all ys m) same ∙ ap (with_all (params_in flat n.sig)) (sym under);
@@ -243,16 +246,21 @@ module _ (flat : List ℕ) (xs : List ℕ) (m b w : Values) where
 -- ---- whole bodies
 
 all_set : (ids : List TypeTree) (z : Settings) (text : List ℕ) (t : Tables) (g : Context) → Fits ids z text t g → (params : ℕ) → BeginSet t params
-    → Full t (initialised_at_first params g.locals)
-all_set ids z text t g fits params begun x lt = rw (fits.locals x lt) (either (begun x lt))
+    → Full t 0 (initialised_at_first params g.locals)
+all_set ids z text t g fits params begun x lt has = rw (fits.locals x lt) (value has)
   where
+    any : (b : Bool) → (if b then true else true) ≡ true
+    any true = refl
+    any false = refl
+
     either : (x < params) ⊎ HasDefault (get_or t.locals.items x 0) → (if nat_lt x params then true else defaultable (type_of ids (get_or t.locals.items x 0))) ≡ true
     either (inl few) = rw (lt-ltb x params few) refl
     either (inr default) = rw (default ids) (any (nat_lt x params))
-      where
-        any : (b : Bool) → (if b then true else true) ≡ true
-        any true = refl
-        any false = refl
+
+    value : HasValue t 0 x → (if nat_lt x params then true else defaultable (type_of ids (get_or t.locals.items x 0))) ≡ true
+    value (inl sure) = either (begun x lt sure)
+    value (inr (inl default)) = either (inr default)
+    value (inr (inr bit)) = let none = bit_at-zero (x - t.certain) in absurd (omega (arith, bit, none))
 
 pub whole_body : (t : Tables) (text : List ℕ) (start : ℕ) (v : Values) → v.0 ≡ [] → (ids : List TypeTree) (z : Settings) (g : Context) → Fits ids z text t g
     → Goes ids z text t g start (outermost t.results ∷ []) v → (params : ℕ) → BeginSet t params

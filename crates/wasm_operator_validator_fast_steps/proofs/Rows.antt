@@ -53,7 +53,7 @@ use Rattle.wasm_operator_validator_fast_tables.specs.declared.tables.Tables.{Tab
 use Rattle.wasm_operator_validator_fast_tables.specs.Stacks.{Values, with_all}
 use Rattle.wasm_operator_validator_fast_tables.specs.Values.{number_of, type_of, types, operands, address_of, AreBelow}
 use Rattle.wasm_operator_validator_fast_tables.specs.Tables.{no_code, params_in, results_in, signature_in, label_in, Fits, Reaches, CallsThrough, ReturnsBy}
-use Rattle.wasm_operator_validator_fast_tables.specs.Loop.{label, Full, inside_all, Leads}
+use Rattle.wasm_operator_validator_fast_tables.specs.Loop.{label, HasValue, Full, inside_all, Leads}
 use Rattle.wasm_operator_validator_fast_steps.specs.Shapes.{IsNumberAt, IsAccessAt, IsArgumentAt}
 use Rattle.wasm_operator_validator_fast_steps.specs.Labels.{Takes, AreLabels}
 use Rattle.wasm_operator_validator_fast_steps.proofs.Coded.{first, of_feature}
@@ -90,9 +90,9 @@ may_all g false e = rw e refl
 pub uses : (g : Context) (b : Bool) → g.shared ≡ false → MayUse g b
 uses g b e s = let d : false ≡ true = sym e ∙ s in absurd cc
 
--- a code of a number stands for one
-is_number : (ids : List TypeTree) (k : ℕ) → k < 4 → IsNumber (known (type_of ids k))
-is_number ids k few = rw (lt-ltb k 8 (omega (arith, few))) tt
+-- a code of a number or of a vector stands for one
+is_number : (ids : List TypeTree) (k : ℕ) → k < 8 → IsNumber (known (type_of ids k))
+is_number ids k few = rw (lt-ltb k 8 few) tt
 
 pub some_is : {A : Type 0} (x y : A) → Some x ≡ Some y → x ≡ y
 some_is x y e = cc
@@ -154,7 +154,7 @@ pub not_not : (b : Bool) → not b ≡ false → b ≡ true
 not_not true e = refl
 not_not false e = cc
 
-set_or : (b y : Bool) → y ≡ true → (if b then true else y) ≡ true
+pub set_or : (b y : Bool) → y ≡ true → (if b then true else y) ≡ true
 set_or true y e = refl
 set_or false y e = e
 
@@ -171,16 +171,16 @@ module _ (t : Tables) (text : List ℕ) (i e : ℕ) (o : Open) (outer : List Ope
   Here ids c = inside_all ids c t.known.flat.items (o ∷ outer)
 
   -- whatever it does to the operands of the innermost frame
-  pub took_by : (p : Op) (a b u : List ℕ) → Stands t.features.0 text i e p → role_of p ≡ Plain → ((set : Initialised) → Full t set → Full t (after p set))
+  pub took_by : (p : Op) (a b u : List ℕ) → Stands t.features.0 text i e p → role_of p ≡ Plain → ((set : Initialised) → Full t o.set set → Full t o.set (after p set))
       → v ≡ (a, u) → w ≡ (b, u)
-      → ((ids : List TypeTree) (z : Settings) (c : Context) → Fits ids z text t c → (set : Initialised) → Full t set → Steps (Here ids c) set p (operands ids a) (operands ids b))
+      → ((ids : List TypeTree) (z : Settings) (c : Context) → Fits ids z text t c → (set : Initialised) → Full t o.set set → Steps (Here ids c) set p (operands ids a) (operands ids b))
       → Leads text t i (o ∷ outer) v e (o ∷ outer) w
   took_by p a b u stands is keeps before behind steps ids z c fits =
       step ids z text t c i e (o ∷ outer) (o ∷ outer) v w fits p stands (rw (before, behind) (plain_more ids t c o outer a b u p is keeps (steps ids z c fits)))
 
-  pub took : (p : Op) (ts us r u : List ℕ) → Stands t.features.0 text i e p → role_of p ≡ Plain → ((set : Initialised) → Full t set → Full t (after p set))
+  pub took : (p : Op) (ts us r u : List ℕ) → Stands t.features.0 text i e p → role_of p ≡ Plain → ((set : Initialised) → Full t o.set set → Full t o.set (after p set))
       → v ≡ (reverse ts ++ r, u) → w ≡ (reverse us ++ r, u)
-      → ((ids : List TypeTree) (z : Settings) (c : Context) → Fits ids z text t c → (set : Initialised) → Full t set → Row (Here ids c) set p (all_known (types ids ts)) (all_known (types ids us)))
+      → ((ids : List TypeTree) (z : Settings) (c : Context) → Fits ids z text t c → (set : Initialised) → Full t o.set set → Row (Here ids c) set p (all_known (types ids ts)) (all_known (types ids us)))
       → Leads text t i (o ∷ outer) v e (o ∷ outer) w
   took p ts us r u stands is keeps before behind row =
       took_by p (reverse ts ++ r) (reverse us ++ r) u stands is keeps before behind
@@ -196,20 +196,20 @@ module _ (t : Tables) (text : List ℕ) (i e : ℕ) (o : Open) (outer : List Ope
 
   -- ---- variables
 
-  pub took_local_get : Begins text i 0x20 → (x : ℕ) → GivesAt u32 text (i + 1) x e → x < length t.locals.items → w ≡ (get_or t.locals.items x 0 ∷ v.0, v.1)
+  pub took_local_get : Begins text i 0x20 → (x : ℕ) → GivesAt u32 text (i + 1) x e → x < length t.locals.items → HasValue t o.set x → w ≡ (get_or t.locals.items x 0 ∷ v.0, v.1)
       → Leads text t i (o ∷ outer) v e (o ∷ outer) w
-  took_local_get begins x g lt put =
+  took_local_get begins x g lt has put =
       took (op.Memory (memory.LocalGet x)) [] ((get_or t.locals.items x 0) ∷ []) v.0 v.1
       (stands (op.Memory (memory.LocalGet x)) (told_with t.features.0 text i 32 32 begins refl (op.Memory (memory.LocalGet x)) refl refl _ refl refl refl (Index kind.Locals x) e refl (λ limits. index_of _ _ _ _ kind.Locals x g)))
       refl (λ set full. full) refl put
-      (λ ids z c fits set full. (first c.bits _ fits.allows refl, (type_of ids (get_or t.locals.items x 0), record { local = fits.locals x lt; used = uses (Here ids c) _ fits.unshared }, full x lt, (refl, refl))))
+      (λ ids z c fits set full. (first c.bits _ fits.allows refl, (type_of ids (get_or t.locals.items x 0), record { local = fits.locals x lt; used = uses (Here ids c) _ fits.unshared }, full x lt has, (refl, refl))))
 
   pub took_local_set : Begins text i 0x21 → (x : ℕ) → GivesAt u32 text (i + 1) x e → x < length t.locals.items → v ≡ (get_or t.locals.items x 0 ∷ w.0, w.1)
       → Leads text t i (o ∷ outer) v e (o ∷ outer) w
   took_local_set begins x g lt taken =
       took (op.Memory (memory.LocalSet x)) ((get_or t.locals.items x 0) ∷ []) [] w.0 w.1
       (stands (op.Memory (memory.LocalSet x)) (told_with t.features.0 text i 33 33 begins refl (op.Memory (memory.LocalSet x)) refl refl _ refl refl refl (Index kind.Locals x) e refl (λ limits. index_of _ _ _ _ kind.Locals x g)))
-      refl (λ set full k lt. set_or (x == k) (set k) (full k lt)) taken refl
+      refl (λ set full k lt has. set_or (x == k) (set k) (full k lt has)) taken refl
       (λ ids z c fits set full. (first c.bits _ fits.allows refl, (type_of ids (get_or t.locals.items x 0), record { local = fits.locals x lt; used = uses (Here ids c) _ fits.unshared }, (refl, refl))))
 
   pub took_local_tee : Begins text i 0x22 → (x : ℕ) → GivesAt u32 text (i + 1) x e → x < length t.locals.items → (r : List ℕ) → v ≡ (get_or t.locals.items x 0 ∷ r, v.1) → w ≡ v
@@ -217,7 +217,7 @@ module _ (t : Tables) (text : List ℕ) (i e : ℕ) (o : Open) (outer : List Ope
   took_local_tee begins x g lt r has stays =
       took (op.Memory (memory.LocalTee x)) ((get_or t.locals.items x 0) ∷ []) ((get_or t.locals.items x 0) ∷ []) r v.1
       (stands (op.Memory (memory.LocalTee x)) (told_with t.features.0 text i 34 34 begins refl (op.Memory (memory.LocalTee x)) refl refl _ refl refl refl (Index kind.Locals x) e refl (λ limits. index_of _ _ _ _ kind.Locals x g)))
-      refl (λ set full k lt. set_or (x == k) (set k) (full k lt)) has (stays ∙ has)
+      refl (λ set full k lt has. set_or (x == k) (set k) (full k lt has)) has (stays ∙ has)
       (λ ids z c fits set full. (first c.bits _ fits.allows refl, (type_of ids (get_or t.locals.items x 0), record { local = fits.locals x lt; used = uses (Here ids c) _ fits.unshared }, (refl, refl))))
 
   pub took_global_get : Begins text i 0x23 → (x : ℕ) → GivesAt u32 text (i + 1) x e → (h : Held) → slice_get t.known.globals.items x ≡ Some h → h.ty < no_code → w ≡ (h.ty ∷ v.0, v.1)
@@ -446,7 +446,7 @@ module _ (t : Tables) (text : List ℕ) (i e : ℕ) (o : Open) (outer : List Ope
       refl (λ set full. full) taken refl
       (λ ids z c fits set full. (first c.bits _ fits.allows refl, (known (type_of ids k), refl, refl)))
 
-  pub took_select : Begins text i 0x1b → i + 1 ≡ e → (k : ℕ) (r : List ℕ) → k < 4 → v ≡ (0 ∷ k ∷ w.0, w.1) → w ≡ (k ∷ r, w.1) → Leads text t i (o ∷ outer) v e (o ∷ outer) w
+  pub took_select : Begins text i 0x1b → i + 1 ≡ e → (k : ℕ) (r : List ℕ) → k < 8 → v ≡ (0 ∷ k ∷ w.0, w.1) → w ≡ (k ∷ r, w.1) → Leads text t i (o ∷ outer) v e (o ∷ outer) w
   took_select begins behind k r few taken under =
       let all : (0 ∷ k ∷ w.0, w.1) ≡ (0 ∷ k ∷ k ∷ r, w.1) = ap (λ (x : Values). (0 ∷ k ∷ x.0, w.1)) under in
       took (op.Parametric op.Select) (k ∷ k ∷ 0 ∷ []) (k ∷ []) r w.1
@@ -552,9 +552,9 @@ module _ (t : Tables) (text : List ℕ) (i e : ℕ) (o : Open) (outer : List Ope
   pub popped_all : (ls r : List ℕ) (ids : List TypeTree) → operands ids (reverse ls ++ r) ≡ reverse (reverse (operands ids r) ++ all_known (types ids ls)) ++ []
   popped_all ls r ids = on_stack ids ls r ∙ (let h : stack (types ids ls) ++ operands ids r ≡ reverse (reverse (operands ids r) ++ all_known (types ids ls)) ++ [] = grind (arith, common_steps) in h)
 
-  pub took_away : (p : Op) (a rs u : List ℕ) → Stands t.features.0 text i e p → role_of p ≡ Plain → ((set : Initialised) → Full t set → Full t (after p set))
+  pub took_away : (p : Op) (a rs u : List ℕ) → Stands t.features.0 text i e p → role_of p ≡ Plain → ((set : Initialised) → Full t o.set set → Full t o.set (after p set))
       → v ≡ (a, u) → w ≡ with_all rs ([], u) → (popped : List TypeTree → List Operand) → ((ids : List TypeTree) → operands ids a ≡ reverse (popped ids) ++ [])
-      → ((ids : List TypeTree) (z : Settings) (c : Context) → Fits ids z text t c → (set : Initialised) → Full t set → Row (Here ids c) set p (popped ids) (all_known (types ids rs)))
+      → ((ids : List TypeTree) (z : Settings) (c : Context) → Fits ids z text t c → (set : Initialised) → Full t o.set set → Row (Here ids c) set p (popped ids) (all_known (types ids rs)))
       → Leads text t i (o ∷ outer) v e (o ∷ outer) w
   took_away p a rs u stands is keeps before behind popped all row =
       took_by p a (reverse rs ++ []) u stands is keeps before behind

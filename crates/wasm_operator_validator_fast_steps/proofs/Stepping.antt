@@ -57,10 +57,20 @@ step ids z text t g i j opens others v w fits o stands closes (os, h, c) =
 
 -- one that neither opens nor ends a frame
 pub plain_more : (ids : List TypeTree) (t : Tables) (g : Context) (o : Open) (outer : List Open) (a b u : List ℕ) (p : Op) → role_of p ≡ Plain
-    → ((set : Initialised) → Full t set → Full t (after p set))
-    → ((set : Initialised) → Full t set → Steps (inside_all ids g t.known.flat.items (o ∷ outer)) set p (operands ids a) (operands ids b))
+    → ((set : Initialised) → Full t o.set set → Full t o.set (after p set))
+    → ((set : Initialised) → Full t o.set set → Steps (inside_all ids g t.known.flat.items (o ∷ outer)) set p (operands ids a) (operands ids b))
     → (os : List Op) → Closes ids t g (o ∷ outer) (b, u) os → Closes ids t g (o ∷ outer) (a, u) (p ∷ os)
 plain_more ids t g o outer a b u p is keeps steps os c set before full whole =
+    (in_plain (inside_all ids g t.known.flat.items (o ∷ outer)) (record { kind = o.kind; block = signature_in ids t.known.flat.items o.sig; before = before }) set (operands ids a) p os
+    (λ rest. Closes ids t g outer (with_all (results_in t.known.flat.items o.sig) (lying o.base u)) rest) is).1
+    (operands ids b, steps set full, c (after p set) before (keeps set full) whole)
+
+-- one that gives locals values too, by which the innermost frame has other bits
+pub plain_sets : (ids : List TypeTree) (t : Tables) (g : Context) (o : Open) (n : ℕ) (outer : List Open) (a b u : List ℕ) (p : Op) → role_of p ≡ Plain
+    → ((set : Initialised) → Full t o.set set → Full t n (after p set))
+    → ((set : Initialised) → Full t o.set set → Steps (inside_all ids g t.known.flat.items (o ∷ outer)) set p (operands ids a) (operands ids b))
+    → (os : List Op) → Closes ids t g (record { kind = o.kind; base = o.base; set = n; sig = o.sig } ∷ outer) (b, u) os → Closes ids t g (o ∷ outer) (a, u) (p ∷ os)
+plain_sets ids t g o n outer a b u p is keeps steps os c set before full whole =
     (in_plain (inside_all ids g t.known.flat.items (o ∷ outer)) (record { kind = o.kind; block = signature_in ids t.known.flat.items o.sig; before = before }) set (operands ids a) p os
     (λ rest. Closes ids t g outer (with_all (results_in t.known.flat.items o.sig) (lying o.base u)) rest) is).1
     (operands ids b, steps set full, c (after p set) before (keeps set full) whole)

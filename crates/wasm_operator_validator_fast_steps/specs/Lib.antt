@@ -2,3 +2,4 @@
 pub mod Shapes
 pub mod Labels
 pub mod Unreached
+pub mod Late

@@ -113,7 +113,13 @@ fn enter_bare(kind: FrameKind, sig: Sig, stack: &mut Stack, opens: &mut Opens) -
         opens.old.inner opens.old.outer opens.new.inner opens.new.outer }
 {
     let base = stack.enter();
-    opens.nest(Open { kind, base, sig })
+    let set = opens.inner().set;
+    opens.nest(Open {
+        kind,
+        base,
+        set,
+        sig,
+    })
 }
 
 /// A frame begins.
@@ -142,7 +148,13 @@ pub fn enter(
     if !stack.put_all(params) {
         return false;
     }
-    opens.nest(Open { kind, base, sig })
+    let set = opens.inner().set;
+    opens.nest(Open {
+        kind,
+        base,
+        set,
+        sig,
+    })
 }
 
 /// A block begins.
@@ -272,9 +284,11 @@ pub fn turn(
     {
         return None;
     }
+    let set = opens.set_before();
     opens.turn(Open {
         kind: FrameKind::Else,
         base: frame.base,
+        set,
         sig,
     });
     Some(at + 1)

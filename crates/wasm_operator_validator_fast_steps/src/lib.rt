@@ -11,6 +11,7 @@ pub mod calls;
 pub mod constants;
 pub mod indices;
 mod labels;
+pub mod late;
 pub mod memory;
 pub mod numbers;
 pub mod parametric;

@@ -1,13 +1,13 @@
 //! Locals and globals.
 
-ghost use Rattle.std.specs.Prelude.{◌≡◌, ◌<◌, ◌≤◌, ◌+◌, ◌∷◌, ℕ, List, length, [], IfSome};
+ghost use Rattle.std.specs.Prelude.{◌≡◌, ◌<◌, ◌≤◌, ◌+◌, ◌∷◌, ℕ, List, length, take, [], IfSome};
 ghost use Rattle.wasm_operators_frequent.specs.Short.{Begins};
 ghost use Rattle.wasm_operator_validator_fast_tables.specs.Loop.{Leads, all};
 
 use crate::indices::{index_at, near_index_at};
 use wasm_operator_validator_fast_tables::{NO_CODE, Opens, Stack, Tables};
 
-/// The value of a local.
+/// The value of a local that has one wherever it is read. Others are taken by the steps of [`late`](crate::late).
 #[inline(always)]
 pub fn local_get(
     tables: &Tables,
@@ -19,7 +19,7 @@ pub fn local_get(
 ) -> Option<usize>
     requires begins { Begins bytes.now at 0x20 }
     requires more { at + 1 < length bytes.now }
-    requires locals { locals.now ≡ tables.now.locals.items }
+    requires locals { locals.now ≡ take tables.now.certain tables.now.locals.items }
     ensures leads { IfSome result (λ end. Leads bytes.now tables.now at (all opens.now) stack.old
         end (all opens.now) stack.new) }
     ensures forward { IfSome result (λ end. at < end) }
@@ -47,7 +47,7 @@ pub fn local_set(
 ) -> Option<usize>
     requires begins { Begins bytes.now at 0x21 }
     requires more { at + 1 < length bytes.now }
-    requires locals { locals.now ≡ tables.now.locals.items }
+    requires locals { locals.now ≡ take tables.now.certain tables.now.locals.items }
     ensures leads { IfSome result (λ end. Leads bytes.now tables.now at (all opens.now) stack.old
         end (all opens.now) stack.new) }
     ensures forward { IfSome result (λ end. at < end) }
@@ -75,7 +75,7 @@ pub fn local_tee(
 ) -> Option<usize>
     requires begins { Begins bytes.now at 0x22 }
     requires more { at + 1 < length bytes.now }
-    requires locals { locals.now ≡ tables.now.locals.items }
+    requires locals { locals.now ≡ take tables.now.certain tables.now.locals.items }
     ensures leads { IfSome result (λ end. Leads bytes.now tables.now at (all opens.now) stack.old
         end (all opens.now) stack.new) }
     ensures forward { IfSome result (λ end. at < end) }

@@ -9,3 +9,4 @@ pub mod Defining
 pub mod Lowering
 pub mod Writing
 pub mod Tagging
+pub mod Defaulting

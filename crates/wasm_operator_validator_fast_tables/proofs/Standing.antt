@@ -36,6 +36,10 @@ pub f64_is : (m : Meaning) → type_in m vals.F64 ≡ type_of m.ids 3
 unfolding type_in
 f64_is m = refl
 
+pub v128_is : (m : Meaning) → type_in m vals.V128 ≡ type_of m.ids 4
+unfolding type_in
+v128_is m = refl
+
 pub reference_is : (m : Meaning) (r : Reference) → type_in m (vals.Ref r) ≡ reference_in m r
 unfolding type_in
 reference_is m r = refl

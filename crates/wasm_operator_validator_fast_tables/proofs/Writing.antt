@@ -36,7 +36,7 @@ use Rattle.wasm_operator_validator_fast_tables.specs.declared.tables.Named.{Name
 use Rattle.wasm_operator_validator_fast_tables.specs.declared.tables.Tables.{Tables}
 use Rattle.wasm_operator_validator_fast_tables.specs.Stacks.{part}
 use Rattle.wasm_operator_validator_fast_tables.specs.Values.{type_of, types}
-use Rattle.wasm_operator_validator_fast_tables.specs.Tables.{Allows, AllowsReferences, ArePlaced, IsDefined, IsNamedIn}
+use Rattle.wasm_operator_validator_fast_tables.specs.Tables.{Allows, AllowsReferences, AllowsVectors, ArePlaced, IsDefined, IsNamedIn}
 use Rattle.wasm_operator_validator_fast_tables.specs.Written.{MeansHeap, ArePlacedAt, IsPlacedHeapAt, IsHeapAt, IsAbstractByte, IsTopOf, IsValueAt, IsBlockAt}
 
 -- ---- what is read and what is spelled
@@ -247,7 +247,7 @@ nullable_there text t i code top place e lt is h =
       written = written;
       read = read_at value_type SpelledValue decides-value_type text i e written (0x63 ∷ front) (inl (front, refl, spelled))
           (next_byte text i 0x63 lt is ∙ ap (λ (r : List ℕ). 0x63 ∷ r) whole) (omega (arith, forward)) h.read.inside;
-      means = λ ids bits m knows allows more.
+      means = λ ids bits m knows allows more vectors.
           let w = h.means ids bits m knows (more h.allowed) in
           subst (λ (u : ValueType). IsType bits m written u) (sym w.codes.nullable) (w.type true);
       placed = λ ids m knows. (h.placed ids m knows).first;
@@ -263,7 +263,7 @@ never_null_there text t i code top place e lt is h =
       written = written;
       read = read_at value_type SpelledValue decides-value_type text i e written (0x64 ∷ front) (inl (front, refl, spelled))
           (next_byte text i 0x64 lt is ∙ ap (λ (r : List ℕ). 0x64 ∷ r) whole) (omega (arith, forward)) h.read.inside;
-      means = λ ids bits m knows allows more.
+      means = λ ids bits m knows allows more vectors.
           let w = h.means ids bits m knows (more h.allowed) in
           subst (λ (u : ValueType). IsType bits m written u) (sym w.codes.never_null) (w.type false);
       placed = λ ids m knows. (h.placed ids m knows).second;
@@ -275,19 +275,20 @@ short_there text t i code top lt on a =
     record {
       written = written;
       read = byte_read value_type SpelledValue decides-value_type text i (get_or text i 0) written lt refl (inr a.spelled);
-      means = λ ids bits m knows allows more.
+      means = λ ids bits m knows allows more vectors.
           let w = abstract_means (get_or text i 0) code top a ids bits m (more on) in
           subst (λ (u : ValueType). IsType bits m written u) (sym w.codes.nullable) (w.type true);
       placed = λ ids m knows. (alone_placed t.known.flat.items code a.low knows.alone).first;
     }
 
--- a number, whose code stands for itself
+-- a number or a vector, whose code stands for itself
 pub number_there : (text : List ℕ) (t : Tables) (i b code : ℕ) (written : ValType) → i < length text → get_or text i 0 ≡ b → SpelledValue written (b ∷ []) → code < 40
-    → ((ids : List TypeTree) (bits : ℕ) (m : Module) → Allows bits → IsType bits m written (type_of ids code)) → IsValueAt text t i code code (i + 1)
+    → ((ids : List TypeTree) (bits : ℕ) (m : Module) → Allows bits → (t.vectors ≡ true → AllowsVectors bits) → IsType bits m written (type_of ids code))
+    → IsValueAt text t i code code (i + 1)
 number_there text t i b code written lt is spelled low type = record {
   written = written;
   read = byte_read value_type SpelledValue decides-value_type text i b written lt is spelled;
-  means = λ ids bits m knows allows more. type ids bits m allows;
+  means = λ ids bits m knows allows more vectors. type ids bits m allows vectors;
   placed = λ ids m knows. knows.alone code low;
 }
 
@@ -302,7 +303,7 @@ block_there text t i code place e h =
       read_at block_type SpelledBlock decides-block_type text i e (block.Val h.written) front spelled whole h.read.forward h.read.inside,
       λ ids z g fits. (
         type_of ids code,
-        h.means ids g.bits g.«module» fits.knows fits.allows fits.references,
+        h.means ids g.bits g.«module» fits.knows fits.allows fits.references fits.vectors,
         ap (λ (xs : List ℕ). record { params = []; results = types ids xs }) (h.placed ids g.«module» fits.knows),
       ),
     )

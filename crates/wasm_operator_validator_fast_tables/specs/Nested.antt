@@ -9,7 +9,7 @@ pub record Nested : Type 0 where
   pub outer : List Open
 
 abbrev pub no_frame : Open
-no_frame = record { kind = frames.Block; base = 0; sig = record { params = 0; param_count = 0; results = 0; result_count = 0 } }
+no_frame = record { kind = frames.Block; base = 0; set = 0; sig = record { params = 0; param_count = 0; results = 0; result_count = 0 } }
 
 -- the first of some frames is the innermost
 abbrev pub nested : List Open → Nested

@@ -3,7 +3,7 @@ use Rattle.std.specs.Prelude.{◌≡◌, ◌≤◌, ◌<◌, ◌+◌, ◌*◌, �
 use Rattle.wasm_types.specs.settings.declared.Limits.{Limits}
 use Rattle.wasm_types.specs.settings.Settings.{Settings}
 use Rattle.wasm_types.specs.externs.declared.memory.MemoryType.{MemoryType}
-use Rattle.wasm_types.specs.settings.Features.{Floats, MultiValue, SignExtension, SaturatingFloatToInt, BulkMemoryOpt}
+use Rattle.wasm_types.specs.settings.Features.{Floats, MultiValue, SignExtension, SaturatingFloatToInt, BulkMemoryOpt, Simd, judges_vectors}
 use Rattle.wasm_types.specs.settings.Features.{ReferenceTypes, FunctionReferences, Gc, GcTypes, Exceptions, CustomDescriptors, has}
 use Rattle.wasm_types.specs.trees.Types.{ref, abstract, concrete, func, FieldOf, InnerOf, function, struct_of, array_of}
 use Rattle.wasm_types.specs.trees.Trees.{TypeTree, opened}
@@ -166,6 +166,11 @@ pub record AllowsReferences (bits : ℕ) : Type 0 where
   pub exceptions : Has bits Exceptions
   pub no_descriptors : has CustomDescriptors bits ≡ false
 
+-- the feature that vectors ask besides, and the switch of operators on them
+pub record AllowsVectors (bits : ℕ) : Type 0 where
+  pub simd : Has bits Simd
+  pub judged : judges_vectors bits ≡ true
+
 -- limits within which operators may carry lists: the clauses of a `try_table` and the type of a `select`
 pub record AllowsLists (limits : Limits) : Type 0 where
   pub catches : 100 ≤ limits.catches
@@ -179,6 +184,7 @@ pub record Fits (ids : List TypeTree) (z : Settings) (text : List ℕ) (t : Tabl
   pub allows : Allows g.bits
   pub references : t.references ≡ true → AllowsReferences g.bits
   pub limits : t.references ≡ true → AllowsLists z.limits
+  pub vectors : t.vectors ≡ true → AllowsVectors g.bits
   pub knows : Knows ids g.«module» t.known
   pub locals : (x : ℕ) → x < length t.locals.items → slice_get g.locals x ≡ Some (type_of ids (get_or t.locals.items x 0))
   pub results : g.results ≡ types ids (results_in t.known.flat.items t.results)
@@ -188,9 +194,9 @@ pub record Fits (ids : List TypeTree) (z : Settings) (text : List ℕ) (t : Tabl
 abbrev pub HasDefault : ℕ → Type 0
 HasDefault code = (ids : List TypeTree) → defaultable (type_of ids code) ≡ true
 
--- so do the locals, except the first so many, which the caller gives
+-- so do the first locals, except so many, which the caller gives
 abbrev pub BeginSet : Tables → ℕ → Type 0
-BeginSet t params = (x : ℕ) → x < length t.locals.items → (x < params) ⊎ HasDefault (get_or t.locals.items x 0)
+BeginSet t params = (x : ℕ) → x < length t.locals.items → x < t.certain → (x < params) ⊎ HasDefault (get_or t.locals.items x 0)
 
 -- ---- calls through tables
 

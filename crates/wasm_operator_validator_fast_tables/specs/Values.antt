@@ -1,7 +1,7 @@
--- Types as codes of 32 bits: 0 to 3 for numbers; from 8 on two for each heap type, the first of references that may be null. Abstract heap
+-- Types as codes of 32 bits: 0 to 3 for numbers, 4 for vectors; from 8 on two for each heap type, the first of references that may be null. Abstract heap
 -- types come first, and from 40 on those behind the ids of the validator (WebAssembly 3.0, structure, value types).
 use Rattle.std.specs.Prelude.{◌≡◌, ◌-◌, ◌/◌, ◌%◌, ◌==◌, ℕ, Bool, true, false, List, map, nat_lt, slice_get, Some, if◌then◌else◌}
-use Rattle.wasm_types.specs.trees.Types.{Number, i32, i64, f32, f64, Abstract, func, extern, any, none, noextern, nofunc, eq, struct, array, i31, exn, noexn}
+use Rattle.wasm_types.specs.trees.Types.{Number, i32, i64, f32, f64, v128, Abstract, func, extern, any, none, noextern, nofunc, eq, struct, array, i31, exn, noexn}
 use Rattle.wasm_types.specs.trees.Types.{HeapOf, abstract, concrete, number, ref}
 use Rattle.wasm_types.specs.trees.Trees.{TypeTree}
 use Rattle.wasm_types.specs.trees.Below.{HeapBelow}
@@ -13,7 +13,7 @@ use Rattle.wasm_operator_validator_fast_tables.specs.Stacks.{Values}
 -- ---- what a code stands for, by the types behind the ids
 
 abbrev pub number_of : ℕ → Number
-number_of n = if n == 0 then i32 else if n == 1 then i64 else if n == 2 then f32 else f64
+number_of n = if n == 0 then i32 else if n == 1 then i64 else if n == 2 then f32 else if n == 3 then f64 else v128
 
 abbrev pub abstract_of : ℕ → Abstract
 abstract_of n =

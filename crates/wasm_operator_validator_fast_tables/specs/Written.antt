@@ -25,7 +25,7 @@ use Rattle.wasm_operator_validator_fast_tables.specs.declared.tables.Sig.{Sig}
 use Rattle.wasm_operator_validator_fast_tables.specs.declared.tables.Tables.{Tables}
 use Rattle.wasm_operator_validator_fast_tables.specs.Stacks.{part}
 use Rattle.wasm_operator_validator_fast_tables.specs.Values.{type_of}
-use Rattle.wasm_operator_validator_fast_tables.specs.Tables.{no_code, Allows, AllowsReferences, Fits, IsDefined, Knows, signature_in}
+use Rattle.wasm_operator_validator_fast_tables.specs.Tables.{no_code, Allows, AllowsReferences, AllowsVectors, Fits, IsDefined, Knows, signature_in}
 
 -- ---- heap types
 
@@ -99,7 +99,7 @@ pub record IsValueAt (text : List ℕ) (t : Tables) (i code place j : ℕ) : Typ
   pub written : ValType
   pub read : GivesAt value_type text i written j
   pub means : (ids : List TypeTree) (bits : ℕ) (m : Module) → Knows ids m t.known → Allows bits → (t.references ≡ true → AllowsReferences bits)
-      → IsType bits m written (type_of ids code)
+      → (t.vectors ≡ true → AllowsVectors bits) → IsType bits m written (type_of ids code)
   pub placed : (ids : List TypeTree) (m : Module) → Knows ids m t.known → part place 1 t.known.flat.items ≡ code ∷ []
 
 -- ---- block types

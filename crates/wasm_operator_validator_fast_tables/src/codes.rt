@@ -1,13 +1,16 @@
-//! Types as codes: 0 to 3 for numbers, and from 8 on two for each heap type, the first of references that may be null.
+//! Types as codes: 0 to 3 for numbers, 4 for vectors, and from 8 on two for each heap type, the first of references that may be null.
 
-ghost use Rattle.std.specs.Prelude.{◌≡◌, ◌<◌, ◌==◌, IfSome};
+ghost use Rattle.std.specs.Prelude.{◌≡◌, ◌<◌, ◌==◌, true, IfSome};
 ghost use Rattle.wasm_types.specs.values.Trees.{abstract_of as tree_of};
 ghost use Rattle.wasm_operator_validator_state.specs.resources.Meaning.{Meaning, type_in, reference_in};
 ghost use Rattle.wasm_operator_validator_fast_tables.specs.Values.{abstract_of, type_of};
-ghost use Rattle.wasm_operator_validator_fast_tables.specs.Tables.{no_code};
+ghost use Rattle.wasm_operator_validator_fast_tables.specs.Tables.{no_code, HasDefault};
 
 use crate::tables::NO_CODE;
 use wasm_types::{AbstractHeapType, HeapType, RefType, UnpackedIndex, ValType};
+
+/// Vectors of 128 bits.
+pub const VECTOR: u32 = 4;
 
 /// Where the codes of defined types begin.
 pub const DEFINED: u32 = 40;
@@ -94,7 +97,17 @@ pub fn code_of(ty: &ValType) -> u32
         ValType::I64 => 1,
         ValType::F32 => 2,
         ValType::F64 => 3,
-        ValType::V128 => NO_CODE,
+        ValType::V128 => VECTOR,
         ValType::Ref(ty) => code_of_reference(*ty),
     }
+}
+
+/// Whether values of the type that a code stands for have a default.
+pub fn has_default(code: u32) -> bool
+    ensures { result ≡ true → HasDefault code }
+{
+    if code < 8 {
+        return true;
+    }
+    code % 2 == 0
 }

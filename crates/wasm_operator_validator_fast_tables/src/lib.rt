@@ -21,7 +21,9 @@ mod tables;
 mod tags;
 mod written;
 
-pub use codes::{ANY, ARRAY, DEFINED, EQ, EXN, EXTERN, FUNC, I31, code_of, code_of_reference};
+pub use codes::{
+    ANY, ARRAY, DEFINED, EQ, EXN, EXTERN, FUNC, I31, VECTOR, code_of, code_of_reference, has_default,
+};
 pub use known::known_of;
 pub use lookups::{frame_at, inner_results, is_bare, label, part};
 pub use opens::Opens;

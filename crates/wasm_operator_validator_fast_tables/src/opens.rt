@@ -1,6 +1,7 @@
 //! The open frames of a body.
 
 ghost use Rattle.std.specs.Prelude.{◌≡◌, ◌∷◌, [], true, IfSome, Some, slice_get};
+ghost use Rattle.wasm_operator_validator_fast_tables.specs.Loop.{set_before};
 
 use crate::pile::Pile;
 use crate::tables::Open;
@@ -57,6 +58,17 @@ impl Opens {
             return None;
         }
         Some(self.frames.under(depth))
+    }
+
+    /// The locals that had values where the innermost began.
+    #[inline(always)]
+    pub fn set_before(&self) -> u64
+        ensures { result ≡ set_before self.now.outer }
+    {
+        if self.frames.len() <= 1 {
+            return 0;
+        }
+        self.frames.under(1).set
     }
 
     /// Whether the innermost is the only one.

@@ -114,14 +114,14 @@ impl Stack {
     /// Takes a condition off, and one of two operands of one type under it.
     #[inline(always)]
     pub fn choose(&mut self) -> bool
-        ensures { result ≡ true → (t : ℕ) × (t < 4) × (self.old ≡ (0 ∷ t ∷ self.new.0, self.new.1))
+        ensures { result ≡ true → (t : ℕ) × (t < 8) × (self.old ≡ (0 ∷ t ∷ self.new.0, self.new.1))
             × ((rest : List ℕ) × (self.new ≡ (t ∷ rest, self.new.1))) }
     {
         if !self.take(0) || self.items.len() <= self.base {
             return false;
         }
         let top = self.items.under(0);
-        top < 4 && self.take(top) && self.has(top)
+        top < 8 && self.take(top) && self.has(top)
     }
 
     /// The type of the operand on top.

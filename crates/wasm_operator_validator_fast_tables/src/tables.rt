@@ -83,21 +83,26 @@ pub struct Known {
     pub table: u32,
 }
 
-/// What one body asks: its module, its locals as codes, the results of its function, the features that it is read by, and whether these have
-/// references.
+/// What one body asks: its module, its locals as codes, how many of them from the first on have values wherever they are read, the results of
+/// its function, the features that it is read by, whether these have references, and whether they have vectors and operators on these are
+/// judged.
 #[derive(Drop)]
 pub struct Tables {
     pub known: Known,
     pub locals: Vec<u32>,
+    pub certain: usize,
     pub results: Sig,
     pub features: WasmFeatures,
     pub references: bool,
+    pub vectors: bool,
 }
 
-/// An open frame, and how many operands lie under the frame around it.
+/// An open frame, how many operands lie under the frame around it, and which locals have values there, a bit each: of 64 from the first on that
+/// has none from the start.
 #[derive(Clone, Copy)]
 pub struct Open {
     pub kind: FrameKind,
     pub base: usize,
+    pub set: u64,
     pub sig: Sig,
 }

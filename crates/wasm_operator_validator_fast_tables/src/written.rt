@@ -4,7 +4,7 @@ ghost use Rattle.std.specs.Prelude.{◌≡◌, ◌<◌, length, get_or, true, If
 ghost use Rattle.wasm_types.specs.values.Decode.{begins_index};
 ghost use Rattle.wasm_operator_validator_fast_tables.specs.Written.{IsHeapAt, IsPlacedHeapAt, IsAbstractByte, IsTopOf, IsValueAt};
 
-use crate::codes::{ANY, DEFINED, EXN, EXTERN, FUNC};
+use crate::codes::{ANY, DEFINED, EXN, EXTERN, FUNC, VECTOR};
 use crate::tables::{Defined, NO_CODE, Tables};
 use wasm_types_decoding::short_s33_at;
 
@@ -111,7 +111,6 @@ pub fn heap_at(tables: &Tables, bytes: &[u8], at: usize) -> Option<(u32, u32, us
 }
 
 // A reference type: its code, the place of its code, and the offset behind it.
-#[inline(never)]
 fn reference_at(tables: &Tables, bytes: &[u8], at: usize) -> Option<(u32, u32, usize)>
     requires { at < length bytes.now }
     ensures { IfSome result (λ r. IsValueAt bytes.now tables.now at r.0 r.1 r.2) }
@@ -138,6 +137,21 @@ fn reference_at(tables: &Tables, bytes: &[u8], at: usize) -> Option<(u32, u32, u
     Some((code, code, at + 1))
 }
 
+// A type of vectors or of references: its code, the place of its code, and the offset behind it.
+#[inline(never)]
+fn other_at(tables: &Tables, bytes: &[u8], at: usize) -> Option<(u32, u32, usize)>
+    requires { at < length bytes.now }
+    ensures { IfSome result (λ r. IsValueAt bytes.now tables.now at r.0 r.1 r.2) }
+{
+    if bytes[at] != 0x7b {
+        return reference_at(tables, bytes, at);
+    }
+    if !tables.vectors {
+        return None;
+    }
+    Some((VECTOR, VECTOR, at + 1))
+}
+
 /// A value type: its code, the place of its code, and the offset behind it.
 #[inline(always)]
 pub fn value_at(tables: &Tables, bytes: &[u8], at: usize) -> Option<(u32, u32, usize)>
@@ -151,6 +165,6 @@ pub fn value_at(tables: &Tables, bytes: &[u8], at: usize) -> Option<(u32, u32, u
         0x7e => Some((1, 1, at + 1)),
         0x7d => Some((2, 2, at + 1)),
         0x7c => Some((3, 3, at + 1)),
-        _ => reference_at(tables, bytes, at),
+        _ => other_at(tables, bytes, at),
     }
 }

@@ -4,5 +4,5 @@ use Rattle.wasm_module_validator_function_bodies.proofs.plain.take_group.Goals a
 
 pub returns-clause-taken : goal.returns-clause-taken
 returns-clause-taken c = took_group c.args.tables.now c.args.bytes.now c.args.at c.in-Some.count c.in-Some.middle c.in-Some-value_at.code c.in-Some-value_at._place c.in-Some-value_at.end
-    c.in-Some.ensures.found c.in-Some-value_at.ensures (c.has_default.ensures c.if-not-has_default.false)
+    c.in-Some.ensures.found c.in-Some-value_at.ensures
     c.args.tables.now.locals.items c.put_times.new.locals.items (c.if-not-put_times.ensures refl)

@@ -4,7 +4,7 @@ use Rattle.wasm_module_validator_function_bodies.proofs.plain.take_locals.Goals 
 
 pub loop-init : goal.loop-init
 loop-init c = record {
-  same = record { known = refl; features = refl; references = refl };
+  same = record { known = refl; features = refl; references = refl; vectors = refl };
   taken = took_none c.args.tables.now c.args.bytes.now c.in-Some.first c.args.tables.now.locals.items c.in-Some.ensures.found.inside;
 }
 

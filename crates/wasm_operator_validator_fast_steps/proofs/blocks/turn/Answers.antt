@@ -16,7 +16,8 @@ returns-clause-leads c =
     let m = c.take_all.new.self in
     let frame = c.inner-frame.ensures in
     let flat = c.as_slice-flat.ensures.value in
-    let second = c.turn.ensures ∙ ap (λ (p : Open). record { inner = record { kind = Else; base = p.base; sig = p.sig }; outer = outer }) frame in
+    let second = c.turn.ensures ∙ ap (λ (p : Open). record { inner = record { kind = Else; base = p.base; set = c.set_before-set.result; sig = p.sig }; outer = outer }) frame
+    ∙ ap (λ (s : ℕ). record { inner = record { kind = Else; base = o.base; set = s; sig = o.sig }; outer = outer }) c.set_before-set.ensures in
     subst (λ (n : Nested). Leads c.args.bytes.now c.args.tables.now c.args.at (o ∷ outer) c.args.stack.now (c.args.at + 1) (n.inner ∷ n.outer) c.put_all.new.self) (sym second)
     (lowered c.args.tables.now c.args.bytes.now c.args.at (c.args.at + 1) o outer
     (second_part c.args.tables.now c.args.bytes.now c.args.at (c.args.at + 1) o outer (with_all rs m) c.put_all.new.self ∷ outer) c.args.stack.now (with_all rs m) c.put_all.new.self (c.if-not-take_all.ensures refl)
