@@ -277,10 +277,6 @@ fn certain_of(locals: &[u32], params: usize) -> usize
 fn put_times(locals: &mut Vec<u32>, count: u32, code: u32) -> bool
     ensures { result ≡ true → locals.new.items ≡ locals.old.items ++ replicate count code }
 {
-    for i in 0..count {
-        let Ok(()) = locals.push(code) else {
-            return false;
-        };
-    }
-    true
+    let held = locals.as_slice().len();
+    locals.resize(held + count as usize, code).is_ok()
 }

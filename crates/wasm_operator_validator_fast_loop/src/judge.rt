@@ -46,7 +46,7 @@ use wasm_operator_validator_fast_steps::numbers::{change, change_prefixed, combi
 use wasm_operator_validator_fast_steps::parametric::{drop_top, nop, select, unreachable};
 use wasm_operator_validator_fast_steps::shape::{Class, class_of, saturating_of};
 use wasm_operator_validator_fast_steps::variables::{
-    global_get, global_set, local_get, local_set, local_tee,
+    global_get, global_set, local_at, local_get, local_set, local_tee,
 };
 use wasm_operator_validator_fast_tables::{Open, Opens, Pile, Sig, Stack, Tables};
 use wasm_operator_validator_state::FrameKind;
@@ -88,16 +88,16 @@ fn next(
         Class::ReturnCallIndirect => return_call_indirect(tables, bytes, at, stack, opens),
         Class::Drop => drop_top(tables, bytes, at, stack, opens),
         Class::Select => select(tables, bytes, at, stack, opens),
-        Class::LocalGet => match local_get(tables, locals, bytes, at, stack, opens) {
-            Some(end) => Some(end),
+        Class::LocalGet => match local_at(tables, locals, bytes, at + 1) {
+            Some(local) => local_get(tables, local, bytes, at, stack, opens),
             None => away(tables, bytes, at, stack, opens),
         },
-        Class::LocalSet => match local_set(tables, locals, bytes, at, stack, opens) {
-            Some(end) => Some(end),
+        Class::LocalSet => match local_at(tables, locals, bytes, at + 1) {
+            Some(local) => local_set(tables, local, bytes, at, stack, opens),
             None => away(tables, bytes, at, stack, opens),
         },
-        Class::LocalTee => match local_tee(tables, locals, bytes, at, stack, opens) {
-            Some(end) => Some(end),
+        Class::LocalTee => match local_at(tables, locals, bytes, at + 1) {
+            Some(local) => local_tee(tables, local, bytes, at, stack, opens),
             None => away(tables, bytes, at, stack, opens),
         },
         Class::GlobalGet => global_get(tables, bytes, at, stack, opens),

@@ -7,10 +7,9 @@ ghost use Rattle.wasm_operator_validator_fast_tables.specs.Values.{IsLowered};
 ghost use Rattle.wasm_operator_validator_fast_tables.specs.Loop.{Leads, all};
 ghost use Rattle.wasm_operator_validator_fast_objects.specs.Objects.{IsArrayAt, NamesArray};
 
-use crate::structs::has_default;
 use wasm_operator_validator_fast_steps::indices::index_at;
 use wasm_operator_validator_fast_tables::{
-    ARRAY, Defined, Field, NO_CODE, Opens, Order, Stack, Tables,
+    ARRAY, Defined, Field, NO_CODE, Opens, Order, Stack, Tables, has_default,
 };
 
 // The type at an index, if it is an array: the code of references to it that may be null, and its element.

@@ -4,7 +4,6 @@ ghost use Rattle.std.specs.Prelude.{◌≡◌, ◌<◌, ◌≤◌, true, take, d
 ghost use Rattle.wasm_operators_frequent.specs.Short.{BeginsPrefixed};
 ghost use Rattle.wasm_operator_validator_fast_tables.specs.Stacks.{with_all};
 ghost use Rattle.wasm_operator_validator_fast_tables.specs.Values.{IsLowered};
-ghost use Rattle.wasm_operator_validator_fast_tables.specs.Tables.{HasDefault};
 ghost use Rattle.wasm_operator_validator_fast_tables.specs.Loop.{Leads, all};
 ghost use Rattle.wasm_operator_validator_fast_objects.specs.Objects.{
   IsStructAt,
@@ -15,7 +14,9 @@ ghost use Rattle.wasm_operator_validator_fast_objects.specs.Objects.{
 };
 
 use wasm_operator_validator_fast_steps::indices::index_at;
-use wasm_operator_validator_fast_tables::{Defined, Field, NO_CODE, Opens, Order, Stack, Tables};
+use wasm_operator_validator_fast_tables::{
+    Defined, Field, NO_CODE, Opens, Order, Stack, Tables, has_default,
+};
 
 // So many fields from one on.
 fn part(all: &[Field], from: u32, count: u32) -> Option<&[Field]>

@@ -72,8 +72,14 @@ module _ (t : Tables) (text : List ℕ) (i e : ℕ) (o : Open) (outer : List Ope
       step ids z text t c i e (o ∷ outer) (record { kind = o.kind; base = o.base; set = n.set; sig = o.sig } ∷ outer) v w fits p
       (stands t text i e o outer v w p (told_with t.features.0 text i 33 33 begins refl p refl refl _ refl refl refl (Index kind.Locals x) e refl (λ limits. index_of _ _ _ _ kind.Locals x g)))
       (rw taken (plain_sets ids t c o n.set outer (k ∷ w.0) w.0 w.1 p refl s.keeps
-      (λ set full. (_, _, _, (first c.bits _ fits.allows refl, (type_of ids k, record { local = fits.locals x lt; used = uses (Here t text i e o outer v w ids c) _ fits.unshared }, (refl, refl))),
-      same_below _ _ (on_stack ids (k ∷ []) w.0), on_stack ids [] w.0))))) ids z c fits
+      (λ set full. (
+        _,
+        _,
+        _,
+        (first c.bits _ fits.allows refl, (type_of ids k, record { local = fits.locals x lt; used = uses (Here t text i e o outer v w ids c) _ fits.unshared }, (refl, refl))),
+        same_below _ _ (on_stack ids (k ∷ []) w.0),
+        on_stack ids [] w.0,
+      ))))) ids z c fits
 
   pub took_late_tee : Begins text i 0x22 → (x : ℕ) → GivesAt u32 text (i + 1) x e → x < length t.locals.items → (r : List ℕ) → v ≡ (get_or t.locals.items x 0 ∷ r, v.1) → w ≡ v
       → IsSet t o x n → Leads text t i (o ∷ outer) v e (n ∷ outer) w
@@ -85,5 +91,11 @@ module _ (t : Tables) (text : List ℕ) (i e : ℕ) (o : Open) (outer : List Ope
       step ids z text t c i e (o ∷ outer) (record { kind = o.kind; base = o.base; set = n.set; sig = o.sig } ∷ outer) v w fits p
       (stands t text i e o outer v w p (told_with t.features.0 text i 34 34 begins refl p refl refl _ refl refl refl (Index kind.Locals x) e refl (λ limits. index_of _ _ _ _ kind.Locals x g)))
       (rw (stays, has) (plain_sets ids t c o n.set outer (k ∷ r) (k ∷ r) v.1 p refl s.keeps
-      (λ set full. (_, _, _, (first c.bits _ fits.allows refl, (type_of ids k, record { local = fits.locals x lt; used = uses (Here t text i e o outer v w ids c) _ fits.unshared }, (refl, refl))),
-      same_below _ _ (on_stack ids (k ∷ []) r), on_stack ids (k ∷ []) r))))) ids z c fits
+      (λ set full. (
+        _,
+        _,
+        _,
+        (first c.bits _ fits.allows refl, (type_of ids k, record { local = fits.locals x lt; used = uses (Here t text i e o outer v w ids c) _ fits.unshared }, (refl, refl))),
+        same_below _ _ (on_stack ids (k ∷ []) r),
+        on_stack ids (k ∷ []) r,
+      ))))) ids z c fits

@@ -328,7 +328,7 @@ module _ (t : Tables) (text : List ℕ) (i e : ℕ) (o : Open) (outer : List Ope
           k.table x (Here ids c) ∙ accessed (Here ids c) false x m (store (number_of ty)) there may,
           (
             ap (λ (y : ValueType). all_known (y ∷ type_of ids ty ∷ [])) (addressed ids address m.memory64 wide)
-            ∙ ap (λ (y : ValueType). all_known (address_type m.memory64 ∷ y ∷ [])) (k.of_number ids),
+                ∙ ap (λ (y : ValueType). all_known (address_type m.memory64 ∷ y ∷ [])) (k.of_number ids),
             refl,
           ),
         ),
@@ -377,8 +377,8 @@ module _ (t : Tables) (text : List ℕ) (i e : ℕ) (o : Open) (outer : List Ope
           copied (Here ids c) x y a b there other,
           (
             ap (λ (z : ValueType). all_known (z ∷ type_of ids from ∷ type_of ids least ∷ [])) (addressed ids to a.memory64 wide)
-            ∙ ap (λ (z : ValueType). all_known (address_type a.memory64 ∷ z ∷ type_of ids least ∷ [])) (addressed ids from b.memory64 broad)
-            ∙ ap (λ (z : ValueType). all_known (address_type a.memory64 ∷ address_type b.memory64 ∷ z ∷ [])) long,
+                ∙ ap (λ (z : ValueType). all_known (address_type a.memory64 ∷ z ∷ type_of ids least ∷ [])) (addressed ids from b.memory64 broad)
+                ∙ ap (λ (z : ValueType). all_known (address_type a.memory64 ∷ address_type b.memory64 ∷ z ∷ [])) long,
             refl,
           ),
         ),

@@ -1,5 +1,6 @@
 -- Operators that lead away, and what is behind them.
-use Rattle.std.proofs.Common.{◌≡◌, ◌≤◌, ◌+◌, ℕ, true, List, [], ◌∷◌, Some, refl, sym, subst, length, slice_get}
+use Rattle.std.proofs.Common.{◌≡◌, ◌∙◌, ◌≤◌, ◌+◌, ℕ, true, List, [], ◌∷◌, ◌++◌, Some, refl, sym, ap, subst, append-nil, length, reverse, slice_get}
+use Rattle.std.proofs.lemmas.List.{reverse-reverse}
 use Rattle.wasm_types.specs.decoding.Leb.{u32}
 use Rattle.wasm_types.specs.decoding.Numbers.{GivesAt}
 use Rattle.wasm_operators_frequent.specs.Short.{Begins}
@@ -10,8 +11,14 @@ use Rattle.wasm_operator_validator_fast_tables.specs.Stacks.{Values, with_all}
 use Rattle.wasm_operator_validator_fast_tables.specs.Tables.{params_in, results_in, label_in}
 use Rattle.wasm_operator_validator_fast_tables.specs.Loop.{Goes, Leads}
 use Rattle.wasm_operator_validator_fast_steps.specs.Unreached.{IsPassed}
-use Rattle.wasm_operator_validator_fast_steps.proofs.Rows.{took_unreachable, took_br, took_return}
+use Rattle.wasm_operator_validator_fast_steps.proofs.Rows.{took_nop, took_unreachable, took_br, took_return}
 use Rattle.wasm_operator_validator_fast_steps.proofs.Throwing.{took_throw, took_throw_ref}
+
+-- any operands of the innermost frame are such as were put on when it had none
+pub some_given : (v : Values) (under : List ℕ) → v.1 ≡ under → (rs : List ℕ) × (v ≡ with_all rs ([], under))
+some_given v under e =
+    let own : v.0 ≡ reverse (reverse v.0) ++ [] = sym (append-nil (reverse (reverse v.0)) ∙ reverse-reverse v.0) in
+    (reverse v.0, ap (λ (xs : List ℕ). (xs, v.1)) own ∙ ap (λ (xs : List ℕ). (reverse (reverse v.0) ++ [], xs)) e)
 
 module _ (t : Tables) (text : List ℕ) where
   pub leads_then : (i j k : ℕ) (opens others last : List Open) (v w x : Values) → Leads text t i opens v j others w → Leads text t j others w k last x
@@ -45,6 +52,10 @@ module _ (t : Tables) (text : List ℕ) where
     pub passed_unreachable : Begins text i 0x00 → IsPassed text t (o ∷ outer) i (i + 1)
     passed_unreachable begins under ws =
         ([], took_unreachable t text i (i + 1) o outer ([], under) (with_all ws ([], under)) begins refl ws refl)
+
+    pub passed_nop : Begins text i 0x01 → IsPassed text t (o ∷ outer) i (i + 1)
+    passed_nop begins under ws =
+        (ws, took_nop t text i (i + 1) o outer (with_all ws ([], under)) (with_all ws ([], under)) begins refl refl)
 
     pub passed_br : Begins text i 0x0c → (d : ℕ) → GivesAt u32 text (i + 1) d e → (f : Open) → slice_get (o ∷ outer) d ≡ Some f → IsPassed text t (o ∷ outer) i e
     passed_br begins d g f there under ws =

@@ -18,11 +18,17 @@ fn has_value(tables: &Tables, set: u64, index: usize) -> bool
     requires { index < length tables.now.locals.items }
     ensures { result ≡ true → HasValue tables.now set index }
 {
-    if index < tables.certain || has_default(tables.locals[index]) {
+    if index < tables.certain {
+        return true;
+    }
+    if has_default(tables.locals[index]) {
         return true;
     }
     let place = index - tables.certain;
-    place < KEPT && (set >> place) & 1 == 1
+    if place >= KEPT {
+        return false;
+    }
+    (set >> place) & 1 == 1
 }
 
 // The innermost frame with a value for a local. One of many, or of those that have one from the start, is not noted.

@@ -13,6 +13,11 @@ use wasm_operator_validator_fast_tables::{Opens, Stack, Tables, frame_at, inner_
 // once for all of them, and an operator of one byte does not take the time of a thousand, if no other lies between.
 const FEW: usize = 8;
 
+// Of a frame that gives more than so many the operands that are there stay, except so many last ones.
+const MANY: usize = 100;
+
+const LAST: usize = 4;
+
 /// Behind an operator that led away the innermost frame has the operands that it gives. The offset of what is judged next.
 #[inline(always)]
 pub fn unreached(
@@ -31,8 +36,7 @@ pub fn unreached(
     let Some(results) = inner_results(tables.known.flat.as_slice(), opens) else {
         return None;
     };
-    stack.cut();
-    if !stack.put_all(results) {
+    if !give_all(stack, results) {
         return None;
     }
     if results.len() > FEW {
@@ -41,7 +45,22 @@ pub fn unreached(
     Some(at)
 }
 
-// The offset behind all operators from one on that lead away.
+// The innermost frame has as many operands as it gives, and nothing else is asked of them. If it gives many, those that are there stay, except
+// the last ones, and only the others are put on: mostly the loop put them all on before. If some of those that stay are of other types, what
+// takes them is not taken by the loop.
+#[inline(always)]
+fn give_all(stack: &mut Stack, results: &[u32]) -> bool
+    ensures { result ≡ true → (rs : List ℕ) × (stack.new ≡ with_all rs ([], stack.old.1)) }
+{
+    if results.len() <= MANY {
+        stack.cut();
+        return stack.put_all(results);
+    }
+    let kept = stack.keep(results.len() - LAST);
+    stack.put_all(&results[kept..])
+}
+
+// The offset behind all operators from one on that lead away or do nothing.
 #[cold]
 #[inline(never)]
 fn pass_away(tables: &Tables, bytes: &[u8], at: usize, opens: &Opens) -> usize
@@ -60,7 +79,7 @@ fn pass_away(tables: &Tables, bytes: &[u8], at: usize, opens: &Opens) -> usize
     end
 }
 
-// The offset behind an operator that leads away, which any operands may be taken by.
+// The offset behind an operator that leads away, which any operands may be taken by, or that does nothing.
 fn away_at(tables: &Tables, bytes: &[u8], at: usize, opens: &Opens) -> Option<usize>
     requires { at < length bytes.now }
     ensures passed { IfSome result (λ end. IsPassed bytes.now tables.now (all opens.now) at end) }
@@ -69,6 +88,7 @@ fn away_at(tables: &Tables, bytes: &[u8], at: usize, opens: &Opens) -> Option<us
 {
     match bytes[at] {
         0x00 => Some(at + 1),
+        0x01 => Some(at + 1),
         0x08 => throw_at(tables, bytes, at, opens),
         0x0a => {
             if !tables.references {

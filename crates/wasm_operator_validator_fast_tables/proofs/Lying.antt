@@ -1,7 +1,7 @@
 -- Operands in memory: those of the innermost frame, and those under them.
-use Rattle.std.proofs.Common.{◌≡◌, ◌≤◌, ◌<◌, ◌-◌, ◌∙◌, ℕ, suc, List, [], ◌∷◌, Some, refl, sym, ap, subst, arith, ◌++◌, length, take, drop, reverse, get_or, slice_get, drop-cons}
+use Rattle.std.proofs.Common.{◌≡◌, ◌≤◌, ◌<◌, ◌+◌, ◌-◌, ◌∙◌, ℕ, suc, List, [], ◌∷◌, Some, refl, sym, ap, subst, arith, ◌++◌, length, take, drop, reverse, get_or, slice_get, drop-cons}
 use Rattle.std.proofs.lemmas.Grind.{common_steps}
-use Rattle.std.proofs.lemmas.List.{length-drop, drop_all}
+use Rattle.std.proofs.lemmas.List.{length-drop, drop_all, take-append-drop, length-append}
 use Rattle.wasm_operator_validator_fast_tables.specs.declared.order.Step.{Step}
 use Rattle.wasm_operator_validator_fast_tables.specs.Stacks.{Values, lying, with_all}
 use Rattle.wasm_operator_validator_fast_tables.specs.Values.{AreBelow, IsLowered}
@@ -56,6 +56,28 @@ none_left b xs ys now l h e =
 -- the first of some lies under the others
 pub first_of_all : (t : ℕ) (ts : List ℕ) (v : Values) → with_all (t ∷ ts) v ≡ with_all ts (t ∷ v.0, v.1)
 first_of_all t ts v = let e : reverse (t ∷ ts) ++ v.0 ≡ reverse ts ++ t ∷ v.0 = grind (arith, common_steps) in ap (λ xs. (xs, v.1)) e
+
+-- several lie on others
+pub several_more : (b : ℕ) (xs ys : List ℕ) → b ≤ length ys → lying b (xs ++ ys) ≡ (xs ++ (lying b ys).0, (lying b ys).1)
+several_more b [] ys l = refl
+several_more b (x ∷ xs) ys l =
+    let long = length-append xs ys in
+    one_more b x (xs ++ ys) (omega (arith, l, long)) ∙ ap (λ (v : Values). (x ∷ v.0, v.1)) (several_more b xs ys l)
+
+-- these are put on
+pub all_put : (b : ℕ) (ts xs ys : List ℕ) (now : Values) → b ≤ length xs → lying b xs ≡ now → ys ≡ reverse ts ++ xs → lying b ys ≡ with_all ts now
+all_put b ts xs ys now l h e = ap (lying b) e ∙ several_more b (reverse ts) xs l ∙ ap (with_all ts) h
+
+-- these are taken off
+pub all_off : (b n : ℕ) (ts ls xs ys : List ℕ) (now : Values) → b ≤ length xs → lying b xs ≡ now → n ≤ length xs - b → take n xs ≡ reverse ls → ls ≡ ts
+    → ys ≡ drop (length xs - (length xs - n)) xs → now ≡ with_all ts (lying b ys)
+all_off b n ts ls xs ys now l h few top same left =
+    let off : length xs - (length xs - n) ≡ n = omega (arith, l, few) in
+    let rest : ys ≡ drop n xs = left ∙ ap (λ (k : ℕ). drop k xs) off in
+    let long = length-drop n xs in
+    let there : b ≤ length (drop n xs) = omega (arith, l, few, long) in
+    let parts : xs ≡ reverse ts ++ drop n xs = sym (take-append-drop n xs) ∙ ap (λ (k : List ℕ). k ++ drop n xs) (top ∙ ap reverse same) in
+    sym h ∙ ap (lying b) parts ∙ several_more b (reverse ts) (drop n xs) there ∙ ap (λ (k : List ℕ). with_all ts (lying b k)) (sym rest)
 
 -- ---- operands that may be taken for others
 

@@ -22,7 +22,8 @@ mod tags;
 mod written;
 
 pub use codes::{
-    ANY, ARRAY, DEFINED, EQ, EXN, EXTERN, FUNC, I31, VECTOR, code_of, code_of_reference, has_default,
+    ANY, ARRAY, DEFINED, EQ, EXN, EXTERN, FUNC, I31, VECTOR, code_of, code_of_reference,
+    has_default,
 };
 pub use known::known_of;
 pub use lookups::{frame_at, inner_results, is_bare, label, part};

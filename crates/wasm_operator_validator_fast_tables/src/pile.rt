@@ -1,6 +1,6 @@
 //! A stack whose places are made before.
 
-ghost use Rattle.std.specs.Prelude.{◌≡◌, true, false, [], ◌∷◌, ◌+◌, ◌-◌, ◌<◌, ◌≤◌, length, Some, drop, slice_get};
+ghost use Rattle.std.specs.Prelude.{◌≡◌, true, false, [], ◌∷◌, ◌++◌, ◌+◌, ◌-◌, ◌<◌, ◌≤◌, length, Some, drop, reverse, slice_get, take};
 
 use std::alloc::Global;
 use std::marker::Model;
@@ -63,6 +63,16 @@ impl<T: Copy + Drop> Pile<T> {
         self.places[self.count - 1 - depth]
     }
 
+    /// The last so many that were put on, the top last.
+    #[inline(always)]
+    pub fn last(&self, count: usize) -> &[T]
+        requires { count ≤ length self.now }
+        ensures { take count self.now ≡ reverse result.now }
+    {
+        let start = self.count - count;
+        &self.places.as_slice()[start..self.count]
+    }
+
     /// Puts an item on where there is a place for it.
     #[inline(always)]
     pub fn put(&mut self, item: T) -> bool
@@ -105,6 +115,22 @@ impl<T: Copy + Drop> Pile<T> {
             return false;
         };
         self.count += 1;
+        true
+    }
+
+    /// Puts items on where there are places for them, the last on top.
+    #[inline(always)]
+    pub fn put_slice(&mut self, items: &[T]) -> bool
+        ensures put { result ≡ true → self.new ≡ reverse items.now ++ self.old }
+        ensures stays { result ≡ false → self.new ≡ self.old }
+    {
+        let count = items.len();
+        if count > self.places.as_slice().len() - self.count {
+            return false;
+        }
+        let end = self.count + count;
+        self.places.as_mut_slice()[self.count..end].copy_from_slice(items);
+        self.count = end;
         true
     }
 

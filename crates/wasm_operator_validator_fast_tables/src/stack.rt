@@ -1,6 +1,6 @@
 //! The operands of all open frames.
 
-ghost use Rattle.std.specs.Prelude.{◌≡◌, ◌<◌, ◌≤◌, ◌∷◌, [], true, ℕ, List, IfSome, length};
+ghost use Rattle.std.specs.Prelude.{◌≡◌, ◌<◌, ◌≤◌, ◌∷◌, [], true, false, ℕ, List, IfSome, length};
 ghost use Rattle.wasm_operator_validator_fast_tables.specs.Stacks.{Values, lying, with_all};
 ghost use Rattle.wasm_operator_validator_fast_tables.specs.Values.{IsLowered};
 
@@ -8,6 +8,26 @@ use crate::order::Order;
 use crate::pile::Pile;
 use std::alloc::Global;
 use std::marker::Model;
+
+// More operands than so many are put on and taken off at once.
+const FEW: usize = 8;
+
+// Whether these are the same codes. It goes to the end if they are not, so that several are compared at a time.
+#[inline(never)]
+fn are_same(one: &[u32], other: &[u32]) -> bool
+    ensures { result ≡ true → one.now ≡ other.now }
+{
+    if one.len() != other.len() {
+        return false;
+    }
+    let mut same = true;
+    for i in 0..one.len() {
+        if one[i] != other[i] {
+            same = false;
+        }
+    }
+    same
+}
 
 /// All operands, and how many of them lie under the innermost frame. A contract sees that frame's, and those under them.
 #[derive(Drop)]
@@ -171,6 +191,32 @@ impl Stack {
     pub fn take_all(&mut self, order: &Order, types: &[u32]) -> bool
         ensures { result ≡ true → IsLowered order.now self.old (with_all types.now self.new) }
     {
+        if self.take_same(types) {
+            return true;
+        }
+        self.take_each(order, types)
+    }
+
+    // The same, if there are many and the operands are just of these types.
+    #[inline(always)]
+    fn take_same(&mut self, types: &[u32]) -> bool
+        ensures taken { result ≡ true → self.old ≡ with_all types.now self.new }
+        ensures stays { result ≡ false → self.new ≡ self.old }
+    {
+        let count = types.len();
+        let held = self.items.len();
+        if count <= FEW || count > held - self.base || !are_same(self.items.last(count), types) {
+            return false;
+        }
+        self.items.keep(held - count);
+        true
+    }
+
+    // The same one by one.
+    #[inline(always)]
+    fn take_each(&mut self, order: &Order, types: &[u32]) -> bool
+        ensures { result ≡ true → IsLowered order.now self.old (with_all types.now self.new) }
+    {
         let mut left = types.len();
         while left > 0 {
             left -= 1;
@@ -186,12 +232,29 @@ impl Stack {
     pub fn put_all(&mut self, types: &[u32]) -> bool
         ensures { result ≡ true → self.new ≡ with_all types.now self.old }
     {
+        if types.len() > FEW {
+            return self.items.put_slice(types);
+        }
         for ty in types {
             if !self.put(*ty) {
                 return false;
             }
         }
         true
+    }
+
+    /// Operands of the innermost frame are dropped until there are no more than so many. How many there are then.
+    #[inline(always)]
+    pub fn keep(&mut self, most: usize) -> usize
+        ensures few { result ≤ most }
+        ensures under { self.new.1 ≡ self.old.1 }
+    {
+        let held = self.items.len() - self.base;
+        if held <= most {
+            return held;
+        }
+        self.items.keep(self.base + most);
+        most
     }
 
     /// A frame begins on these operands. How many lay under the one around it.

@@ -1,7 +1,7 @@
 use Rattle.std.proofs.Common.{◌≤◌, length, drop}
 use Rattle.wasm_operator_validator_fast_tables.specs.Stacks.{with_all}
 use Rattle.wasm_operator_validator_fast_tables.specs.Values.{IsLowered}
-use Rattle.wasm_operator_validator_fast_tables.proofs.stack.Stack.take_all.Given as goal
+use Rattle.wasm_operator_validator_fast_tables.proofs.stack.Stack.take_each.Given as goal
 
 abbrev pub invariant-loop-left : goal.invariant-loop-left
 invariant-loop-left l = (l.left ≤ length l.types) × IsLowered l.order l.fn.self (with_all (drop l.left l.types) l.self)
