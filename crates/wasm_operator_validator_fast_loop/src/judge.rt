@@ -17,6 +17,7 @@ use wasm_operator_validator_fast_objects::arrays::{
     array_copy, array_fill, array_get, array_get_s, array_get_u, array_len, array_new,
     array_new_data, array_new_default, array_new_fixed, array_set,
 };
+use wasm_operator_validator_fast_objects::atomics::atomic;
 use wasm_operator_validator_fast_objects::casts::{
     br_on_cast, convert, i31_get, ref_cast, ref_i31, ref_test,
 };
@@ -139,7 +140,7 @@ fn away(
     end
 }
 
-/// Takes an operator on references, objects, exceptions, tables, segments or vectors, or on locals that may have no value.
+/// Takes an operator on references, objects, exceptions, tables, segments or vectors, on locals that may have no value, or an atomic one.
 #[inline(never)]
 fn referring(
     tables: &Tables,
@@ -177,6 +178,7 @@ fn referring(
         0xfb => object(tables, bytes, at, stack, opens),
         0xfc => bulk(tables, bytes, at, stack, opens),
         0xfd => vector(tables, bytes, at, stack, opens),
+        0xfe => atomic(tables, bytes, at, stack, opens),
         _ => None,
     }
 }

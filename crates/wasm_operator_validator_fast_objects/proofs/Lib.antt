@@ -1,5 +1,6 @@
 -- Proofs: the rows of operators of this crate.
 mod ArrayRows
+mod AtomicRows
 mod Branching
 mod Casting
 mod Clauses

@@ -2,8 +2,7 @@
 use Rattle.std.proofs.Common.{◌≤◌, ◌^◌, None, lt-ltb, Bool, ◌≡◌, ◌∙◌, ℕ, ℤ, suc, zero, ◌+◌, ◌<◌, List, [], ◌∷◌, ◌++◌, true, false, Some, refl, sym, ap, subst, arith, length, map, reverse, get_or, slice_get}
 use Rattle.std.proofs.lemmas.List.{map-append}
 use Rattle.std.proofs.lemmas.Grind.{common_steps}
-use Rattle.std.specs.Prelude.{if◌then◌else◌, ◌==◌, ◌%◌, ◌&&◌, not, All}
-use Rattle.std.proofs.Math.Bool.{or-true}
+use Rattle.std.specs.Prelude.{if◌then◌else◌, ◌==◌, ◌%◌, ◌&&◌, ◌||◌, not, All}
 use Rattle.wasm_types.specs.decoding.Leb.{u32, s32, s64}
 use Rattle.wasm_types.specs.decoding.Text.{word}
 use Rattle.wasm_types.specs.reader.declared.words.Ieee32.{Ieee32}
@@ -107,9 +106,13 @@ pub addressed : (ids : List TypeTree) (code : ℕ) (wide : Bool) → code ≡ ad
 addressed ids code true e = rw e refl
 addressed ids code false e = rw e refl
 
+or_true : (b : Bool) → (b || true) ≡ true
+or_true true = refl
+or_true false = refl
+
 -- an offset of 32 bits is in every memory
 pub may_reach : (is_atomic : Bool) (m : MemoryType) (x : MemArg) → is_aligned is_atomic x ≡ true → x.offset < 0x1_0000_0000 → x.target ≡ InMemory → may_access is_atomic m x ≡ true
-may_reach is_atomic m x aligned reached target = rw (aligned, lt-ltb x.offset (2 ^ 32) (omega (arith, reached)), or-true m.memory64, target) refl
+may_reach is_atomic m x aligned reached target = rw (aligned, lt-ltb x.offset (2 ^ 32) (omega (arith, reached)), or_true m.memory64, target) refl
 
 pub accessed : (c : Context) (is_atomic : Bool) (x : MemArg) (m : MemoryType) (a : Access) → slice_get c.«module».memories x.memory ≡ Some m → may_access is_atomic m x ≡ true
     → accesses c is_atomic (Some (record { access = a; argument = x })) ≡ Some ((address_type m.memory64 ∷ numbers (operands_of a)) ⟶ numbers (results_of a))

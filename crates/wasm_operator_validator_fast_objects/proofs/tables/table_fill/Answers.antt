@@ -10,10 +10,10 @@ returns-clause-leads c =
     let left = c.take-else-not-take_below.new.self in
     let order = c.args.tables.now.known.order in
     took_table_fill c.args.tables.now c.args.bytes.now c.args.at c.in-Some.end c.args.opens.now.inner c.args.opens.now.outer c.args.stack.now left
-    c.args.middle c.in-Some.code c.in-Some.ensures c.requires
-    (lower_past order 0 c.args.stack.now count (c.in-Some.code ∷ 0 ∷ left.0, left.1) (c.if-not-take.ensures refl)
-    (lower_more order c.in-Some.code count held (0 ∷ left.0, left.1) (c.if-not-take_below.ensures refl)
-    (lower_same order held (0 ∷ left.0, left.1) (c.if-not-take-2.ensures refl))))
+    c.args.middle c.in-Some.table c.in-Some.ensures c.requires
+    (lower_past order c.in-Some.table.index c.args.stack.now count (c.in-Some.table.ty ∷ c.in-Some.table.index ∷ left.0, left.1) (c.if-not-take.ensures refl)
+    (lower_more order c.in-Some.table.ty count held (c.in-Some.table.index ∷ left.0, left.1) (c.if-not-take_below.ensures refl)
+    (lower_same order held (c.in-Some.table.index ∷ left.0, left.1) (c.if-not-take-2.ensures refl))))
 
 pub returns-clause-forward : goal.returns-clause-forward
 returns-clause-forward c = omega (arith, c.requires.code_there.forward, c.in-Some.ensures.read.forward)

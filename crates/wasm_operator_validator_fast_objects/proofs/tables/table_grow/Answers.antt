@@ -7,8 +7,8 @@ pub returns-clause-leads : goal.returns-clause-leads
 returns-clause-leads c =
     let left = c.take_below.new.self in
     took_table_grow c.args.tables.now c.args.bytes.now c.args.at c.in-Some.end c.args.opens.now.inner c.args.opens.now.outer c.args.stack.now c.put.new.self
-    c.args.middle c.in-Some.code c.in-Some.ensures c.requires left
-    (lower_past c.args.tables.now.known.order 0 c.args.stack.now c.take.new.self (c.in-Some.code ∷ left.0, left.1) (c.if-not-take.ensures refl)
+    c.args.middle c.in-Some.table c.in-Some.ensures c.requires left
+    (lower_past c.args.tables.now.known.order c.in-Some.table.index c.args.stack.now c.take.new.self (c.in-Some.table.ty ∷ left.0, left.1) (c.if-not-take.ensures refl)
     (c.if-not-take_below.ensures refl))
     (c.if-not-put.ensures refl)
 

@@ -10,7 +10,7 @@ returns-clause-leads c =
     let three = c.if-not-take-3.ensures refl in
     let all = one ∙ ap (λ (x : Values). (0 ∷ x.0, x.1)) (two ∙ ap (λ (x : Values). (0 ∷ x.0, x.1)) three) in
     took_table_init c.args.tables.now c.args.bytes.now c.args.at c.in-Some-table_named.end c.args.opens.now.inner c.args.opens.now.outer c.args.stack.now
-    c.take-else-not-take-2.new.self c.args.middle c.in-Some.next c.in-Some.element c.in-Some-table_named.code c.requires
+    c.take-else-not-take-2.new.self c.args.middle c.in-Some.next c.in-Some.element c.in-Some-table_named.table c.requires
     (sym c.bulk_memory.ensures ∙ c.if-not-bulk_memory.false) c.in-Some.ensures c.in-Some-table_named.ensures (c.if-not-may_be_taken.ensures refl) all
 
 pub returns-clause-forward : goal.returns-clause-forward

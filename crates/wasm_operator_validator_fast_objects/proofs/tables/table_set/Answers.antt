@@ -8,9 +8,9 @@ returns-clause-leads c =
     let held = c.take_below.new.self in
     let left = c.take.new.self in
     took_table_set c.args.tables.now c.args.bytes.now c.args.at c.in-Some.end c.args.opens.now.inner c.args.opens.now.outer c.args.stack.now left
-    c.in-Some.code c.in-Some.ensures c.requires
-    (lower_more c.args.tables.now.known.order c.in-Some.code c.args.stack.now held (0 ∷ left.0, left.1) (c.if-not-take_below.ensures refl)
-    (lower_same c.args.tables.now.known.order held (0 ∷ left.0, left.1) (c.if-not-take.ensures refl)))
+    c.in-Some.table c.in-Some.ensures c.requires
+    (lower_more c.args.tables.now.known.order c.in-Some.table.ty c.args.stack.now held (c.in-Some.table.index ∷ left.0, left.1) (c.if-not-take_below.ensures refl)
+    (lower_same c.args.tables.now.known.order held (c.in-Some.table.index ∷ left.0, left.1) (c.if-not-take.ensures refl)))
 
 pub returns-clause-forward : goal.returns-clause-forward
 returns-clause-forward c = omega (arith, c.in-Some.ensures.read.forward)
