@@ -10,7 +10,7 @@ ghost use Rattle.wasm_module_validator_exports.specs.names.Imports.{AreKept, Has
 ghost use Rattle.wasm_module_validator_exports.specs.names.Kept.{IsNamed, name_at};
 
 use crate::names::imports::{KeptNames, module_of};
-use crate::names::kept::name_of;
+use crate::names::kept::{bytes_of, name_of};
 use crate::names::slots::{put, slot};
 use std::alloc::Global;
 use std::collections::BTreeMap;
@@ -44,13 +44,13 @@ fn number(module: &str, name: &str) -> u64
     hasher.finish()
 }
 
-// Whether these are the names that are kept.
+// Whether these are the names that are kept. They are compared as bytes: a long name is not read again for each short one that meets it.
 fn has_names(modules: &[String], names: &[u8], kept: &KeptNames, module: &str, name: &str) -> bool
     requires { IsNamed names.now kept.now.name }
     ensures { result ≡ is_pair «module».now name.now
         (module_at modules.now kept.now.«module», name_at names.now kept.now.name) }
 {
-    module == module_of(modules, kept) && name == name_of(names, kept.name)
+    module == module_of(modules, kept) && name.as_bytes() == bytes_of(names, kept.name)
 }
 
 // What is in a slot, for a pair.
