@@ -6,7 +6,6 @@ ghost use Rattle.wasm_module_validator_exports.specs.names.Imports.{AreKept, Has
 
 use crate::names::kept::{KeptName, name_of, push_name_in_room};
 use crate::names::pairs::{Others, Sought, rebuilt, settle};
-use crate::names::slots::after;
 use std::alloc::Global;
 use std::collections::BTreeMap;
 use std::marker::Model;
@@ -163,7 +162,15 @@ fn push_at(pairs: &mut Vec<KeptNames>, at: usize, place: Place) -> bool
     }
 }
 
-// Slots for one pair more: whether there is memory.
+// How many slots come after so many, a power of two too.
+fn after(slots: usize) -> usize {
+    if slots < 16 {
+        return 16;
+    }
+    slots.saturating_mul(4)
+}
+
+// Slots for one pair more: whether there is memory. There are many, so that few pairs come to the map, which is slow.
 fn make_room(
     alloc: Global,
     slots: &mut Vec<u32>,
@@ -177,7 +184,7 @@ fn make_room(
     ensures { Holds slots.new.items others.new (pairs_of (all_named modules.now names.now pairs.now)) }
 {
     let count = slots.as_slice().len();
-    if count / 4 > pairs.len() {
+    if count / 8 > pairs.len() {
         return true;
     }
     let Some((more, found)) = rebuilt(alloc, after(count), modules, names, pairs) else {
