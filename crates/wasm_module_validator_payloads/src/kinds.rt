@@ -23,6 +23,7 @@ ghost use Rattle.wasm_sections_items.specs.elements.Spells.{SpelledSegment};
 ghost use Rattle.wasm_module_validator_payloads.specs.Progress.{AddsShortIn, Reads, TellsRead};
 
 use crate::SectionItem;
+use crate::groups::add_empty_group;
 use std::alloc::Global;
 use wasm_module_validator_declarations::{
     add_export_item, add_function_item, add_group, add_memory_item, add_short_export,
@@ -75,14 +76,18 @@ impl<'a> SectionItem<'a> for RecGroup {
     }
 
     fn add_short(
-        _alloc: Global,
-        _state: &mut ModuleState,
+        alloc: Global,
+        state: &mut ModuleState,
         _types: &TypeList,
-        _bytes: &[u8],
-        _at: usize,
+        groups: &mut u32,
+        bytes: &[u8],
+        at: usize,
         _limits: &Limits,
     ) -> Option<usize> {
-        None
+        match add_empty_group(alloc, state, groups, bytes, at) {
+            Some(end) => Some(end),
+            None => None,
+        }
     }
 
     ghost alike = { groups_alike };
@@ -122,6 +127,7 @@ impl<'a> SectionItem<'a> for u32 {
         _alloc: Global,
         state: &mut ModuleState,
         types: &TypeList,
+        _groups: &mut u32,
         bytes: &[u8],
         at: usize,
         _limits: &Limits,
@@ -190,6 +196,7 @@ impl<'a> SectionItem<'a> for TableOf<ConstExpr<'a>> {
         _alloc: Global,
         _state: &mut ModuleState,
         _types: &TypeList,
+        _groups: &mut u32,
         _bytes: &[u8],
         _at: usize,
         _limits: &Limits,
@@ -198,8 +205,9 @@ impl<'a> SectionItem<'a> for TableOf<ConstExpr<'a>> {
         requires inside { _at ≤ length _bytes.now }
         ensures added { IfSome result (AddsShortIn section.tables table_read table_read
             (λ z. SpelledTableItem (ConstantText z))
-            _types.now.groups _state.old _state.new _limits.now _bytes.now _at) }
+            _types.now.groups _state.old _groups.old _state.new _groups.new _limits.now _bytes.now _at) }
         ensures stays { IfNone result (_state.new ≡ _state.old) }
+        ensures uncounted { IfNone result (_groups.new ≡ _groups.old) }
         ensures over { IfSome result (λ _. IsReadOver _types.now.groups _state.new.spaces) }
         ensures settings { IfSome result (λ _. _state.new.spaces.settings ≡ _state.old.spaces.settings) }
         ensures grown { IfSome result (λ _. GrowsWith _types.now.groups _state.old.spaces _types.now.groups
@@ -245,6 +253,7 @@ impl<'a> SectionItem<'a> for MemoryType {
         _alloc: Global,
         _state: &mut ModuleState,
         _types: &TypeList,
+        _groups: &mut u32,
         _bytes: &[u8],
         _at: usize,
         _limits: &Limits,
@@ -296,6 +305,7 @@ impl<'a> SectionItem<'a> for TagType {
         _alloc: Global,
         _state: &mut ModuleState,
         _types: &TypeList,
+        _groups: &mut u32,
         _bytes: &[u8],
         _at: usize,
         _limits: &Limits,
@@ -362,6 +372,7 @@ impl<'a> SectionItem<'a> for GlobalOf<ConstExpr<'a>> {
         alloc: Global,
         state: &mut ModuleState,
         types: &TypeList,
+        _groups: &mut u32,
         bytes: &[u8],
         at: usize,
         _limits: &Limits,
@@ -370,8 +381,9 @@ impl<'a> SectionItem<'a> for GlobalOf<ConstExpr<'a>> {
         requires inside { at ≤ length bytes.now }
         ensures added { IfSome result (AddsShortIn section.globals global_read global_read
             (λ z. SpelledGlobalItem (ConstantText z))
-            types.now.groups state.old state.new _limits.now bytes.now at) }
+            types.now.groups state.old _groups.old state.new _groups.new _limits.now bytes.now at) }
         ensures stays { IfNone result (state.new ≡ state.old) }
+        ensures uncounted { IfNone result (_groups.new ≡ _groups.old) }
         ensures over { IfSome result (λ _. IsReadOver types.now.groups state.new.spaces) }
         ensures settings { IfSome result (λ _. state.new.spaces.settings ≡ state.old.spaces.settings) }
         ensures grown { IfSome result (λ _. GrowsWith types.now.groups state.old.spaces types.now.groups
@@ -442,6 +454,7 @@ impl<'a> SectionItem<'a> for Export<'a> {
         _alloc: Global,
         state: &mut ModuleState,
         types: &TypeList,
+        _groups: &mut u32,
         bytes: &[u8],
         at: usize,
         limits: &Limits,
@@ -449,8 +462,9 @@ impl<'a> SectionItem<'a> for Export<'a> {
         requires over { IsReadOver types.now.groups state.old.spaces }
         requires inside { at ≤ length bytes.now }
         ensures added { IfSome result (AddsShortIn section.exports export_read export_read SpelledExport
-            types.now.groups state.old state.new limits.now bytes.now at) }
+            types.now.groups state.old _groups.old state.new _groups.new limits.now bytes.now at) }
         ensures stays { IfNone result (state.new ≡ state.old) }
+        ensures uncounted { IfNone result (_groups.new ≡ _groups.old) }
         ensures over { IfSome result (λ _. IsReadOver types.now.groups state.new.spaces) }
         ensures settings { IfSome result (λ _. state.new.spaces.settings ≡ state.old.spaces.settings) }
         ensures grown { IfSome result (λ _. GrowsWith types.now.groups state.old.spaces types.now.groups
@@ -521,6 +535,7 @@ impl<'a> SectionItem<'a> for ElementOf<'a, ConstExpr<'a>> {
         _alloc: Global,
         _state: &mut ModuleState,
         _types: &TypeList,
+        _groups: &mut u32,
         _bytes: &[u8],
         _at: usize,
         _limits: &Limits,
@@ -529,8 +544,9 @@ impl<'a> SectionItem<'a> for ElementOf<'a, ConstExpr<'a>> {
         requires inside { _at ≤ length _bytes.now }
         ensures added { IfSome result (AddsShortIn section.element_segments element_read element_read
             (λ z. SpelledSegment (ConstantText z))
-            _types.now.groups _state.old _state.new _limits.now _bytes.now _at) }
+            _types.now.groups _state.old _groups.old _state.new _groups.new _limits.now _bytes.now _at) }
         ensures stays { IfNone result (_state.new ≡ _state.old) }
+        ensures uncounted { IfNone result (_groups.new ≡ _groups.old) }
         ensures over { IfSome result (λ _. IsReadOver _types.now.groups _state.new.spaces) }
         ensures settings { IfSome result (λ _. _state.new.spaces.settings ≡ _state.old.spaces.settings) }
         ensures grown { IfSome result (λ _. GrowsWith _types.now.groups _state.old.spaces _types.now.groups
@@ -598,6 +614,7 @@ impl<'a> SectionItem<'a> for DataOf<'a, ConstExpr<'a>> {
         _alloc: Global,
         state: &mut ModuleState,
         types: &TypeList,
+        _groups: &mut u32,
         bytes: &[u8],
         at: usize,
         _limits: &Limits,
@@ -606,8 +623,9 @@ impl<'a> SectionItem<'a> for DataOf<'a, ConstExpr<'a>> {
         requires inside { at ≤ length bytes.now }
         ensures added { IfSome result (AddsShortIn section.data_segments data_read data_read
             (λ z. SpelledData (ConstantText z))
-            types.now.groups state.old state.new _limits.now bytes.now at) }
+            types.now.groups state.old _groups.old state.new _groups.new _limits.now bytes.now at) }
         ensures stays { IfNone result (state.new ≡ state.old) }
+        ensures uncounted { IfNone result (_groups.new ≡ _groups.old) }
         ensures over { IfSome result (λ _. IsReadOver types.now.groups state.new.spaces) }
         ensures settings { IfSome result (λ _. state.new.spaces.settings ≡ state.old.spaces.settings) }
         ensures grown { IfSome result (λ _. GrowsWith types.now.groups state.old.spaces types.now.groups

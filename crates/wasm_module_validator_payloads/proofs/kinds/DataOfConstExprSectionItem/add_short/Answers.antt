@@ -11,7 +11,7 @@ use Rattle.wasm_module_validator_payloads.proofs.kinds.DataOfConstExprSectionIte
 
 pub returns-in-Some-clause-added : goal.returns-in-Some-clause-added
 returns-in-Some-clause-added c =
-    adds_data c.args.types.now.groups c.args.state.now c.args._limits.now c.args.bytes.now c.args.at c.in-Some.end c.in-Some.ensures.short (c.in-Some.ensures.added c.in-Some.ensures.short)
+    adds_data c.args.types.now.groups c.args.state.now c.args._limits.now c.args.bytes.now c.args.at c.in-Some.end c.in-Some.ensures.short (c.in-Some.ensures.added c.in-Some.ensures.short) c.args._groups.now
 
 pub returns-in-Some-clause-grown : goal.returns-in-Some-clause-grown
 returns-in-Some-clause-grown c = grows_by_none c.args.types.now.groups c.args.state.now.spaces c.args.state.now.spaces refl
