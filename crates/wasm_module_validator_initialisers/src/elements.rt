@@ -8,6 +8,7 @@
 //! `wasm_module_validator_resources::referring` has it.
 
 mod elements;
+mod expressions;
 mod items;
 pub mod laws;
 mod modes;
@@ -20,5 +21,7 @@ pub use crate::segments::{
     refers_to_none,
 };
 pub use elements::check_element;
+pub(crate) use expressions::short_element_at;
+pub(crate) use short::short_function_at;
 pub use wasm_module_validator_resources::referring::{ReferringToAll, name_references};
 pub use wasm_sections_items::elements::{ElementItemsOf, ElementKindOf, ElementOf};

@@ -30,7 +30,8 @@ use wasm_module_validator_declarations::{
     add_short_function, add_tag_item,
 };
 use wasm_module_validator_initialisers::adding::{
-    add_element, add_global, add_short_global, add_table, check_data_item, check_short_data_item,
+    add_element, add_global, add_short_element, add_short_global, add_table, check_data_item,
+    check_short_data_item,
 };
 use wasm_module_validator_state::invariant::ModuleState;
 use wasm_module_validator_type_list::TypeList;
@@ -532,27 +533,30 @@ impl<'a> SectionItem<'a> for ElementOf<'a, ConstExpr<'a>> {
     }
 
     fn add_short(
-        _alloc: Global,
-        _state: &mut ModuleState,
-        _types: &TypeList,
+        alloc: Global,
+        state: &mut ModuleState,
+        types: &TypeList,
         _groups: &mut u32,
-        _bytes: &[u8],
-        _at: usize,
+        bytes: &[u8],
+        at: usize,
         _limits: &Limits,
     ) -> Option<usize>
-        requires over { IsReadOver _types.now.groups _state.old.spaces }
-        requires inside { _at ≤ length _bytes.now }
+        requires over { IsReadOver types.now.groups state.old.spaces }
+        requires inside { at ≤ length bytes.now }
         ensures added { IfSome result (AddsShortIn section.element_segments element_read element_read
             (λ z. SpelledSegment (ConstantText z))
-            _types.now.groups _state.old _groups.old _state.new _groups.new _limits.now _bytes.now _at) }
-        ensures stays { IfNone result (_state.new ≡ _state.old) }
+            types.now.groups state.old _groups.old state.new _groups.new _limits.now bytes.now at) }
+        ensures stays { IfNone result (state.new ≡ state.old) }
         ensures uncounted { IfNone result (_groups.new ≡ _groups.old) }
-        ensures over { IfSome result (λ _. IsReadOver _types.now.groups _state.new.spaces) }
-        ensures settings { IfSome result (λ _. _state.new.spaces.settings ≡ _state.old.spaces.settings) }
-        ensures grown { IfSome result (λ _. GrowsWith _types.now.groups _state.old.spaces _types.now.groups
-            _state.new.spaces) }
+        ensures over { IfSome result (λ _. IsReadOver types.now.groups state.new.spaces) }
+        ensures settings { IfSome result (λ _. state.new.spaces.settings ≡ state.old.spaces.settings) }
+        ensures grown { IfSome result (λ _. GrowsWith types.now.groups state.old.spaces types.now.groups
+            state.new.spaces) }
     {
-        None
+        match add_short_element(alloc, state, types, bytes, at) {
+            Some(end) => Some(end),
+            None => None,
+        }
     }
 
     ghost alike = { λ x y is. is };

@@ -5,7 +5,7 @@ ghost use Rattle.wasm_types.specs.settings.Features.{CustomDescriptors, Gc, has}
 ghost use Rattle.wasm_types.specs.trees.Gates.{Has};
 ghost use Rattle.wasm_operators_immediates.specs.Immediates.{Count};
 ghost use Rattle.wasm_operators_frequent.specs.Short.{Begins, BeginsPrefixed};
-ghost use Rattle.wasm_module_validator_initialisers.specs.accepting.Fields.{MakesObject, RefersToNumber};
+ghost use Rattle.wasm_module_validator_initialisers.specs.accepting.Fields.{Converts, MakesObject, RefersToNumber};
 ghost use Rattle.wasm_module_validator_initialisers.specs.accepting.Steps.{Nexts};
 
 use crate::accepting::fields::{
@@ -182,7 +182,19 @@ fn refer_to_number(stack: &mut Vec<ValType>) -> bool
     put(stack, ValType::Ref(reference))
 }
 
-/// A new structure or array, or the reference to a number of 31 bits.
+// Converts a reference from one of the host, or to one: each may be null.
+fn convert<R: WasmModuleResources>(to_host: bool, resources: &R, stack: &mut Vec<ValType>) -> bool
+    ensures { IsTrue result → Converts (R.meaning resources.now) to_host stack.old.items stack.new.items }
+{
+    if to_host {
+        return take(stack, ValType::Ref(RefType::ANYREF), resources)
+            && put(stack, ValType::Ref(RefType::EXTERNREF));
+    }
+    take(stack, ValType::Ref(RefType::EXTERNREF), resources)
+        && put(stack, ValType::Ref(RefType::ANYREF))
+}
+
+/// A new structure or array, the reference to a number of 31 bits, or a reference that is converted.
 pub(crate) fn object<R: WasmModuleResources>(
     bytes: &[u8],
     at: usize,
@@ -201,6 +213,12 @@ pub(crate) fn object<R: WasmModuleResources>(
     };
     if code == 0x1c {
         if !refer_to_number(stack) {
+            return None;
+        }
+        return Some(middle);
+    }
+    if code == 0x1a || code == 0x1b {
+        if !convert(code == 0x1b, resources, stack) {
             return None;
         }
         return Some(middle);
