@@ -5,7 +5,7 @@ ghost use Rattle.wasm_types.specs.settings.Features.{CustomDescriptors, Gc, has}
 ghost use Rattle.wasm_types.specs.trees.Gates.{Has};
 ghost use Rattle.wasm_operators_immediates.specs.Immediates.{Count};
 ghost use Rattle.wasm_operators_frequent.specs.Short.{Begins, BeginsPrefixed};
-ghost use Rattle.wasm_module_validator_initialisers.specs.accepting.Fields.{Converts, MakesObject, RefersToNumber};
+ghost use Rattle.wasm_module_validator_initialisers.specs.accepting.Fields.{any_of, Converts, MakesObject, RefersToNumber};
 ghost use Rattle.wasm_module_validator_initialisers.specs.accepting.Steps.{Nexts};
 
 use crate::accepting::fields::{
@@ -182,16 +182,32 @@ fn refer_to_number(stack: &mut Vec<ValType>) -> bool
     put(stack, ValType::Ref(reference))
 }
 
-// Converts a reference from one of the host, or to one: each may be null.
+// The nullable reference to anything of the host, or of the module.
+fn any_of(host: bool) -> Option<RefType>
+    ensures { IfSome result (λ r. r ≡ any_of host) }
+{
+    let ty = if host {
+        AbstractHeapType::Extern
+    } else {
+        AbstractHeapType::Any
+    };
+    RefType::new(true, HeapType::Abstract { shared: false, ty })
+}
+
+// Converts the reference on top to one of the host, or from one.
 fn convert<R: WasmModuleResources>(to_host: bool, resources: &R, stack: &mut Vec<ValType>) -> bool
     ensures { IsTrue result → Converts (R.meaning resources.now) to_host stack.old.items stack.new.items }
 {
-    if to_host {
-        return take(stack, ValType::Ref(RefType::ANYREF), resources)
-            && put(stack, ValType::Ref(RefType::EXTERNREF));
+    let Some(from) = any_of(!to_host) else {
+        return false;
+    };
+    let Some(to) = any_of(to_host) else {
+        return false;
+    };
+    if !take(stack, ValType::Ref(from), resources) {
+        return false;
     }
-    take(stack, ValType::Ref(RefType::EXTERNREF), resources)
-        && put(stack, ValType::Ref(RefType::ANYREF))
+    put(stack, ValType::Ref(to))
 }
 
 /// A new structure or array, the reference to a number of 31 bits, or a reference that is converted.
@@ -217,8 +233,14 @@ pub(crate) fn object<R: WasmModuleResources>(
         }
         return Some(middle);
     }
-    if code == 0x1a || code == 0x1b {
-        if !convert(code == 0x1b, resources, stack) {
+    if code == 0x1a {
+        if !convert(false, resources, stack) {
+            return None;
+        }
+        return Some(middle);
+    }
+    if code == 0x1b {
+        if !convert(true, resources, stack) {
             return None;
         }
         return Some(middle);
