@@ -17,8 +17,8 @@ mod short;
 
 pub use crate::segments::{
     ConstExpr, DataOf, GlobalOf, OperatorValidatorAllocations, Settings, TableInitOf, TableOf,
-    WasmModuleResources, check_data, check_global, check_short_data, check_table, reader_by,
-    refers_to_none,
+    WasmModuleResources, check_data, check_global, check_short_data, check_table, passive_data_at,
+    reader_by, refers_to_none,
 };
 pub use elements::check_element;
 pub(crate) use expressions::short_element_at;

@@ -31,7 +31,7 @@ use wasm_module_validator_declarations::{
 };
 use wasm_module_validator_initialisers::adding::{
     add_element, add_global, add_short_element, add_short_global, add_table, check_data_item,
-    check_short_data_item,
+    check_passive_data_item, check_short_data_item,
 };
 use wasm_module_validator_state::invariant::ModuleState;
 use wasm_module_validator_type_list::TypeList;
@@ -635,7 +635,10 @@ impl<'a> SectionItem<'a> for DataOf<'a, ConstExpr<'a>> {
         ensures grown { IfSome result (λ _. GrowsWith types.now.groups state.old.spaces types.now.groups
             state.new.spaces) }
     {
-        match check_short_data_item(state, types, bytes, at) {
+        if let Some(end) = check_short_data_item(state, types, bytes, at) {
+            return Some(end);
+        }
+        match check_passive_data_item(state, bytes, at) {
             Some(end) => Some(end),
             None => None,
         }
