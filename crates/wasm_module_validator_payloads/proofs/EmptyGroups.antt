@@ -1,6 +1,6 @@
 -- A group of no types may be added, and leaves the types of a module.
-use Rattle.std.proofs.Common.{◌≡◌, ◌∙◌, ◌+◌, ◌≤◌, ℕ, true, List, [], ◌∷◌, ◌++◌, length, map, refl, sym, ap, subst, arith, inr, cc}
-use Rattle.std.proofs.lemmas.List.{append-nil}
+use Rattle.std.proofs.Common.{◌≡◌, ◌∙◌, ◌+◌, ◌-◌, ◌≤◌, ℕ, true, List, [], ◌∷◌, ◌++◌, length, map, drop, get_or, refl, sym, ap, subst, arith, inr}
+use Rattle.std.proofs.lemmas.List.{append-nil, drop_more}
 use Rattle.std.proofs.lemmas.List.Elements.{All-nil}
 use Rattle.wasm_types.specs.decoding.Leb.{IsUnsigned, last}
 use Rattle.wasm_types.specs.settings.declared.Limits.{Limits}
@@ -28,6 +28,21 @@ use Rattle.wasm_module_validator_section_order.specs.sections.Sections.{reading}
 use Rattle.wasm_module_validator_payloads.specs.Groups.{IsOfNoTypes, MayHaveNone}
 use Rattle.wasm_module_validator_payloads.specs.Progress.{AddsShortIn, Reads, IsRead, kept}
 use Rattle.wasm_module_validator_payloads.proofs.Counting.{group_added}
+
+-- its bytes
+pub none_there : (text : List ℕ) (i : ℕ) → i ≤ length text → 2 ≤ length text - i → get_or text i 0 ≡ 0x4e → get_or text (i + 1) 0 ≡ 0x00
+    → IsBetween IsOfNoTypes text i (i + 2)
+none_there text i within two first second =
+    let p = drop_more text i 0 (omega (arith, two)) in
+    let q = drop_more text (i + 1) 0 (omega (arith, two)) in
+    let far : i + 1 + 1 ≡ i + 2 = omega arith in
+    record {
+      front = get_or text i 0 ∷ get_or text (i + 1) 0 ∷ [];
+      whole = p ∙ ap (λ (r : List ℕ). get_or text i 0 ∷ r) (q ∙ ap (λ (k : ℕ). get_or text (i + 1) 0 ∷ drop k text) far);
+      place = omega arith;
+      inside = omega (arith, two, within);
+      such = rw (first, second) refl;
+    }
 
 -- as it is written
 abbrev pub no_types : Written

@@ -22,7 +22,13 @@ fn is_of_no_types(bytes: &[u8], at: usize) -> bool
     if bytes.len() - at < 2 {
         return false;
     }
-    bytes[at] == 0x4e && bytes[at + 1] == 0x00
+    if bytes[at] != 0x4e {
+        return false;
+    }
+    if bytes[at + 1] != 0x00 {
+        return false;
+    }
+    true
 }
 
 // Whether a group of no types may come after so many groups.
@@ -34,7 +40,11 @@ fn may_have_none(state: &ModuleState, groups: u32) -> bool
         return false;
     }
     let most = settings.limits().types;
-    groups < most && state.module().type_ids().len() <= most as usize
+    let before = state.module().type_ids().len();
+    if groups >= most || before > most as usize {
+        return false;
+    }
+    true
 }
 
 /// Counts the group at an offset of these bytes, if it has no types and may be added after so many groups, and answers where it ends. What
@@ -51,7 +61,10 @@ pub(crate) fn add_empty_group(
         group_read SpelledGroup kept state.now groups.old state.now groups.new l bytes.now at j) }
     ensures stays { IfNone result (groups.new ≡ groups.old) }
 {
-    if !is_of_no_types(bytes, at) || !may_have_none(state, *groups) {
+    if !is_of_no_types(bytes, at) {
+        return None;
+    }
+    if !may_have_none(state, *groups) {
         return None;
     }
     // The item that the contract speaks of: it takes no memory.

@@ -56,15 +56,17 @@ fn elements_at<'a, R: WasmModuleResources>(
     let Some((count, first)) = short_u32_at(bytes, at) else {
         return None;
     };
-    if count > settings.limits().segment_items {
+    let limits = settings.limits();
+    if count > limits.segment_items {
         return None;
     }
     let (left, long) = take_front(&bytes[first..], count, ty, resources, &features, names);
-    if left != 0 {
+    if left > 0 {
         return None;
     }
     let end = first + long;
-    match SectionLimited::new(alloc, BinaryReader::new(&bytes[at..end], 0)) {
+    let reader = BinaryReader::new(&bytes[at..end], 0);
+    match SectionLimited::new(alloc, reader) {
         Ok(section) => Some((section, end)),
         Err(_error) => None,
     }

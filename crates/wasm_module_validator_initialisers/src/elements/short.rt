@@ -49,6 +49,10 @@ pub(crate) fn short_function_at<R: WasmModuleResources>(
     ensures { IfSome result (λ r. IsShortConstant features.now.0 (R.meaning resources.now).«module»
         (type_in (R.meaning resources.now) ty.now) bytes.now at r.1 (r.0 ∷ [])) }
 {
+    // Most elements that are no function are told apart by their first byte.
+    if at >= bytes.len() || bytes[at] != 0xd2 {
+        return None;
+    }
     let Some((ShortConstant::Function(index), long)) = short_constant(&bytes[at..]) else {
         return None;
     };

@@ -1,4 +1,4 @@
-use Rattle.std.proofs.Common.{◌≡◌, ◌∙◌, List, subst}
+use Rattle.std.proofs.Common.{◌≡◌, ◌∙◌, [], ◌∷◌, ◌++◌, List, ap, subst}
 use Rattle.wasm_types.specs.values.Reference.{Reference}
 use Rattle.wasm_types.specs.values.declared.value.ValType.{ValType}
 use Rattle.wasm_types.specs.values.declared.value.ValType.TheVariants as value
@@ -11,5 +11,5 @@ returns g c h =
     let m = g.R.WasmModuleResources.meaning c.args.resources.now in (
       c.take.new.stack.items,
       subst (λ (r : Reference). MayTake (tops m c.args.stack.now.items) (type_in m (value.Ref r) ∷ []) (tops m c.take.new.stack.items)) c.in-Some.ensures (c.take.ensures c.if-not-take.false),
-      c.put.ensures h ∙ ?to,
+      c.put.ensures h ∙ ap (λ (r : Reference). c.take.new.stack.items ++ value.Ref r ∷ []) c.in-Some-any_of.ensures,
     )

@@ -6,8 +6,8 @@ use Rattle.wasm_module_validator_initialisers.specs.elements.Expressions.{IsShor
 use Rattle.wasm_module_validator_initialisers.proofs.ShortElements.{short_added}
 use Rattle.wasm_module_validator_initialisers.proofs.adding.expressions.add_short_element.Goals as goal
 
-pub returns-in-Ok-clause-added : goal.returns-in-Ok-clause-added
-returns-in-Ok-clause-added c =
+pub returns-clause-added : goal.returns-clause-added
+returns-clause-added c =
     let s = c.args.state.now in
     let names = c.judge_here.new.names.items in
     let kept = c.in-Some.ty in
