@@ -2,7 +2,7 @@
 use Rattle.std.proofs.Common.{◌≡◌, ◌∙◌, ◌+◌, ◌-◌, ◌<◌, ◌≤◌, ℕ, zero, suc, true, List, [], ◌∷◌, ◌++◌, length, take, drop, Option, Some, None, Ok, refl, sym, ap, subst, arith}
 use Rattle.std.specs.Prelude.{◌==◌, if◌then◌else◌}
 use Rattle.std.proofs.Math.Seq.{take-append_seam}
-use Rattle.std.proofs.lemmas.List.{append-nil, drop-drop, length-drop}
+use Rattle.std.proofs.lemmas.List.{append-nil, append_assoc, drop-drop, length-append, length-drop}
 use Rattle.wasm_types.specs.decoding.Decoder.{State, Outcome, Done, Many, Takes, repeated}
 use Rattle.wasm_types.specs.decoding.ExactLaws.{decides-repeated, state_is, value_is}
 use Rattle.wasm_types.specs.decoding.Leb.{u32, IsListed, IsUnsigned}
@@ -139,7 +139,14 @@ module _ (z : Settings) (g : Module) (t : ValueType) (s : SectionLimited State) 
       let a = number_between text i n first counted in
       let here : first + 0 ≡ first = omega arith in
       let b = subst (λ (k : ℕ). IsBetween Q text k (first + long)) here (further_on Q text first 0 long counted.inside c.bytes) in
-      let both = in_turn P Q text i first (first + long) a b in
+      let both : IsBetween (InTurn P Q) text i (first + long)
+      = record {
+        front = a.front ++ b.front;
+        whole = a.whole ∙ ap (λ (q : List ℕ). a.front ++ q) b.whole ∙ sym (append_assoc a.front b.front (drop (first + long) text));
+        place = omega (arith, a.place, b.place, length-append a.front b.front);
+        inside = b.inside;
+        such = (a.front, b.front, a.such, b.such, refl);
+      } in
       let whole : r.rest ≡ a.front ++ b.front = rest ∙ slice_is (InTurn P Q) text i (first + long) both in
       let u = passed r a.front b.front in
       let v = passed u b.front [] in

@@ -68,7 +68,9 @@ pub(crate) fn add_empty_group(
         return None;
     }
     // The item that the contract speaks of: it takes no memory.
-    let _item = RecGroup::explicit(Vec::new(alloc), Vec::new(alloc));
+    let types = Vec::new(alloc);
+    let offsets = Vec::new(alloc);
+    let _item = RecGroup::explicit(types, offsets);
     *groups += 1;
     Some(at + 2)
 }
