@@ -24,4 +24,6 @@ mod NewTables
 mod NewElements
 mod NewData
 mod AcceptedGlobals
+mod Expressions
+mod ShortElements
 mod AddingShortData

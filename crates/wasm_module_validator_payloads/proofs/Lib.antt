@@ -2,3 +2,4 @@ pub mod Adding
 pub mod Comparing
 pub mod Counting
 pub mod Arms
+pub mod EmptyGroups

@@ -12,6 +12,7 @@
 
 mod collected;
 mod frames;
+mod groups;
 mod imports;
 mod items;
 mod kinds;
