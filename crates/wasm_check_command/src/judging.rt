@@ -14,7 +14,7 @@ ghost use Rattle.wasm_check_faults.specs.declared.error.CheckError.TheVariants.{
 ghost use Rattle.wasm_check_command.specs.declared.judging.Mode.TheVariants.{Whole as whole};
 ghost use Rattle.wasm_check_command.specs.Reports.{sources_of, IsReported, Stops};
 
-use crate::needs::least_list;
+use crate::needs::minimal_list;
 use crate::pieces::judge_in_pieces;
 use crate::steady::{read_steadily, write_steadily};
 use bitflags::Flags;
@@ -275,7 +275,7 @@ fn accepted_text<J: Judge>(
     if !chosen.needs {
         return valid_text(alloc, chosen.form, name);
     }
-    let words = least_list(judge, alloc, chosen.limits, index, bytes)?;
+    let words = minimal_list(judge, alloc, chosen.limits, index, bytes)?;
     needs_text(alloc, chosen.form, name, words.as_slice())
 }
 
