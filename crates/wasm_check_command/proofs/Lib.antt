@@ -5,3 +5,4 @@ pub mod FileReports
 pub mod FileLemmas
 mod NeedsLemmas
 mod NameLemmas
+mod ListingLemmas
