@@ -6,3 +6,4 @@ pub mod FileReports
 pub mod FileLemmas
 mod NeedsLemmas
 mod NameLemmas
+mod ListingLemmas

@@ -1,4 +1,4 @@
--- On least lists of features.
+-- On lists of features of which none can be left out.
 use Rattle.std.proofs.Common.{◌≡◌, ◌∙◌, ◌+◌, ◌<◌, ◌≤◌, ◌⊎◌, ℕ, List, ◌++◌, ap, subst, sym, arith, length, map, take, drop, inl, inr}
 use Rattle.std.proofs.lemmas.Bool.{cases_eq}
 use Rattle.std.proofs.lemmas.List.{drop-map, length-map, map-append, take-map}
@@ -6,7 +6,7 @@ use Rattle.std.specs.Prelude.{IfSome, Ok, Option, Some}
 use Rattle.std.specs.Int.RustNames.{bit_or}
 use Rattle.wasm_types.specs.settings.Features.{vectors_bit}
 use Rattle.wasm_check_faults.specs.FeatureLists.{features_of}
-use Rattle.wasm_check_faults.specs.WordLists.{AreFeatures, HasBits, IsLeast, Lacks, Suffices, listed, without_word, words_in}
+use Rattle.wasm_check_faults.specs.WordLists.{AreFeatures, HasBits, IsMinimal, Lacks, Suffices, listed, without_word, words_in}
 use Rattle.wasm_check_faults.specs.declared.word_lists.FeatureWord.{FeatureWord}
 use Rattle.wasm_check_faults.proofs.WordListLemmas.{fewer_known, words_known}
 
@@ -48,12 +48,12 @@ module _ (accepts : ℕ → Type 0) where
   lacks_without ws left fewer place e same l = subst (Lacks accepts) (ap words_in e ∙ same) l
 
   -- none of them can be left out
-  pub least_by : (ws slice : List FeatureWord) → slice ≡ ws → AreFeatures ws → Suffices accepts (words_in ws)
-      → ((place : ℕ) → 0 ≤ place → place < length slice → Lacks accepts (without_word place (words_in slice))) → IsLeast accepts (words_in ws)
-  least_by ws slice e known enough h = record {
+  pub minimal_by : (ws slice : List FeatureWord) → slice ≡ ws → AreFeatures ws → Suffices accepts (words_in ws)
+      → ((place : ℕ) → 0 ≤ place → place < length slice → Lacks accepts (without_word place (words_in slice))) → IsMinimal accepts (words_in ws)
+  minimal_by ws slice e known enough h = record {
     known = words_known ws known;
     enough = enough;
-    least = λ place l. subst (λ (xs : List FeatureWord). Lacks accepts (without_word place (words_in xs))) e
+    minimal = λ place l. subst (λ (xs : List FeatureWord). Lacks accepts (without_word place (words_in xs))) e
         (h place (omega arith) (omega (arith, l, ap length e, length-map ws (λ (w : FeatureWord). w.word.now))));
   }
 

@@ -19,7 +19,8 @@ use Rattle.wasm_check_command.specs.Settings.{Asked, IsGiven, IsUnknownIn, IsWro
 use Rattle.wasm_check_command.specs.Lines.{BeginsLineOf}
 use Rattle.wasm_check_lines.specs.declared.forms.Form.{Form}
 use Rattle.wasm_check_lines.specs.declared.forms.Form.TheVariants.{Lines, Json, Quiet}
-use Rattle.wasm_check_command.specs.Modes.{Ruling, manner_of, ruled}
+use Rattle.wasm_check_command.specs.Faults.{FailsReading}
+use Rattle.wasm_check_command.specs.Modes.{AreLeft, IsShort, Ruling, manner_of, ruled}
 use Rattle.wasm_check_command.specs.Opened.{kept_open}
 use Rattle.wasm_check_command.specs.Names.{AreNames}
 use Rattle.wasm_check_command.specs.Verdict.{IsJudged, FailsAt}
@@ -349,6 +350,10 @@ pub record ReportsBy (accepts : Settings → List ℕ → Type 0) (asked : Asked
   pub reported : GoesOn (ruled (manner_by asked) mode accepts settings) names old new status lost
   pub allowed : (lost ≡ false) ⊎ (asked.goes_on ≡ true)
 
+-- A reader has a list of these names left, if it says what it has left: no longer than an input may be.
+abbrev pub HasList : Option (List ℕ) → List (List ℕ) → Type 0
+HasList said names = (list : List ℕ) × AreLeft said list × IsShort list × AreNames list names
+
 -- some list has these names
 abbrev pub HasNames : List (List ℕ) → Type 0
 HasNames names = (list : List ℕ) × AreNames list names
@@ -360,6 +365,18 @@ AreGiven (Some file) given names = (given ≡ []) × HasNames names
 
 abbrev pub NamesFiles : List (List ℕ) → List (List ℕ) → Type 0
 NamesFiles words names = AreGiven (list_file words) (files_of words) names
+
+-- what this reader has left of the list in this file could not be read: a read failed, there is too much, or memory ran out
+abbrev pub FailsList : List ℕ → Option (List ℕ) → Fault → Type 0
+FailsList file said (faults.CannotOpen name reason) = ⊥
+FailsList file said (faults.Stopped error name reason) = (name.now ≡ file) × FailsReading 0 said error
+FailsList file said faults.OutOfMemory = Unit {0}
+FailsList file said (faults.CannotHold reason) = ⊥
+FailsList file said (faults.UnknownFeature word) = ⊥
+FailsList file said (faults.WrongPieces word) = ⊥
+FailsList file said (faults.Clash first second) = ⊥
+FailsList file said faults.NoFiles = ⊥
+FailsList file said (faults.WrongLimit wrong word) = ⊥
 
 -- the list in this file could not be read, or these files are given too
 abbrev pub IsListFault : List ℕ → List (List ℕ) → Fault → Type 0

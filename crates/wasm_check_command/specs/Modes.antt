@@ -13,7 +13,7 @@ use Rattle.wasm_types.specs.settings.Settings.{Settings}
 use Rattle.wasm_check_lines.specs.Forms.{valid_text}
 use Rattle.wasm_check_lines.specs.declared.forms.Form.{Form}
 use Rattle.wasm_check_faults.specs.FeatureLists.{all_features}
-use Rattle.wasm_check_faults.specs.WordLists.{IsLeast, needs_text}
+use Rattle.wasm_check_faults.specs.WordLists.{IsMinimal, needs_text}
 use Rattle.wasm_check_command.specs.Manners.{Manner, plain}
 use Rattle.wasm_check_command.specs.declared.judging.Chosen.{Chosen}
 use Rattle.wasm_check_command.specs.declared.judging.Mode.{Mode}
@@ -51,9 +51,10 @@ judged_by false z = z
 abbrev pub by_features : (Settings → List ℕ → Type 0) → Limits → List ℕ → ℕ → Type 0
 by_features accepts limits bytes features = accepts (settings_by features limits) bytes
 
--- What is written of valid bytes in a file of this name: that they are valid, or the least list of features by which they are.
+-- What is written of valid bytes in a file of this name: that they are valid, or a list of features by which they are, and of which
+-- none can be left out.
 abbrev pub TellsValid : Bool → Form → (ℕ → Type 0) → List ℕ → List ℕ → Type 0
-TellsValid true form accepts name line = (words : List (List ℕ)) × IsLeast accepts words × (line ≡ needs_text form name words)
+TellsValid true form accepts name line = (words : List (List ℕ)) × IsMinimal accepts words × (line ≡ needs_text form name words)
 TellsValid false form accepts name line = line ≡ valid_text form name
 
 -- By what lines are written: which bytes are valid, which an input may have of which a line is written, what is written of valid bytes in a file

@@ -119,7 +119,7 @@ fn with_needs<'a>(alloc: Global, command: Command<'a>) -> Result<Command<'a>, Al
     let needs = flag_argument(
         alloc,
         "needs",
-        "Tell of each valid file the least list of features that makes it valid; judges a file some 40 times",
+        "Tell of each valid file a list of features that makes it valid, none of which can be left out; judges a file some 40 times",
     );
     let command = command.arg(needs)?;
     Ok(command)

@@ -15,7 +15,7 @@ ghost use Rattle.wasm_check_command.specs.declared.judging.Mode.TheVariants.{Who
 ghost use Rattle.wasm_check_command.specs.Reports.{sources_of, IsReported, Stops};
 
 use crate::large::judge_large;
-use crate::needs::least_list;
+use crate::needs::minimal_list;
 use crate::pieces::judge_in_pieces;
 use crate::steady::{read_steadily, write_steadily};
 use bitflags::Flags;
@@ -323,7 +323,7 @@ fn accepted_text<J: Judge>(
     if !chosen.needs {
         return valid_text(alloc, chosen.form, name);
     }
-    let words = least_list(judge, alloc, chosen.limits, index, bytes)?;
+    let words = minimal_list(judge, alloc, chosen.limits, index, bytes)?;
     needs_text(alloc, chosen.form, name, words.as_slice())
 }
 

@@ -1,14 +1,42 @@
 //! Files that a list names.
 ghost use Rattle.std.specs.Prelude.{◌≡◌, ℕ, List, IfOk, IfErr, map, string_bytes};
-ghost use Rattle.wasm_check_command.specs.Files.{HasNames, IsListFault, texts};
+ghost use Rattle.wasm_check_command.specs.Files.{FailsList, HasList, HasNames, IsListFault, texts};
+ghost use Rattle.wasm_check_command.specs.Modes.{ReadsWithin};
 
 use crate::files::open_named;
 use crate::judging::read_whole;
 use crate::names::names_in;
 use std::alloc::{AllocError, Global};
-use std::io::Input as Standard;
+use std::io::{Input as Standard, Read};
 use std::rt::Files;
 use wasm_check_faults::Fault;
+
+/// The names in the list that a reader has left: what is between the bytes 0. They are told of as the list of this name.
+fn read_names<'a, R: Read>(
+    alloc: Global,
+    reader: &mut R,
+    list: &'a str,
+) -> Result<Vec<String>, Fault<'a>>
+    ensures ok { IfOk result (λ names. HasList (R.remaining reader.old) (map string_bytes names.items)) }
+    ensures err { IfErr result (FailsList list.entry.now (R.remaining reader.old)) }
+    ensures most { ReadsWithin (R.remaining reader.old) (R.remaining reader.new) }
+{
+    let mut bytes = Vec::new(alloc);
+    match read_whole(0, reader, &mut bytes) {
+        Ok(()) => (),
+        Err(failure) => {
+            return Err(Fault::Stopped {
+                error: failure.error,
+                name: list,
+                reason: failure.reason,
+            });
+        }
+    }
+    match names_in(alloc, bytes.as_slice()) {
+        Ok(names) => Ok(names),
+        Err(_) => Err(Fault::OutOfMemory),
+    }
+}
 
 /// The names in the list that a file has; `-` is standard input.
 pub(crate) fn read_list<'a, F: Files + Standard>(
@@ -23,21 +51,7 @@ pub(crate) fn read_list<'a, F: Files + Standard>(
         Ok(reader) => reader,
         Err(fault) => return Err(fault),
     };
-    let mut bytes = Vec::new(alloc);
-    match read_whole(0, &mut reader, &mut bytes) {
-        Ok(()) => (),
-        Err(failure) => {
-            return Err(Fault::Stopped {
-                error: failure.error,
-                name: list,
-                reason: failure.reason,
-            });
-        }
-    }
-    match names_in(alloc, bytes.as_slice()) {
-        Ok(names) => Ok(names),
-        Err(_) => Err(Fault::OutOfMemory),
-    }
+    read_names(alloc, &mut reader, list)
 }
 
 /// These names, borrowed.

@@ -1,10 +1,10 @@
-//! The least list of features by which bytes are valid.
+//! A list of features by which bytes are valid, and of which none can be left out.
 //!
 //! Words are left out one after another, as long as the bytes stay valid. Nothing is asked of the judge for this: it may refuse by more features
 //! what it accepts by fewer. So each word that stays is tried once more, after the last one that was left out.
 ghost use Rattle.std.specs.Prelude.{◌≡◌, ◌<◌, ◌≤◌, ◌+◌, ℕ, IsTrue, false, None, IfOk, IfSome, length};
 ghost use Rattle.wasm_types.specs.settings.Limits.{IsWithinCeilings};
-ghost use Rattle.wasm_check_faults.specs.WordLists.{AreFeatures, HasBits, IsLeast, Lacks, Suffices, without_word, words_in};
+ghost use Rattle.wasm_check_faults.specs.WordLists.{AreFeatures, HasBits, IsMinimal, Lacks, Suffices, without_word, words_in};
 ghost use Rattle.wasm_check_command.specs.Modes.{all_bits, by_features};
 
 use crate::judging::Judge;
@@ -152,13 +152,13 @@ fn go_through<J: Judge>(
     Ok(words)
 }
 
-/// The words of the least list of features by which these bytes are valid, with operators on vectors. They are valid by all features. Words are
-/// tried in the order of the features' bits.
+/// The words of a list of features by which these bytes are valid, with operators on vectors, and of which none can be left out. They are valid by
+/// all features. Words are tried in the order of the features' bits: of two features of which either is enough, the later one stays.
 ///
 /// # Errors
 ///
 /// Memory ran out.
-pub(crate) fn least_list<J: Judge>(
+pub(crate) fn minimal_list<J: Judge>(
     judge: &J,
     alloc: Global,
     limits: Limits,
@@ -167,7 +167,7 @@ pub(crate) fn least_list<J: Judge>(
 ) -> Result<Vec<FeatureWord>, AllocError>
     requires within { IsWithinCeilings limits }
     requires valid { by_features J.accepts limits bytes.now all_bits }
-    ensures { IfOk result (λ words. IsLeast (by_features J.accepts limits bytes.now) (words_in words.items)) }
+    ensures { IfOk result (λ words. IsMinimal (by_features J.accepts limits bytes.now) (words_in words.items)) }
 {
     let all = all_features(alloc)?;
     let mut words = go_through(judge, alloc, limits, index, bytes, all)?;

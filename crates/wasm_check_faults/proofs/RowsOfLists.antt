@@ -1,8 +1,12 @@
 -- The rows of `ListRows`, each by computing it.
-use Rattle.std.proofs.Common.{refl}
+use Rattle.std.proofs.Common.{◌≡◌, refl}
+use Rattle.std.specs.Prelude.{Some}
 use Rattle.wasm_check_faults.specs.Lists.{through, through_lists}
 use Rattle.wasm_types.specs.settings.Limits.{default_limits, ceilings}
-use Rattle.wasm_check_faults.specs.LimitLists.{limits_along}
+use Rattle.wasm_check_faults.specs.LimitLists.{limit_named, limits_along}
+use Rattle.wasm_check_lines.specs.Limits.{word_of}
+use Rattle.wasm_check_lines.specs.declared.limit.Limit.{Limit}
+use Rattle.wasm_check_lines.specs.declared.limit.Limit.TheVariants as limits
 use Rattle.wasm_check_faults.specs.FeatureLists.{features_along}
 use Rattle.wasm_check_lines.specs.FeatureWords.{feature_words}
 use Rattle.wasm_check_faults.specs.ListRows.{FeatureRows, LimitRows}
@@ -39,9 +43,33 @@ feature_rows = record {
   space = refl;
 }
 
+named_by_word : (limit : Limit) → limit_named (word_of limit) ≡ Some limit
+named_by_word limits.Types = refl
+named_by_word limits.Params = refl
+named_by_word limits.Results = refl
+named_by_word limits.Fields = refl
+named_by_word limits.StringBytes = refl
+named_by_word limits.Imports = refl
+named_by_word limits.Exports = refl
+named_by_word limits.Functions = refl
+named_by_word limits.Globals = refl
+named_by_word limits.Tags = refl
+named_by_word limits.Tables = refl
+named_by_word limits.Memories = refl
+named_by_word limits.ElementSegments = refl
+named_by_word limits.DataSegments = refl
+named_by_word limits.SegmentItems = refl
+named_by_word limits.BodyBytes = refl
+named_by_word limits.SelectTypes = refl
+named_by_word limits.Locals = refl
+named_by_word limits.Catches = refl
+named_by_word limits.SubtypingDepth = refl
+named_by_word limits.TypeSize = refl
+
 pub limit_rows : LimitRows
 unfolding through limits_along through_lists default_limits ceilings
 limit_rows = record {
+  words = named_by_word;
   two = refl;
   later_wins = refl;
   two_lists = refl;

@@ -1,5 +1,5 @@
 -- On lists that begin with `mvp`.
-use Rattle.std.proofs.Common.{◌≡◌, ◌∙◌, ◌+◌, ◌<◌, ◌≤◌, ◌==◌, ℕ, Bool, true, false, not, List, [], ◌∷◌, ◌++◌, All, ap, sym, subst, refl, append-nil, append_assoc, codes, flat_map, length, map, drop, take, get_or, nat_le, arith, lit≤}
+use Rattle.std.proofs.Common.{◌≡◌, ◌∙◌, ◌+◌, ◌<◌, ◌≤◌, ◌==◌, ℕ, Bool, true, false, not, List, [], ◌∷◌, ◌++◌, All, ap, sym, subst, refl, append-nil, append_assoc, codes, flat_map, length, map, drop, take, get_or, nat_eq, nat_le, arith, lit<, lit≤}
 use Rattle.std.specs.Prelude.{Contains, IfOk, IfSome, Option, Some, None, Result, Ok, option_map}
 use Rattle.std.specs.Option.{ok_or}
 use Rattle.std.specs.Fmt.{◌++?◌, digits}
@@ -14,6 +14,7 @@ use Rattle.std.proofs.lemmas.Simd.{map-map}
 use Rattle.std.proofs.lemmas.List.Elements.{All-append, All-cons, All-contains, All-head, All-map, All-tail, All-take, All-drop, All-weaker, Contains-get_or}
 use Rattle.std.proofs.lemmas.List.Splits.{slice_split_none, slice_split_at}
 use Rattle.std.proofs.lemmas.List.Sums.{AllPass-from_list_all}
+use Rattle.wasm_types.specs.settings.Features.{vectors_bit}
 use Rattle.wasm_types.specs.settings.Sets.{bits_of, default_features, mvp}
 use Rattle.wasm_check_lines.specs.FeatureWords.{feature_words}
 use Rattle.wasm_check_lines.specs.Json.{json_text}
@@ -22,7 +23,8 @@ use Rattle.wasm_check_lines.specs.LineLaws.{IsOneLine, StaysInLine}
 use Rattle.wasm_check_lines.proofs.InLine.{json_stays, literal, shown_stays}
 use Rattle.wasm_check_faults.specs.Lists.{Place, place_of, through, words_of}
 use Rattle.wasm_check_faults.specs.FeatureLists.{all_features, Change, Replace, Add, Remove, change_of, changed, features_along, features_of, feature_step, set_after}
-use Rattle.wasm_check_faults.specs.WordLists.{AreFeatures, IsFeature, NeedsEndOnce, listed, needs_line, needs_object, next_word, row_of, words_in}
+use Rattle.wasm_check_faults.specs.WordLists.{AreFeatures, IsFeature, IsMinimal, Lacks, MinimalRows, NeedsEndOnce, Suffices, has_both, has_either}
+use Rattle.wasm_check_faults.specs.WordLists.{listed, needs_line, needs_object, next_word, row_of, without_word, words_in}
 use Rattle.wasm_check_faults.specs.declared.word_lists.FeatureWord.{FeatureWord}
 use Rattle.wasm_check_faults.proofs.ListLemmas.{taken, ended}
 
@@ -156,6 +158,97 @@ object_ends name words h =
 pub needs_end : NeedsEndOnce
 unfolding shown json_text listed chars digits lib.Utf8.encode
 needs_end = record { line = line_ends; object = object_ends; mvp = refl; two = refl; two_json = refl }
+
+-- ---- worked lists of which no word can be left out
+module _ (accepts : ℕ → Type 0) (words : List (List ℕ)) (bits : ℕ) (named : features_of (listed words) ≡ Ok bits) where
+  same : (features : ℕ) → features_of (listed words) ≡ Ok features → bits ≡ features
+  same features e = let k : Ok bits ≡ Ok features = sym named ∙ e in cc
+
+  -- what is valid by this list is valid by its bits
+  suffices_not : ¬ accepts (bit_or bits vectors_bit) → ¬ Suffices accepts words
+  suffices_not n s = n (subst (λ (b : ℕ). accepts (bit_or b vectors_bit)) (sym (same s.features s.named)) s.valid)
+
+  lacks_not : accepts (bit_or bits vectors_bit) → ¬ Lacks accepts words
+  lacks_not a l = l.invalid (subst (λ (b : ℕ). accepts (bit_or b vectors_bit)) (same l.features l.named) a)
+
+-- nothing is below a list of no words
+none_left_out : (accepts : ℕ → Type 0) (place : ℕ) → place < 0 → Lacks accepts (without_word place [])
+none_left_out accepts place l = absurd (omega (arith, l))
+
+-- a list of one word
+one_left_out : (accepts : ℕ → Type 0) (word : List ℕ) → Lacks accepts [] → (place : ℕ) → place < 1
+    → Lacks accepts (without_word place (word ∷ []))
+one_left_out accepts word k zero l = k
+one_left_out accepts word k (suc n) l = absurd (omega (arith, l))
+
+-- a list of two words
+two_left_out : (accepts : ℕ → Type 0) (first second : List ℕ) → Lacks accepts (second ∷ []) → Lacks accepts (first ∷ []) → (place : ℕ) → place < 2
+    → Lacks accepts (without_word place (first ∷ second ∷ []))
+two_left_out accepts first second k g zero l = k
+two_left_out accepts first second k g (suc zero) l = g
+two_left_out accepts first second k g (suc (suc n)) l = absurd (omega (arith, l))
+
+reference_known : IsFeature (codes "function-references")
+unfolding feature_words
+reference_known = (17, lit< tt, refl)
+
+gc_known : IsFeature (codes "gc")
+unfolding feature_words
+gc_known = (19, lit< tt, refl)
+
+-- no feature's word has three letters
+set_unknown : ¬ IsFeature (codes "all")
+unfolding feature_words
+set_unknown c = absurd (let e : true ≡ false = All-contains (λ (w : List ℕ). nat_eq (length w) 3 ≡ false) (map (λ (row : Row). row.0) feature_words)
+    (codes "all") three c in cc)
+  where
+    three : All (λ (w : List ℕ). nat_eq (length w) 3 ≡ false) (map (λ (row : Row). row.0) feature_words)
+    three = All-weaker (λ (w : List ℕ). not (nat_eq (length w) 3) ≡ true) (λ (w : List ℕ). nat_eq (length w) 3 ≡ false) (λ w e. cc)
+        (map (λ (row : Row). row.0) feature_words)
+        (AllPass-from_list_all (λ (w : List ℕ). not (nat_eq (length w) 3)) (map (λ (row : Row). row.0) feature_words) refl)
+
+pub minimal_rows : MinimalRows
+unfolding through features_along feature_words listed
+minimal_rows = record {
+  either_first = record {
+    known = All-cons IsFeature (codes "function-references") [] reference_known tt;
+    enough = record { features = 0x420800; named = refl; valid = refl };
+    minimal = one_left_out has_either (codes "function-references") none_is_too_few;
+  };
+  either_second = record {
+    known = All-cons IsFeature (codes "gc") [] gc_known tt;
+    enough = record { features = 0x480800; named = refl; valid = refl };
+    minimal = one_left_out has_either (codes "gc") none_is_too_few;
+  };
+  either_with_both = λ m. lacks_not has_either (codes "gc" ∷ []) 0x480800 refl refl (m.minimal 0 (lit< tt));
+  either_with_none = λ m. suffices_not has_either [] 0x400800 refl (λ e. cc) m.enough;
+  either_with_a_set = λ m. set_unknown (All-head IsFeature (codes "all") [] m.known);
+  both = record {
+    known = All-cons IsFeature (codes "function-references") (codes "gc" ∷ []) reference_known (All-cons IsFeature (codes "gc") [] gc_known tt);
+    enough = record { features = 0x4a0800; named = refl; valid = refl };
+    minimal = two_left_out has_both (codes "function-references") (codes "gc") gc_is_too_few reference_is_too_few;
+  };
+  both_in_turn = record {
+    known = All-cons IsFeature (codes "gc") (codes "function-references" ∷ []) gc_known (All-cons IsFeature (codes "function-references") [] reference_known tt);
+    enough = record { features = 0x4a0800; named = refl; valid = refl };
+    minimal = two_left_out has_both (codes "gc") (codes "function-references") reference_is_too_few gc_is_too_few;
+  };
+  both_with_one = λ m. suffices_not has_both (codes "gc" ∷ []) 0x480800 refl (λ e. cc) m.enough;
+  nothing = record {
+    known = tt;
+    enough = record { features = 0x400800; named = refl; valid = tt };
+    minimal = none_left_out (λ bits. Unit {0});
+  };
+}
+  where
+    none_is_too_few : Lacks has_either []
+    none_is_too_few = record { features = 0x400800; named = refl; invalid = λ e. cc }
+
+    gc_is_too_few : Lacks has_both (codes "gc" ∷ [])
+    gc_is_too_few = record { features = 0x480800; named = refl; invalid = λ e. cc }
+
+    reference_is_too_few : Lacks has_both (codes "function-references" ∷ [])
+    reference_is_too_few = record { features = 0x420800; named = refl; invalid = λ e. cc }
 
 -- ---- texts that were formatted of several parts
 module _ {S E : Type 0} (bytes : S → List ℕ) (r : Result S E) (a b d e : List ℕ) where

@@ -5,7 +5,9 @@ use Rattle.wasm_check_faults.specs.FeatureLists.{features_of, features_through, 
 use Rattle.wasm_types.specs.settings.Limits.{default_limits}
 use Rattle.wasm_types.specs.settings.declared.Limits.{Limits}
 use Rattle.wasm_check_faults.specs.declared.limits.Wrong.TheVariants.{Unknown, BadValue}
-use Rattle.wasm_check_faults.specs.LimitLists.{ListFault, limits_of, limits_through}
+use Rattle.wasm_check_faults.specs.LimitLists.{ListFault, limit_named, limits_of, limits_through}
+use Rattle.wasm_check_lines.specs.Limits.{word_of}
+use Rattle.wasm_check_lines.specs.declared.limit.Limit.{Limit}
 
 -- a word that is unknown here
 abbrev pub unknown_at : ℕ → ℕ → Result ℕ Place
@@ -50,6 +52,8 @@ abbrev pub bad_at : ℕ → ℕ → Result Limits ListFault
 bad_at start end = Err (record { wrong = BadValue; place = record { start = start; end = end } })
 
 pub record LimitRows : Type 0 where
+  -- each limit has a word of its own
+  pub words : (limit : Limit) → limit_named (word_of limit) ≡ Some limit
   pub two : limits_of (codes "locals=10,tables=3") ≡ Ok (record default_limits { locals = 10; tables = 3 })
   pub later_wins : limits_of (codes "tags=1,tags=2") ≡ Ok (record default_limits { tags = 2 })
   pub two_lists : limits_through (codes "locals=1" ∷ codes "tags=2,locals=3" ∷ []) default_limits

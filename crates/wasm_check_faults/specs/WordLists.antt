@@ -1,7 +1,7 @@
 -- Lists of features that begin with `mvp`: each word after it adds a feature.
-use Rattle.std.specs.Prelude.{◌≡◌, ℕ, ◌<◌, ◌+◌, List, [], ◌∷◌, ◌++◌, All, Contains, length, map, flat_map, take, drop, codes, Result, Ok}
-use Rattle.std.specs.Int.RustNames.{bit_or}
-use Rattle.wasm_types.specs.settings.Features.{vectors_bit}
+use Rattle.std.specs.Prelude.{◌≡◌, ◌==◌, ℕ, ◌<◌, ◌+◌, true, false, List, [], ◌∷◌, ◌++◌, All, Contains, length, map, flat_map, take, drop, codes, Result, Ok}
+use Rattle.std.specs.Int.RustNames.{bit_and, bit_or}
+use Rattle.wasm_types.specs.settings.Features.{mask, vectors_bit, FunctionReferences, Gc}
 use Rattle.wasm_check_lines.specs.FeatureWords.{feature_words}
 use Rattle.wasm_check_lines.specs.Json.{json_text}
 use Rattle.wasm_check_lines.specs.Shown.{shown}
@@ -31,7 +31,7 @@ words_in words = map (λ w. w.word.now) words
 abbrev pub AreFeatures : List FeatureWord → Type 0
 AreFeatures words = All (λ w. Contains feature_words (row_of w)) words
 
--- ---- the least list
+-- ---- lists of which no word can be left out
 
 -- the words without the one at this place
 abbrev pub without_word : ℕ → List (List ℕ) → List (List ℕ)
@@ -57,11 +57,35 @@ pub record Lacks (accepts : ℕ → Type 0) (words : List (List ℕ)) : Type 0 w
 abbrev pub IsFeature : List ℕ → Type 0
 IsFeature word = Contains (map (λ row. row.0) feature_words) word
 
--- By this list it is valid, and by the list without any one of its words it is not.
-pub record IsLeast (accepts : ℕ → Type 0) (words : List (List ℕ)) : Type 0 where
+-- By this list it is valid, and by the list without any one of its words it is not. There may be several such lists, of several lengths.
+pub record IsMinimal (accepts : ℕ → Type 0) (words : List (List ℕ)) : Type 0 where
   pub known : All IsFeature words
   pub enough : Suffices accepts words
-  pub least : (place : ℕ) → place < length words → Lacks accepts (without_word place words)
+  pub minimal : (place : ℕ) → place < length words → Lacks accepts (without_word place words)
+
+-- the bits of two features
+abbrev pub two_features : ℕ
+two_features = bit_or (mask FunctionReferences) (mask Gc)
+
+-- either of the two is enough, as for the null of a defined type
+abbrev pub has_either : ℕ → Type 0
+has_either bits = (bit_and bits two_features == 0) ≡ false
+
+-- both are needed
+abbrev pub has_both : ℕ → Type 0
+has_both bits = (bit_and bits two_features == two_features) ≡ true
+
+-- Worked lists: of two features, of which either is enough, each alone is a minimal list. With both, one can be left out.
+pub record MinimalRows : Type 0 where
+  pub either_first : IsMinimal has_either (codes "function-references" ∷ [])
+  pub either_second : IsMinimal has_either (codes "gc" ∷ [])
+  pub either_with_both : ¬ IsMinimal has_either (codes "function-references" ∷ codes "gc" ∷ [])
+  pub either_with_none : ¬ IsMinimal has_either []
+  pub either_with_a_set : ¬ IsMinimal has_either (codes "all" ∷ [])
+  pub both : IsMinimal has_both (codes "function-references" ∷ codes "gc" ∷ [])
+  pub both_in_turn : IsMinimal has_both (codes "gc" ∷ codes "function-references" ∷ [])
+  pub both_with_one : ¬ IsMinimal has_both (codes "gc" ∷ [])
+  pub nothing : IsMinimal (λ bits. Unit {0}) []
 
 -- ---- what is written of it
 

@@ -24,4 +24,6 @@ pub use limits::{
 };
 pub use lists::ListedWord;
 pub use reason::Reason;
-pub use word_lists::{FeatureWord, all_features, features_with, needs_end_once, needs_text};
+pub use word_lists::{
+    FeatureWord, all_features, features_with, minimal_lists_are_worked, needs_end_once, needs_text,
+};

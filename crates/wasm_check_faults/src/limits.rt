@@ -3,10 +3,11 @@ ghost use Rattle.std.specs.Prelude.{◌≡◌, ◌+◌, ◌<◌, ℕ, Some, Ok, 
 ghost use Rattle.wasm_types.specs.settings.Limits.{IsWithinCeilings, default_limits};
 ghost use Rattle.wasm_check_faults.specs.Lists.{place_of, IsWordAt};
 ghost use Rattle.wasm_check_faults.specs.ListRows.{LimitRows};
-ghost use Rattle.wasm_check_faults.specs.LimitLists.{type_words, entity_words, content_words, field_in, field_of, limit_of, with_limit};
+ghost use Rattle.wasm_check_faults.specs.LimitLists.{limit_named, limit_of, with_limit};
 ghost use Rattle.wasm_check_faults.specs.LimitLists.{number_of, number_for, limit_name, limit_value, limits_after, limits_along, limits_of, told, word_ceiling};
 
 use crate::lists::{ListedWord, first_word};
+use wasm_check_lines::Limit;
 use wasm_types::Limits;
 
 /// Why a list of limits is refused: a word of it, by its place from its first byte up to the byte after its last.
@@ -49,244 +50,153 @@ pub struct FaultyWord<'a> {
 /// The most digits of a number.
 const MAX_DIGITS: usize = 10;
 
-/// A limit.
-#[derive(Clone, Copy, Debug)]
-enum Field {
-    Types,
-    Params,
-    Results,
-    Fields,
-    StringBytes,
-    SubtypingDepth,
-    TypeSize,
-    Imports,
-    Exports,
-    Functions,
-    Globals,
-    Tags,
-    Tables,
-    Memories,
-    ElementSegments,
-    DataSegments,
-    SegmentItems,
-    BodyBytes,
-    SelectTypes,
-    Locals,
-    Catches,
-}
-
-/// The limit of this name, of those of types and names.
-fn type_field(name: &str) -> Option<Field>
-    ensures { result ≡ field_in type_words name.now }
-{
-    if name == "types" {
-        return Some(Field::Types);
-    }
-    if name == "params" {
-        return Some(Field::Params);
-    }
-    if name == "results" {
-        return Some(Field::Results);
-    }
-    if name == "fields" {
-        return Some(Field::Fields);
-    }
-    if name == "string-bytes" {
-        return Some(Field::StringBytes);
-    }
-    if name == "subtyping-depth" {
-        return Some(Field::SubtypingDepth);
-    }
-    if name == "type-size" {
-        return Some(Field::TypeSize);
-    }
-    None
-}
-
-/// The limit of this name, of those of what a module declares.
-fn entity_field(name: &str) -> Option<Field>
-    ensures { result ≡ field_in entity_words name.now }
-{
-    if name == "imports" {
-        return Some(Field::Imports);
-    }
-    if name == "exports" {
-        return Some(Field::Exports);
-    }
-    if name == "functions" {
-        return Some(Field::Functions);
-    }
-    if name == "globals" {
-        return Some(Field::Globals);
-    }
-    if name == "tags" {
-        return Some(Field::Tags);
-    }
-    if name == "tables" {
-        return Some(Field::Tables);
-    }
-    if name == "memories" {
-        return Some(Field::Memories);
-    }
-    None
-}
-
-/// The limit of this name, of those of segments and bodies.
-fn content_field(name: &str) -> Option<Field>
-    ensures { result ≡ field_in content_words name.now }
-{
-    if name == "element-segments" {
-        return Some(Field::ElementSegments);
-    }
-    if name == "data-segments" {
-        return Some(Field::DataSegments);
-    }
-    if name == "segment-items" {
-        return Some(Field::SegmentItems);
-    }
-    if name == "body-bytes" {
-        return Some(Field::BodyBytes);
-    }
-    if name == "select-types" {
-        return Some(Field::SelectTypes);
-    }
-    if name == "locals" {
-        return Some(Field::Locals);
-    }
-    if name == "catches" {
-        return Some(Field::Catches);
-    }
-    None
-}
+/// All limits, in the order of the fields of `Limits`.
+const LIMITS: [Limit; 21] = [
+    Limit::Types,
+    Limit::Params,
+    Limit::Results,
+    Limit::Fields,
+    Limit::StringBytes,
+    Limit::Imports,
+    Limit::Exports,
+    Limit::Functions,
+    Limit::Globals,
+    Limit::Tags,
+    Limit::Tables,
+    Limit::Memories,
+    Limit::ElementSegments,
+    Limit::DataSegments,
+    Limit::SegmentItems,
+    Limit::BodyBytes,
+    Limit::SelectTypes,
+    Limit::Locals,
+    Limit::Catches,
+    Limit::SubtypingDepth,
+    Limit::TypeSize,
+];
 
 /// The limit of this name.
-fn field_named(name: &str) -> Option<Field>
-    ensures { result ≡ field_of name.now }
+fn limit_named(name: &str) -> Option<Limit>
+    ensures { result ≡ limit_named name.now }
 {
-    if let Some(field) = type_field(name) {
-        return Some(field);
-    }
-    if let Some(field) = entity_field(name) {
-        return Some(field);
-    }
-    content_field(name)
+    LIMITS.iter().copied().find(|limit| name == limit.word())
 }
 
 /// What a limit is in these limits.
-fn limit_of(field: Field, limits: &Limits) -> u32
-    ensures { result ≡ limit_of field limits.now }
+fn limit_of(limit: Limit, limits: &Limits) -> u32
+    ensures { result ≡ limit_of limit limits.now }
 {
-    match field {
-        Field::Types => limits.types,
-        Field::Params => limits.params,
-        Field::Results => limits.results,
-        Field::Fields => limits.fields,
-        Field::StringBytes => limits.string_bytes,
-        Field::SubtypingDepth => limits.subtyping_depth,
-        Field::TypeSize => limits.type_size,
-        Field::Imports => limits.imports,
-        Field::Exports => limits.exports,
-        Field::Functions => limits.functions,
-        Field::Globals => limits.globals,
-        Field::Tags => limits.tags,
-        Field::Tables => limits.tables,
-        Field::Memories => limits.memories,
-        Field::ElementSegments => limits.element_segments,
-        Field::DataSegments => limits.data_segments,
-        Field::SegmentItems => limits.segment_items,
-        Field::BodyBytes => limits.body_bytes,
-        Field::SelectTypes => limits.select_types,
-        Field::Locals => limits.locals,
-        Field::Catches => limits.catches,
+    match limit {
+        Limit::Types => limits.types,
+        Limit::Params => limits.params,
+        Limit::Results => limits.results,
+        Limit::Fields => limits.fields,
+        Limit::StringBytes => limits.string_bytes,
+        Limit::SubtypingDepth => limits.subtyping_depth,
+        Limit::TypeSize => limits.type_size,
+        Limit::Imports => limits.imports,
+        Limit::Exports => limits.exports,
+        Limit::Functions => limits.functions,
+        Limit::Globals => limits.globals,
+        Limit::Tags => limits.tags,
+        Limit::Tables => limits.tables,
+        Limit::Memories => limits.memories,
+        Limit::ElementSegments => limits.element_segments,
+        Limit::DataSegments => limits.data_segments,
+        Limit::SegmentItems => limits.segment_items,
+        Limit::BodyBytes => limits.body_bytes,
+        Limit::SelectTypes => limits.select_types,
+        Limit::Locals => limits.locals,
+        Limit::Catches => limits.catches,
     }
 }
 
 /// These limits with this one set.
-fn with_limit(field: Field, value: u32, limits: Limits) -> Limits
-    ensures { result ≡ with_limit field value limits }
+fn with_limit(limit: Limit, value: u32, limits: Limits) -> Limits
+    ensures { result ≡ with_limit limit value limits }
 {
-    match field {
-        Field::Types => Limits {
+    match limit {
+        Limit::Types => Limits {
             types: value,
             ..limits
         },
-        Field::Params => Limits {
+        Limit::Params => Limits {
             params: value,
             ..limits
         },
-        Field::Results => Limits {
+        Limit::Results => Limits {
             results: value,
             ..limits
         },
-        Field::Fields => Limits {
+        Limit::Fields => Limits {
             fields: value,
             ..limits
         },
-        Field::StringBytes => Limits {
+        Limit::StringBytes => Limits {
             string_bytes: value,
             ..limits
         },
-        Field::SubtypingDepth => Limits {
+        Limit::SubtypingDepth => Limits {
             subtyping_depth: value,
             ..limits
         },
-        Field::TypeSize => Limits {
+        Limit::TypeSize => Limits {
             type_size: value,
             ..limits
         },
-        Field::Imports => Limits {
+        Limit::Imports => Limits {
             imports: value,
             ..limits
         },
-        Field::Exports => Limits {
+        Limit::Exports => Limits {
             exports: value,
             ..limits
         },
-        Field::Functions => Limits {
+        Limit::Functions => Limits {
             functions: value,
             ..limits
         },
-        Field::Globals => Limits {
+        Limit::Globals => Limits {
             globals: value,
             ..limits
         },
-        Field::Tags => Limits {
+        Limit::Tags => Limits {
             tags: value,
             ..limits
         },
-        Field::Tables => Limits {
+        Limit::Tables => Limits {
             tables: value,
             ..limits
         },
-        Field::Memories => Limits {
+        Limit::Memories => Limits {
             memories: value,
             ..limits
         },
-        Field::ElementSegments => Limits {
+        Limit::ElementSegments => Limits {
             element_segments: value,
             ..limits
         },
-        Field::DataSegments => Limits {
+        Limit::DataSegments => Limits {
             data_segments: value,
             ..limits
         },
-        Field::SegmentItems => Limits {
+        Limit::SegmentItems => Limits {
             segment_items: value,
             ..limits
         },
-        Field::BodyBytes => Limits {
+        Limit::BodyBytes => Limits {
             body_bytes: value,
             ..limits
         },
-        Field::SelectTypes => Limits {
+        Limit::SelectTypes => Limits {
             select_types: value,
             ..limits
         },
-        Field::Locals => Limits {
+        Limit::Locals => Limits {
             locals: value,
             ..limits
         },
-        Field::Catches => Limits {
+        Limit::Catches => Limits {
             catches: value,
             ..limits
         },
@@ -312,11 +222,11 @@ pub fn number_in(text: &[u8]) -> Option<u64>
 }
 
 /// The number that a text sets this limit to: digits that write one not above the limit's ceiling.
-fn number_for(field: Field, text: &str) -> Option<u32>
-    ensures { result ≡ number_for field (Some text.now) }
+fn number_for(limit: Limit, text: &str) -> Option<u32>
+    ensures { result ≡ number_for limit (Some text.now) }
 {
     let number = number_in(text.as_bytes())?;
-    let most = limit_of(field, &Limits::ceilings());
+    let most = limit_of(limit, &Limits::ceilings());
     if number > u64::from(most) {
         return None;
     }
@@ -340,16 +250,16 @@ fn limits_after(limits: Limits, word: &str) -> Result<Limits, Wrong>
     ensures within { IsWithinCeilings limits → IfOk result IsWithinCeilings }
 {
     let (name, value) = name_and_value(word);
-    let Some(field) = field_named(name) else {
+    let Some(limit) = limit_named(name) else {
         return Err(Wrong::Unknown);
     };
     let Some(text) = value else {
         return Err(Wrong::BadValue);
     };
-    let Some(number) = number_for(field, text) else {
+    let Some(number) = number_for(limit, text) else {
         return Err(Wrong::BadValue);
     };
-    Ok(with_limit(field, number, limits))
+    Ok(with_limit(limit, number, limits))
 }
 
 /// What a list makes of limits, or its first word that is at fault.
@@ -396,8 +306,8 @@ pub fn ceiling_of(word: &str) -> Option<u32>
     ensures { result ≡ word_ceiling word.now }
 {
     let (name, _value) = name_and_value(word);
-    let field = field_named(name)?;
-    Some(limit_of(field, &Limits::ceilings()))
+    let limit = limit_named(name)?;
+    Some(limit_of(limit, &Limits::ceilings()))
 }
 
 /// The limits that a list stands for: words `name=N` between commas, of the fields of `Limits` with hyphens for underscores and numbers

@@ -5,7 +5,7 @@ ghost use Rattle.std.specs.Fmt.{WritesOnOk};
 ghost use Rattle.std.specs.Prelude.{◌≡◌, Ok, IfOk, flat_map, length, string_bytes};
 ghost use Rattle.wasm_types.specs.settings.Sets.{bits_of};
 ghost use Rattle.wasm_check_faults.specs.FeatureLists.{all_features, features_of};
-ghost use Rattle.wasm_check_faults.specs.WordLists.{AreFeatures, NeedsEndOnce, listed, needs_line, needs_object, needs_text, next_word, words_in};
+ghost use Rattle.wasm_check_faults.specs.WordLists.{AreFeatures, MinimalRows, NeedsEndOnce, listed, needs_line, needs_object, needs_text, next_word, words_in};
 
 use bitflags::Flags;
 use std::alloc::{AllocError, Global};
@@ -243,6 +243,12 @@ pub fn needs_text(
         Form::Quiet => Ok(String::new(alloc)),
     }
 }
+
+/// Worked lists: of which no word can be left out, and of which one can.
+#[tactic(auto, using(crate::proofs::WordListLemmas::minimal_rows))]
+pub fn minimal_lists_are_worked()
+    ensures { MinimalRows }
+{}
 
 /// What is told of a file's features is one line.
 #[tactic(auto, using(crate::proofs::WordListLemmas::needs_end))]

@@ -67,6 +67,24 @@ impl<R: WasmModuleResources + Drop> FuncToValidate<R> {
         ensures limits { IfOk result (λ v. v.limits ≡ self.limits) }
         ensures at { RefusedAt 0 result }
     {
+        self.begin_at(0, allocs)
+    }
+
+    /// The same, if a refusal is to be told at this offset.
+    #[inline]
+    pub(crate) fn begin_at(
+        self,
+        offset: u64,
+        allocs: FuncValidatorAllocations,
+    ) -> Result<FuncValidator<R>>
+        requires within { IsWithinCeilings self.limits }
+        ensures exact { Tells result (MayBegin (R.meaning self.resources) self.limits.locals self.ty) }
+        ensures begins { IfOk result (λ v. Begins (R.meaning self.resources) self.features.0 self.ty v.validator) }
+        ensures resources { IfOk result (λ v. v.resources ≡ self.resources) }
+        ensures index { IfOk result (λ v. v.index ≡ self.index) }
+        ensures limits { IfOk result (λ v. v.limits ≡ self.limits) }
+        ensures at { RefusedAt offset result }
+    {
         let FuncToValidate {
             resources,
             index,
@@ -75,7 +93,7 @@ impl<R: WasmModuleResources + Drop> FuncToValidate<R> {
             limits,
         } = self;
         let FuncValidatorAllocations { allocs, alloc } = allocs;
-        let validator = match new_func(ty, 0, &features, limits, &resources, allocs) {
+        let validator = match new_func(ty, offset, &features, limits, &resources, allocs) {
             Ok(validator) => validator,
             Err(error) => return Err(error),
         };

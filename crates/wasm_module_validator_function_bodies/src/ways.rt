@@ -66,7 +66,8 @@ fn accepts<R: WasmModuleResources>(
     complete.accepts(&function.resources, function.ty, features, limits, body)
 }
 
-/// Judges a body completely, by a validator of its own.
+/// Judges a body completely, by a validator of its own. That its function has more parameters than locals are allowed is told at the offset of the
+/// body's locals.
 #[inline(never)]
 fn judge_with_reason<R: WasmModuleResources + Drop>(
     alloc: Global,
@@ -77,7 +78,9 @@ fn judge_with_reason<R: WasmModuleResources + Drop>(
     ensures { (z : Settings) → z.limits ≡ function.limits → IsReadBy z function.features.0 body.now
         → Tells result (IsFunctionOf z (R.meaning function.resources).«module» function.ty body.now.rest) }
 {
-    let mut validator = match function.into_validator(FuncValidatorAllocations::new(alloc)) {
+    let locals = body.get_binary_reader().original_position();
+    let allocs = FuncValidatorAllocations::new(alloc);
+    let mut validator = match function.begin_at(locals, allocs) {
         Ok(validator) => validator,
         Err(error) => return Err(error),
     };

@@ -3,8 +3,8 @@ use Rattle.wasm_types.specs.settings.Sets.{bits_of}
 use Rattle.wasm_check_faults.specs.FeatureLists.{all_features}
 use Rattle.wasm_check_faults.specs.WordLists.{AreFeatures, Suffices, words_in}
 use Rattle.wasm_check_command.specs.Modes.{by_features}
-use Rattle.wasm_check_command.proofs.NeedsLemmas.{all_suffice, least_by, some_of}
-use Rattle.wasm_check_command.proofs.needs.least_list.Goals as goal
+use Rattle.wasm_check_command.proofs.NeedsLemmas.{all_suffice, minimal_by, some_of}
+use Rattle.wasm_check_command.proofs.needs.minimal_list.Goals as goal
 
 pub go_through-requires-clause-enough : goal.go_through-requires-clause-enough
 go_through-requires-clause-enough g c =
@@ -25,5 +25,5 @@ loop-turn-preserved g c =
 
 pub returns-in-None : goal.returns-in-None
 returns-in-None g c =
-    least_by (by_features g.J.Judge.accepts c.args.limits c.args.bytes.now) c.loop-turn.words.items c.as_slice.result.now c.as_slice.ensures.value
+    minimal_by (by_features g.J.Judge.accepts c.args.limits c.args.bytes.now) c.loop-turn.words.items c.as_slice.result.now c.as_slice.ensures.value
     c.loop-turn.invariant.known c.loop-turn.invariant.enough (c.in_ok-fewer.ensures.none c.in-None.is)

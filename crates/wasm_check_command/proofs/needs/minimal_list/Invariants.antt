@@ -2,7 +2,7 @@
 use Rattle.std.proofs.Common.{◌+◌, ◌≤◌, length}
 use Rattle.wasm_check_faults.specs.WordLists.{AreFeatures, Suffices, words_in}
 use Rattle.wasm_check_command.specs.Modes.{by_features}
-use Rattle.wasm_check_command.proofs.needs.least_list.Given as goal
+use Rattle.wasm_check_command.proofs.needs.minimal_list.Given as goal
 
 abbrev pub invariant-loop-turn : goal.invariant-loop-turn
 invariant-loop-turn g l = record {
