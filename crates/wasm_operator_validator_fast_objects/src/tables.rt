@@ -199,8 +199,8 @@ pub fn table_copy(
     if !tables.features.bulk_memory() || !tables.known.order.may_be_taken(from.ty, to.ty) {
         return None;
     }
-    let length = shorter(to.index, from.index);
-    if !stack.take(length) || !stack.take(from.index) || !stack.take(to.index) {
+    let least = shorter(to.index, from.index);
+    if !stack.take(least) || !stack.take(from.index) || !stack.take(to.index) {
         return None;
     }
     Some(end)

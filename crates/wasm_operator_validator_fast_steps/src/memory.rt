@@ -144,8 +144,8 @@ pub fn memory_copy(
     if target >= NO_CODE || source >= NO_CODE {
         return None;
     }
-    let length = shorter(target, source);
-    if !stack.take(length) || !stack.take(source) || !stack.take(target) {
+    let least = shorter(target, source);
+    if !stack.take(least) || !stack.take(source) || !stack.take(target) {
         return None;
     }
     Some(end)
