@@ -108,7 +108,7 @@ impl TakesBytes for GoingOn {
     fn take(&mut self, bytes: &[u8], eof: bool) -> Taken<Types> {
         match &self.refused {
             None => self.take_judged(bytes, eof),
-            Some(_error) => self.take_unjudged(bytes, eof),
+            Some(_) => self.take_unjudged(bytes, eof),
         }
     }
 
