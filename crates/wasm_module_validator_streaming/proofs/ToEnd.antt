@@ -12,7 +12,7 @@ use Rattle.wasm_module_validator_streaming.specs.GoingOn.{GoesOnBy, GoesOnAt, Sh
 use Rattle.wasm_module_validator_streaming.specs.HandedOver.{DeniesAll}
 use Rattle.wasm_module_validator_streaming.specs.Handing.{HasRoom, Follows, DeniesBehind}
 use Rattle.wasm_module_validator_streaming.specs.Taking.{IsMidst, IsPending}
-use Rattle.wasm_module_validator_streaming.specs.ToEnd.{IsGoingOn, GoesOnOr, CameToEnd, HasCome}
+use Rattle.wasm_module_validator_streaming.specs.ToEnd.{IsGoingOn, GoesOnOr, CameToEnd, HasBegun}
 use Rattle.wasm_module_validator_streaming.specs.Verdicts.{IsRefusal, IsVerdict, StandsAt}
 use Rattle.wasm_module_validator_streaming.specs.laws.Running.{memory_denies}
 use Rattle.wasm_module_validator_streaming.proofs.Waiting.{none_pending}
@@ -43,7 +43,7 @@ memory_came z id got p e kind some = refused_came z id got p e some (λ more roo
 
 -- ---- one piece more
 
-module _ (p : ModuleToEnd) (none : p.refused ≡ None) (way : HasCome p) (bytes : List ℕ) (few : p.came + length bytes < 2 ^ 64) where
+module _ (p : ModuleToEnd) (none : p.refused ≡ None) (way : HasBegun p) (bytes : List ℕ) (few : p.came + length bytes < 2 ^ 64) where
   here : IsGoingOn way.settings way.id way.got p
   here = going_of way.settings way.id way.got p none way.came
 
@@ -79,7 +79,7 @@ module _ (z : Settings) (id : ValidatorId) (got : List ℕ) (p : ModuleToEnd) (g
 
 -- ---- the end
 
-pub last_midst : (p : ModuleToEnd) → p.refused ≡ None → HasCome p → IsMidst GoesOnAt false p.pending.bytes.items p.going
+pub last_midst : (p : ModuleToEnd) → p.refused ≡ None → HasBegun p → IsMidst GoesOnAt false p.pending.bytes.items p.going
 last_midst p none way =
     let g = going_of way.settings way.id way.got p none way.came in
     record { first = g.first; got = way.got; there = g.there; room = g.room }

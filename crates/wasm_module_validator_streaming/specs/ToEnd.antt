@@ -31,7 +31,7 @@ abbrev pub CameToEnd : Settings → ValidatorId → List ℕ → ModuleToEnd →
 CameToEnd z id got p = GoesOnOr z id got p p.refused
 
 -- Some bytes came, perhaps none.
-pub record HasCome (p : ModuleToEnd) : Type 0 where
+pub record HasBegun (p : ModuleToEnd) : Type 0 where
   pub settings : Settings
   pub id : ValidatorId
   pub got : List ℕ

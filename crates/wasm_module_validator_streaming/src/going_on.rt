@@ -10,7 +10,7 @@ ghost use Rattle.wasm_module_validator_streaming.specs.laws.Running.{memory_deni
 
 use crate::judging::Judging;
 use crate::taking::{Taken, TakesBytes};
-use wasm_module_validator::Types;
+use wasm_module_validator::{Types, ValidPayload};
 use wasm_sections::Chunk;
 use wasm_types::{Error, ErrorKind};
 
@@ -76,8 +76,11 @@ impl GoingOn {
         match self.judging.parser.parse(bytes, eof) {
             Ok(Chunk::NeedMoreData(needed)) => Taken::Waits(needed),
             Ok(Chunk::Parsed { consumed, payload }) => {
-                if let Err(error) = self.judging.validator.payload(payload) {
-                    return Taken::Refused(error);
+                match self.judging.validator.payload(payload) {
+                    Ok(ValidPayload::Ok) => (),
+                    Ok(ValidPayload::Func(_, _)) => (),
+                    Ok(ValidPayload::End(_)) => (),
+                    Err(error) => return Taken::Refused(error),
                 }
                 if consumed > 0 {
                     return Taken::Item(consumed);
@@ -108,7 +111,7 @@ impl TakesBytes for GoingOn {
     fn take(&mut self, bytes: &[u8], eof: bool) -> Taken<Types> {
         match &self.refused {
             None => self.take_judged(bytes, eof),
-            Some(_error) => self.take_unjudged(bytes, eof),
+            Some(_) => self.take_unjudged(bytes, eof),
         }
     }
 

@@ -4,7 +4,7 @@ ghost use Rattle.std.specs.Prelude.{◌<◌, ◌^◌, ◌++◌, [], List, ℕ, l
 ghost use Rattle.wasm_types.specs.settings.Limits.{IsWithinCeilings};
 ghost use Rattle.wasm_types.specs.settings.Settings.{Settings};
 ghost use Rattle.wasm_module_validator_index_spaces.specs.declared.view.validator_id.ValidatorId.{ValidatorId};
-ghost use Rattle.wasm_module_validator_streaming.specs.ToEnd.{CameToEnd, HasCome, TellsVerdict};
+ghost use Rattle.wasm_module_validator_streaming.specs.ToEnd.{CameToEnd, HasBegun, TellsVerdict};
 
 use crate::going_on::GoingOn;
 use crate::handing::{PieceError, conclude, take_handed};
@@ -59,19 +59,19 @@ impl ModuleToEnd {
 
     /// Takes the next bytes of the module. The work is linear in the bytes, however they are cut.
     pub fn take(&mut self, bytes: &[u8])
-        requires { HasCome self.old }
+        requires { HasBegun self.old }
         ensures came { (z : Settings) (id : ValidatorId) (got : List ℕ) → CameToEnd z id got self.old
             → CameToEnd z id (got ++ bytes.now) self.new }
     {
         match &self.refused {
             None => self.advance(bytes),
-            Some(_error) => (),
+            Some(_) => (),
         }
     }
 
     /// Takes the next bytes, if none are refused so far.
     fn advance(&mut self, bytes: &[u8])
-        requires way { HasCome self.old }
+        requires way { HasBegun self.old }
         requires going { self.old.refused ≡ None }
         ensures came { (z : Settings) (id : ValidatorId) (got : List ℕ) → CameToEnd z id got self.old
             → CameToEnd z id (got ++ bytes.now) self.new }
@@ -102,7 +102,7 @@ impl ModuleToEnd {
     ///
     /// The bytes are no valid module; or, of kind `OutOfMemory`, which is no verdict, there was no memory.
     pub fn end(self) -> Result<Types>
-        requires { HasCome self }
+        requires { HasBegun self }
         ensures { (z : Settings) (id : ValidatorId) (got : List ℕ) → CameToEnd z id got self → length got < 2 ^ 64
             → TellsVerdict z id got result }
     {
