@@ -1,5 +1,5 @@
 -- Operands in memory: those of the innermost frame, and those under them.
-use Rattle.std.proofs.Common.{◌≡◌, ◌≤◌, ◌<◌, ◌+◌, ◌-◌, ◌∙◌, ℕ, suc, List, [], ◌∷◌, Some, refl, sym, ap, subst, arith, ◌++◌, length, take, drop, reverse, get_or, slice_get, drop-cons}
+use Rattle.std.proofs.Common.{◌≡◌, ◌≤◌, ◌<◌, ◌-◌, ◌∙◌, ℕ, suc, List, [], ◌∷◌, Some, refl, sym, ap, subst, arith, ◌++◌, length, take, drop, reverse, get_or, slice_get, drop-cons}
 use Rattle.std.proofs.lemmas.Grind.{common_steps}
 use Rattle.std.proofs.lemmas.List.{length-drop, drop_all, take-append-drop, length-append}
 use Rattle.wasm_operator_validator_fast_tables.specs.declared.order.Step.{Step}
