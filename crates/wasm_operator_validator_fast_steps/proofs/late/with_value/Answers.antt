@@ -1,5 +1,5 @@
 use Rattle.std.proofs.Common.{◌≤◌, ◌<◌, ◌-◌, refl, arith}
-use Rattle.wasm_operator_validator_fast_steps.proofs.Valued.{set_more}
+use Rattle.wasm_operator_validator_fast_steps.proofs.LateRows.{set_more}
 use Rattle.wasm_operator_validator_fast_steps.proofs.late.with_value.Goals as goal
 
 pub returns : goal.returns
