@@ -44,12 +44,12 @@ module _ (t : Tables) (bits x : ℕ) (set : Initialised) (full : Full t bits set
   set_more above within k lt has = either (x == k) refl
     where
       other : (x == k) ≡ false → HasValue t (bit_or bits (1 * 2 ^ (x - t.certain) % 2 ^ 64)) k → HasValue t bits k
-      other no (inl sure) = inl sure
-      other no (inr (inl default)) = inr (inl default)
-      other no (inr (inr bit)) = placed (cases_lt k t.certain)
+      other apart_from (inl sure) = inl sure
+      other apart_from (inr (inl default)) = inr (inl default)
+      other apart_from (inr (inr bit)) = placed (cases_lt k t.certain)
         where
           apart : t.certain ≤ k → k - t.certain ≡ x - t.certain → ⊥
-          apart le same = let one : x ≡ k = omega (arith, le, above, same) in eqb-false x k no one
+          apart le same = let one : x ≡ k = omega (arith, le, above, same) in eqb-false x k apart_from one
 
           placed : (k < t.certain) ⊎ (t.certain ≤ k) → HasValue t bits k
           placed (inl few) = inl few
