@@ -1,5 +1,5 @@
 -- Locals that have values wherever they are read, as a list apart.
-use Rattle.std.proofs.Common.{◌≡◌, ◌<◌, ◌∙◌, ℕ, zero, suc, List, [], ◌∷◌, refl, sym, ap, subst, arith, length, take, get_or}
+use Rattle.std.proofs.Common.{◌≡◌, ◌<◌, ◌∙◌, ℕ, zero, suc, List, [], ◌∷◌, refl, ap, subst, arith, length, take, get_or}
 
 taken : (n x : ℕ) (xs : List ℕ) → x < length (take n xs) → (x < n) × (x < length xs) × (get_or (take n xs) x 0 ≡ get_or xs x 0)
 taken zero x xs lt = absurd (omega (arith, lt))
