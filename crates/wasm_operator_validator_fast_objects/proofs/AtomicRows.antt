@@ -83,7 +83,7 @@ zero_of settings text i n e g = gives_as zero_byte text i n of_zero e g
 -- ---- the operators
 
 module _ (t : Tables) (text : List ℕ) (i e : ℕ) (o : Open) (outer : List Open) (v w : Values) where
-  Here : List TypeTree → Context → Context
+  abbrev Here : List TypeTree → Context → Context
   Here ids c = inside_all ids c t.known.flat.items (o ∷ outer)
 
   pub took_atomic : (code n natural address ty : ℕ) (k : AccessClass) → BeginsPrefixed text i 0xfe code n → Has t.features.0 feature.Threads → IsAtomicAt code natural k ty
