@@ -1,5 +1,5 @@
 -- What atomic accesses and the fence take and give.
-use Rattle.std.proofs.Common.{◌≡◌, ◌∙◌, ◌+◌, ℕ, List, [], ◌∷◌, ◌++◌, Some, None, true, false, refl, sym, ap, subst, get_or, reverse}
+use Rattle.std.proofs.Common.{◌≡◌, ◌∙◌, ℕ, List, [], ◌∷◌, ◌++◌, Some, None, true, false, refl, sym, ap, subst, get_or, reverse}
 use Rattle.std.specs.Prelude.{◌%◌}
 use Rattle.std.proofs.lemmas.Bool.{eq-eqb}
 use Rattle.wasm_types.specs.decoding.Numbers.{GivesAt}
