@@ -6,4 +6,3 @@ pub mod FileReports
 pub mod FileLemmas
 mod NeedsLemmas
 mod NameLemmas
-mod ListingLemmas

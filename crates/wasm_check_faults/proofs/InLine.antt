@@ -13,7 +13,7 @@ use Rattle.wasm_check_lines.specs.FeatureWords.{word_for}
 use Rattle.wasm_check_faults.specs.FeatureLists.{meant_by}
 use Rattle.wasm_check_faults.specs.LimitLists.{word_ceiling}
 use Rattle.wasm_check_faults.specs.LineLaws.{FaultsStayInLine}
-use Rattle.wasm_check_faults.specs.FaultTexts.{bad_pieces_text, ceiling_hint, error_word, fault_hint, fault_object, fault_text, fault_word, file_text, known_text, meant_hint, most_text, stopped_member, stopped_text, subject_member, text_member, word_text, wrong_hint, wrong_word}
+use Rattle.wasm_check_faults.specs.FaultTexts.{ceiling_hint, error_word, fault_hint, fault_object, fault_text, fault_word, file_text, known_text, meant_hint, most_text, stopped_member, stopped_text, subject_member, text_member, word_text, wrong_hint, wrong_word}
 use Rattle.wasm_check_faults.specs.declared.error.CheckError.{CheckError}
 use Rattle.wasm_check_faults.specs.declared.error.CheckError.TheVariants.{Read, TooLong, OutOfMemory, Write}
 use Rattle.wasm_check_faults.specs.declared.limits.Wrong.{Wrong}

@@ -1,5 +1,5 @@
 -- On lists that begin with `mvp`.
-use Rattle.std.proofs.Common.{◌≡◌, ◌∙◌, ◌+◌, ◌<◌, ◌≤◌, ◌==◌, ℕ, Bool, true, false, not, List, [], ◌∷◌, ◌++◌, All, ap, sym, subst, refl, append-nil, append_assoc, codes, flat_map, length, map, drop, take, get_or, nat_eq, nat_le, arith, lit<, lit≤}
+use Rattle.std.proofs.Common.{◌≡◌, ◌∙◌, ◌+◌, ◌<◌, ◌≤◌, ◌==◌, ℕ, zero, suc, Bool, true, false, not, List, [], ◌∷◌, ◌++◌, All, ap, sym, subst, refl, append-nil, append_assoc, codes, flat_map, length, map, drop, take, get_or, nat_eq, nat_le, arith, lit<, lit≤}
 use Rattle.std.specs.Prelude.{Contains, IfOk, IfSome, Option, Some, None, Result, Ok, option_map}
 use Rattle.std.specs.Option.{ok_or}
 use Rattle.std.specs.Fmt.{◌++?◌, digits}
@@ -11,7 +11,7 @@ use Rattle.std.proofs.lemmas.List.{at_drop_more, at_drop_all, length-map, get_or
 use Rattle.std.proofs.lemmas.List.Folds.{flat_map-map}
 use Rattle.std.proofs.lemmas.Result.{IfOk-weaker}
 use Rattle.std.proofs.lemmas.Simd.{map-map}
-use Rattle.std.proofs.lemmas.List.Elements.{All-append, All-cons, All-contains, All-head, All-map, All-tail, All-take, All-drop, All-weaker, Contains-get_or}
+use Rattle.std.proofs.lemmas.List.Elements.{All-nil, All-append, All-cons, All-contains, All-head, All-map, All-tail, All-take, All-drop, All-weaker, Contains-get_or}
 use Rattle.std.proofs.lemmas.List.Splits.{slice_split_none, slice_split_at}
 use Rattle.std.proofs.lemmas.List.Sums.{AllPass-from_list_all}
 use Rattle.wasm_types.specs.settings.Features.{vectors_bit}
@@ -22,8 +22,8 @@ use Rattle.wasm_check_lines.specs.Shown.{shown}
 use Rattle.wasm_check_lines.specs.LineLaws.{IsOneLine, StaysInLine}
 use Rattle.wasm_check_lines.proofs.InLine.{json_stays, literal, shown_stays}
 use Rattle.wasm_check_faults.specs.Lists.{Place, place_of, through, words_of}
-use Rattle.wasm_check_faults.specs.FeatureLists.{all_features, Change, Replace, Add, Remove, change_of, changed, features_along, features_of, feature_step, set_after}
-use Rattle.wasm_check_faults.specs.WordLists.{AreFeatures, IsFeature, IsMinimal, Lacks, MinimalRows, NeedsEndOnce, Suffices, has_both, has_either}
+use Rattle.wasm_check_faults.specs.FeatureLists.{all_features, Change, Replace, Add, Remove, change_of, changed, features_along, features_of, feature_step}
+use Rattle.wasm_check_faults.specs.WordLists.{AreFeatures, IsFeature, Lacks, MinimalRows, NeedsEndOnce, Suffices, has_both, has_either}
 use Rattle.wasm_check_faults.specs.WordLists.{listed, needs_line, needs_object, next_word, row_of, without_word, words_in}
 use Rattle.wasm_check_faults.specs.declared.word_lists.FeatureWord.{FeatureWord}
 use Rattle.wasm_check_faults.proofs.ListLemmas.{taken, ended}
@@ -47,12 +47,12 @@ adds_is (Some (Remove feature)) bits e = absurd cc
 abbrev is_plain : ℕ → Bool
 is_plain b = not (b == 44)
 
+is_not : (t : Bool) → not t ≡ true → t ≡ false
+is_not true e = absurd cc
+is_not false e = refl
+
 plain_is : (b : ℕ) → is_plain b ≡ true → (b == 44) ≡ false
-plain_is b = at (b == 44)
-  where
-    at : (t : Bool) → not t ≡ true → t ≡ false
-    at true e = absurd cc
-    at false e = refl
+plain_is b = is_not (b == 44)
 
 abbrev HasNoComma : List ℕ → Type 0
 HasNoComma word = All (λ b. (b == 44) ≡ false) word
@@ -188,6 +188,9 @@ two_left_out accepts first second k g zero l = k
 two_left_out accepts first second k g (suc zero) l = g
 two_left_out accepts first second k g (suc (suc n)) l = absurd (omega (arith, l))
 
+no_words : All IsFeature []
+no_words = All-nil IsFeature
+
 reference_known : IsFeature (codes "function-references")
 unfolding feature_words
 reference_known = (17, lit< tt, refl)
@@ -203,7 +206,7 @@ set_unknown c = absurd (let e : true ≡ false = All-contains (λ (w : List ℕ)
     (codes "all") three c in cc)
   where
     three : All (λ (w : List ℕ). nat_eq (length w) 3 ≡ false) (map (λ (row : Row). row.0) feature_words)
-    three = All-weaker (λ (w : List ℕ). not (nat_eq (length w) 3) ≡ true) (λ (w : List ℕ). nat_eq (length w) 3 ≡ false) (λ w e. cc)
+    three = All-weaker (λ (w : List ℕ). not (nat_eq (length w) 3) ≡ true) (λ (w : List ℕ). nat_eq (length w) 3 ≡ false) (λ w. is_not (nat_eq (length w) 3))
         (map (λ (row : Row). row.0) feature_words)
         (AllPass-from_list_all (λ (w : List ℕ). not (nat_eq (length w) 3)) (map (λ (row : Row). row.0) feature_words) refl)
 
@@ -211,12 +214,12 @@ pub minimal_rows : MinimalRows
 unfolding through features_along feature_words listed
 minimal_rows = record {
   either_first = record {
-    known = All-cons IsFeature (codes "function-references") [] reference_known tt;
+    known = All-cons IsFeature (codes "function-references") [] reference_known no_words;
     enough = record { features = 0x420800; named = refl; valid = refl };
     minimal = one_left_out has_either (codes "function-references") none_is_too_few;
   };
   either_second = record {
-    known = All-cons IsFeature (codes "gc") [] gc_known tt;
+    known = All-cons IsFeature (codes "gc") [] gc_known no_words;
     enough = record { features = 0x480800; named = refl; valid = refl };
     minimal = one_left_out has_either (codes "gc") none_is_too_few;
   };
@@ -224,18 +227,18 @@ minimal_rows = record {
   either_with_none = λ m. suffices_not has_either [] 0x400800 refl (λ e. cc) m.enough;
   either_with_a_set = λ m. set_unknown (All-head IsFeature (codes "all") [] m.known);
   both = record {
-    known = All-cons IsFeature (codes "function-references") (codes "gc" ∷ []) reference_known (All-cons IsFeature (codes "gc") [] gc_known tt);
+    known = All-cons IsFeature (codes "function-references") (codes "gc" ∷ []) reference_known (All-cons IsFeature (codes "gc") [] gc_known no_words);
     enough = record { features = 0x4a0800; named = refl; valid = refl };
     minimal = two_left_out has_both (codes "function-references") (codes "gc") gc_is_too_few reference_is_too_few;
   };
   both_in_turn = record {
-    known = All-cons IsFeature (codes "gc") (codes "function-references" ∷ []) gc_known (All-cons IsFeature (codes "function-references") [] reference_known tt);
+    known = All-cons IsFeature (codes "gc") (codes "function-references" ∷ []) gc_known (All-cons IsFeature (codes "function-references") [] reference_known no_words);
     enough = record { features = 0x4a0800; named = refl; valid = refl };
     minimal = two_left_out has_both (codes "gc") (codes "function-references") reference_is_too_few gc_is_too_few;
   };
   both_with_one = λ m. suffices_not has_both (codes "gc" ∷ []) 0x480800 refl (λ e. cc) m.enough;
   nothing = record {
-    known = tt;
+    known = no_words;
     enough = record { features = 0x400800; named = refl; valid = tt };
     minimal = none_left_out (λ bits. Unit {0});
   };

@@ -1,5 +1,5 @@
 -- Lists of features that begin with `mvp`: each word after it adds a feature.
-use Rattle.std.specs.Prelude.{◌≡◌, ◌==◌, ℕ, ◌<◌, ◌+◌, true, false, List, [], ◌∷◌, ◌++◌, All, Contains, length, map, flat_map, take, drop, codes, Result, Ok}
+use Rattle.std.specs.Prelude.{◌≡◌, ◌==◌, ℕ, ◌<◌, ◌+◌, true, false, List, [], ◌∷◌, ◌++◌, All, Contains, length, map, flat_map, take, drop, codes, Ok}
 use Rattle.std.specs.Int.RustNames.{bit_and, bit_or}
 use Rattle.wasm_types.specs.settings.Features.{mask, vectors_bit, FunctionReferences, Gc}
 use Rattle.wasm_check_lines.specs.FeatureWords.{feature_words}

@@ -1,8 +1,7 @@
 -- Pairs of names by the slots and the map that they are found in.
-use Rattle.std.proofs.Common.{◌≡◌, ◌∙◌, ◌⊎◌, ◌&&◌, ◌==◌, ◌<◌, arith, cond, get_or, ℕ, zero, suc, Bool, true, false, List, [], ◌∷◌, ◌++◌, length, map, take, slice_get}
+use Rattle.std.proofs.Common.{◌≡◌, ◌∙◌, ◌⊎◌, ◌&&◌, ◌==◌, ◌<◌, arith, cond, get_or, ℕ, zero, suc, Bool, true, false, List, [], ◌∷◌, ◌++◌, length, slice_get}
 use Rattle.std.proofs.Common.{Option, Some, None, option_map, refl, sym, ap, subst, inl, inr, ⊎_elim, String, string_bytes, if◌then◌else◌}
 use Rattle.std.proofs.lemmas.Bool.{cases_Bool, cond-true, cond-false, eqb-true}
-use Rattle.std.proofs.lemmas.List.{map-append}
 use Rattle.std.specs.declared.alloc.Global.{Global}
 use Rattle.std.specs.Option.{unwrap_or}
 use Rattle.std.specs.Cmp.{IsTotalOrder, IsEquivalence, eq_by_cmp_equiv, then_total, on_total, both_tied}
@@ -18,7 +17,7 @@ use Rattle.wasm_module_validator_exports.specs.declared.names.pairs.Sought.{Soug
 use Rattle.wasm_module_validator_exports.specs.declared.names.pairs.Sought.TheVariants as sought
 use Rattle.wasm_module_validator_exports.specs.names.Exports.{IsPut, beside}
 use Rattle.wasm_module_validator_exports.specs.declared.names.imports.KeptNames.{KeptNames}
-use Rattle.wasm_module_validator_exports.specs.names.Imports.{AreMarked, IsMarkedApart, Pair, TellsApart, all_named, mark_of, mark_of_pair, number_of, module_at, pairs_of, is_pair, index_of, slot_for, in_first, in_other, is_there, stands_at, IsSlotOf, IsFree, HasFree, StandsNowhere, HasMet, HasMetAt, compare_names, find_names, HasSought, found, Finds, IsBehind, Holds, HasSettled}
+use Rattle.wasm_module_validator_exports.specs.names.Imports.{Pair, all_named, module_at, pairs_of, is_pair, index_of, slot_for, in_first, in_other, is_there, stands_at, IsSlotOf, IsFree, HasFree, StandsNowhere, HasMet, HasMetAt, compare_names, find_names, HasSought, found, Finds, IsBehind, Holds, HasSettled}
 use Rattle.wasm_module_validator_exports.specs.names.Kept.{name_at}
 use Rattle.wasm_module_validator_exports.proofs.Keeping.{pair_at, read}
 
@@ -461,46 +460,3 @@ module _ (slots : List ℕ) (ms : List (String Global)) (t : List ℕ) (ks : Lis
       = subst (λ (w : ℕ). slice_get all w ≡ Some (module_at ms k.«module», name_at t k.name)) same stands_here in
       let bad : None ≡ Some (module_at ms k.«module», name_at t k.name) = sym free ∙ some in
       cc
-
-  -- where another half of a number is kept the pair is another
-  pub apart_there : (marks : List ℕ) (v : ℕ) → TellsApart marks all m f v → IsMarkedApart marks x v → false ≡ is_pair m f (module_at ms k.«module», name_at t k.name)
-  apart_there marks v tells (y, at, no) =
-      ⊎_elim
-      (λ e. absurd (no (tells x y (module_at ms k.«module», name_at t k.name) at stands_here e)))
-      (λ z. sym z)
-      (cases_Bool (is_pair m f (module_at ms k.«module», name_at t k.name)))
-
--- ---- what is kept of numbers
-
-marked_there : (ps : List Pair) (i : ℕ) → slice_get (map mark_of_pair ps) i ≡ option_map mark_of_pair (slice_get ps i)
-marked_there [] i = refl
-marked_there (p ∷ ps) zero = refl
-marked_there (p ∷ ps) (suc i) = marked_there ps i
-
--- by it pairs are told apart
-pub tells_apart : (marks : List ℕ) (ps : List Pair) (m f : List ℕ) (v : ℕ) → AreMarked marks ps → v ≡ number_of m f → TellsApart marks ps m f v
-tells_apart marks ps m f v all is i y p at there same =
-    let n = names_are m f p.0 p.1 same in
-    let it : Some y ≡ Some (mark_of_pair p) =
-    sym at ∙ (ap (λ (xs : List ℕ). slice_get xs i) all ∙ (marked_there ps i ∙ ap (option_map mark_of_pair) there)) in
-    let mo = n.0 in
-    let na = n.1 in
-    ap (λ (o : Option ℕ). unwrap_or o y) it ∙ (sym (λ j. mark_of (number_of (mo j) (na j))) ∙ ap mark_of (sym is))
-
--- and the first of them too
-front_there : (ms : List (String Global)) (t : List ℕ) (ks : List KeptNames) (i j : ℕ) (p : Pair) → slice_get (pairs_of (all_named ms t (take i ks))) j ≡ Some p
-    → slice_get (pairs_of (all_named ms t ks)) j ≡ Some p
-front_there ms t ks zero j p e = absurd (let bad : None ≡ Some p = e in cc)
-front_there ms t [] (suc i) j p e = absurd (let bad : None ≡ Some p = e in cc)
-front_there ms t (k ∷ ks) (suc i) zero p e = e
-front_there ms t (k ∷ ks) (suc i) (suc j) p e = front_there ms t ks i j p e
-
-pub tells_front : (marks : List ℕ) (ms : List (String Global)) (t : List ℕ) (ks : List KeptNames) (n : ℕ) (m f : List ℕ) (v : ℕ) → AreMarked marks (pairs_of (all_named ms t ks)) → v ≡ number_of m f
-    → TellsApart marks (pairs_of (all_named ms t (take n ks))) m f v
-tells_front marks ms t ks n m f v all is i y p at there same = tells_apart marks (pairs_of (all_named ms t ks)) m f v all is i y p at (front_there ms t ks n i p there) same
-
--- a pair more
-pub marked_more : (marks : List ℕ) (ps : List Pair) (m f : List ℕ) (x : ℕ) → AreMarked marks ps → x ≡ mark_of (number_of m f) → AreMarked (marks ++ x ∷ []) (ps ++ (m, f) ∷ [])
-marked_more marks ps m f x h is =
-    ap (λ (xs : List ℕ). xs ++ x ∷ []) h
-    ∙ (ap (λ (y : ℕ). map mark_of_pair ps ++ y ∷ []) is ∙ sym (map-append mark_of_pair ps ((m, f) ∷ [])))

@@ -88,12 +88,13 @@ module _ (z : Settings) (g : Module) (t : ValueType) (text : List ℕ) where
   gathered : (n m i j k : ℕ) (before now after : List ℕ) → NamesRun z.features g t text n i j before now → AreConstants z g t text m j k now after
       → AreConstants z g t text (n + m) i k before after
   gathered zero m i j k before now after (at, same) more =
-      subst (λ (p : ℕ). AreConstants z g t text m p k before after) at
-      (subst (λ (xs : List ℕ). AreConstants z g t text m j k xs after) same more)
-  gathered (suc n) m i j k before now after (l, then, run, last) more =
+      let all : m ≡ 0 + m = omega arith in
+      subst (λ (c : ℕ). AreConstants z g t text c i k before after) all
+      (subst (λ (p : ℕ). AreConstants z g t text m p k before after) at (subst (λ (xs : List ℕ). AreConstants z g t text m j k xs after) same more))
+  gathered (suc n) m i j k before now after (l, here, run, last) more =
       let all : n + suc m ≡ suc n + m = omega arith in
       subst (λ (c : ℕ). AreConstants z g t text c i k before after) all
-      (gathered n (suc m) i l k before then after run (one_more m l j k then now after last more))
+      (gathered n (suc m) i l k before here after run (one_more m l j k here now after last more))
 
   pub constants_there : (n i j : ℕ) (before after : List ℕ) → j ≤ length text → NamesRun z.features g t text n i j before after
       → AreConstants z g t text n i j before after

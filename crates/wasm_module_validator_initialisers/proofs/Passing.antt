@@ -249,7 +249,7 @@ module _ (bits : ℕ) (m : Meaning) (text : List ℕ) (i j : ℕ) (before : List
       let u : ValueType = ref true (abstract false extern) in
       let told : ToldAt text i j o = λ features. is_told features text i j o (prefixed_of text i 0xfb 0x1b 0x1b j begins refl refl o refl) _ refl refl refl refl in
       put_next o u left behind (value.Ref (any_of true)) (n ∷ []) told refl refl (λ count. allowed) (of_feature bits o proposal.Gc gc_feature refl refl refl allowed)
-      (λ t set. (true, (false, (refl, refl)))) taken refl put
+      (λ t set. (true, false, (refl, refl))) taken refl put
 
   pub from_host_next : (behind : List ValType) → BeginsPrefixed text i 0xfb 0x1a j → Has bits gc_feature → Converts m false before behind → Nexts bits m text i before j behind
   unfolding type_in
@@ -259,7 +259,7 @@ module _ (bits : ℕ) (m : Meaning) (text : List ℕ) (i j : ℕ) (before : List
       let u : ValueType = ref true (abstract false any) in
       let told : ToldAt text i j o = λ features. is_told features text i j o (prefixed_of text i 0xfb 0x1a 0x1a j begins refl refl o refl) _ refl refl refl refl in
       put_next o u left behind (value.Ref (any_of false)) (n ∷ []) told refl refl (λ count. allowed) (of_feature bits o proposal.Gc gc_feature refl refl refl allowed)
-      (λ t set. (true, (false, (refl, refl)))) taken refl put
+      (λ t set. (true, false, (refl, refl))) taken refl put
 
   -- a null, by its heap type
   null_next : (h : HeapType) (v : ValueType) (r : Reference) (behind : List ValType) → i < j → ((z : Settings) → IsBetween (SpelledOperator z (op.Bulk (bulk.RefNull h))) text i j)

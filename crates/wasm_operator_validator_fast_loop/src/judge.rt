@@ -13,43 +13,103 @@ ghost use Rattle.wasm_operator_validator_fast_tables.specs.Loop.{Goes, Leads, al
 
 use std::alloc::Global;
 use std::mem;
-use wasm_operator_validator_fast_objects::arrays::{
-    array_copy, array_fill, array_get, array_get_s, array_get_u, array_len, array_new,
-    array_new_data, array_new_default, array_new_fixed, array_set,
-};
+use wasm_operator_validator_fast_objects::arrays::array_copy;
+use wasm_operator_validator_fast_objects::arrays::array_fill;
+use wasm_operator_validator_fast_objects::arrays::array_get;
+use wasm_operator_validator_fast_objects::arrays::array_get_s;
+use wasm_operator_validator_fast_objects::arrays::array_get_u;
+use wasm_operator_validator_fast_objects::arrays::array_len;
+use wasm_operator_validator_fast_objects::arrays::array_new;
+use wasm_operator_validator_fast_objects::arrays::array_new_data;
+use wasm_operator_validator_fast_objects::arrays::array_new_default;
+use wasm_operator_validator_fast_objects::arrays::array_new_fixed;
+use wasm_operator_validator_fast_objects::arrays::array_set;
 use wasm_operator_validator_fast_objects::atomics::atomic;
-use wasm_operator_validator_fast_objects::casts::{
-    br_on_cast, convert, i31_get, ref_cast, ref_i31, ref_test,
-};
-use wasm_operator_validator_fast_objects::exceptions::{throw, throw_ref, try_table};
-use wasm_operator_validator_fast_objects::references::{
-    br_on_non_null, br_on_null, ref_as_non_null, ref_eq, ref_func, ref_is_null, ref_null,
-    select_typed,
-};
-use wasm_operator_validator_fast_objects::structs::{
-    struct_get, struct_get_s, struct_get_u, struct_new, struct_new_default, struct_set,
-};
-use wasm_operator_validator_fast_objects::tables::{
-    elem_drop, table_copy, table_fill, table_get, table_grow, table_init, table_set, table_size,
-};
+use wasm_operator_validator_fast_objects::casts::br_on_cast;
+use wasm_operator_validator_fast_objects::casts::convert;
+use wasm_operator_validator_fast_objects::casts::i31_get;
+use wasm_operator_validator_fast_objects::casts::ref_cast;
+use wasm_operator_validator_fast_objects::casts::ref_i31;
+use wasm_operator_validator_fast_objects::casts::ref_test;
+use wasm_operator_validator_fast_objects::exceptions::throw;
+use wasm_operator_validator_fast_objects::exceptions::throw_ref;
+use wasm_operator_validator_fast_objects::exceptions::try_table;
+use wasm_operator_validator_fast_objects::references::br_on_non_null;
+use wasm_operator_validator_fast_objects::references::br_on_null;
+use wasm_operator_validator_fast_objects::references::ref_as_non_null;
+use wasm_operator_validator_fast_objects::references::ref_eq;
+use wasm_operator_validator_fast_objects::references::ref_func;
+use wasm_operator_validator_fast_objects::references::ref_is_null;
+use wasm_operator_validator_fast_objects::references::ref_null;
+use wasm_operator_validator_fast_objects::references::select_typed;
+use wasm_operator_validator_fast_objects::structs::struct_get;
+use wasm_operator_validator_fast_objects::structs::struct_get_s;
+use wasm_operator_validator_fast_objects::structs::struct_get_u;
+use wasm_operator_validator_fast_objects::structs::struct_new;
+use wasm_operator_validator_fast_objects::structs::struct_new_default;
+use wasm_operator_validator_fast_objects::structs::struct_set;
+use wasm_operator_validator_fast_objects::tables::elem_drop;
+use wasm_operator_validator_fast_objects::tables::table_copy;
+use wasm_operator_validator_fast_objects::tables::table_fill;
+use wasm_operator_validator_fast_objects::tables::table_get;
+use wasm_operator_validator_fast_objects::tables::table_grow;
+use wasm_operator_validator_fast_objects::tables::table_init;
+use wasm_operator_validator_fast_objects::tables::table_set;
+use wasm_operator_validator_fast_objects::tables::table_size;
 use wasm_operator_validator_fast_objects::vectors::vector;
-use wasm_operator_validator_fast_steps::blocks::{begin_if, begin_loop, block, end, finish, turn};
-use wasm_operator_validator_fast_steps::branches::{br, br_if, br_table, return_all};
-use wasm_operator_validator_fast_steps::calls::{
-    call, call_indirect, call_ref, return_call, return_call_indirect, return_call_ref,
-};
-use wasm_operator_validator_fast_steps::constants::{f32_const, f64_const, i32_const, i64_const};
-use wasm_operator_validator_fast_steps::late::{late_get, late_set, late_tee};
-use wasm_operator_validator_fast_steps::memory::{
-    data_drop, load, memory_copy, memory_fill, memory_grow, memory_init, memory_size, store,
-};
-use wasm_operator_validator_fast_steps::numbers::{change, change_prefixed, combine};
-use wasm_operator_validator_fast_steps::parametric::{drop_top, nop, select, unreachable};
-use wasm_operator_validator_fast_steps::shape::{Class, class_of, saturating_of};
-use wasm_operator_validator_fast_steps::variables::{
-    global_get, global_set, local_at, local_get, local_set, local_tee,
-};
-use wasm_operator_validator_fast_tables::{Open, Opens, Pile, Sig, Stack, Tables};
+use wasm_operator_validator_fast_steps::blocks::begin_if;
+use wasm_operator_validator_fast_steps::blocks::begin_loop;
+use wasm_operator_validator_fast_steps::blocks::block;
+use wasm_operator_validator_fast_steps::blocks::end;
+use wasm_operator_validator_fast_steps::blocks::finish;
+use wasm_operator_validator_fast_steps::blocks::turn;
+use wasm_operator_validator_fast_steps::branches::br;
+use wasm_operator_validator_fast_steps::branches::br_if;
+use wasm_operator_validator_fast_steps::branches::br_table;
+use wasm_operator_validator_fast_steps::branches::return_all;
+use wasm_operator_validator_fast_steps::calls::call;
+use wasm_operator_validator_fast_steps::calls::call_indirect;
+use wasm_operator_validator_fast_steps::calls::call_ref;
+use wasm_operator_validator_fast_steps::calls::return_call;
+use wasm_operator_validator_fast_steps::calls::return_call_indirect;
+use wasm_operator_validator_fast_steps::calls::return_call_ref;
+use wasm_operator_validator_fast_steps::constants::f32_const;
+use wasm_operator_validator_fast_steps::constants::f64_const;
+use wasm_operator_validator_fast_steps::constants::i32_const;
+use wasm_operator_validator_fast_steps::constants::i64_const;
+use wasm_operator_validator_fast_steps::late::late_get;
+use wasm_operator_validator_fast_steps::late::late_set;
+use wasm_operator_validator_fast_steps::late::late_tee;
+use wasm_operator_validator_fast_steps::memory::data_drop;
+use wasm_operator_validator_fast_steps::memory::load;
+use wasm_operator_validator_fast_steps::memory::memory_copy;
+use wasm_operator_validator_fast_steps::memory::memory_fill;
+use wasm_operator_validator_fast_steps::memory::memory_grow;
+use wasm_operator_validator_fast_steps::memory::memory_init;
+use wasm_operator_validator_fast_steps::memory::memory_size;
+use wasm_operator_validator_fast_steps::memory::store;
+use wasm_operator_validator_fast_steps::numbers::change;
+use wasm_operator_validator_fast_steps::numbers::change_prefixed;
+use wasm_operator_validator_fast_steps::numbers::combine;
+use wasm_operator_validator_fast_steps::parametric::drop_top;
+use wasm_operator_validator_fast_steps::parametric::nop;
+use wasm_operator_validator_fast_steps::parametric::select;
+use wasm_operator_validator_fast_steps::parametric::unreachable;
+use wasm_operator_validator_fast_steps::shape::Class;
+use wasm_operator_validator_fast_steps::shape::class_of;
+use wasm_operator_validator_fast_steps::shape::saturating_of;
+use wasm_operator_validator_fast_steps::variables::global_get;
+use wasm_operator_validator_fast_steps::variables::global_set;
+use wasm_operator_validator_fast_steps::variables::local_at;
+use wasm_operator_validator_fast_steps::variables::local_get;
+use wasm_operator_validator_fast_steps::variables::local_set;
+use wasm_operator_validator_fast_steps::variables::local_tee;
+use wasm_operator_validator_fast_tables::Open;
+use wasm_operator_validator_fast_tables::Opens;
+use wasm_operator_validator_fast_tables::Pile;
+use wasm_operator_validator_fast_tables::Sig;
+use wasm_operator_validator_fast_tables::Stack;
+use wasm_operator_validator_fast_tables::Tables;
 use wasm_operator_validator_state::FrameKind;
 use wasm_types_decoding::short_u32_at;
 
@@ -91,15 +151,15 @@ fn next(
         Class::Select => select(tables, bytes, at, stack, opens),
         Class::LocalGet => match local_at(tables, locals, bytes, at + 1) {
             Some(local) => local_get(tables, local, bytes, at, stack, opens),
-            None => away(tables, bytes, at, stack, opens),
+            None => None,
         },
         Class::LocalSet => match local_at(tables, locals, bytes, at + 1) {
             Some(local) => local_set(tables, local, bytes, at, stack, opens),
-            None => away(tables, bytes, at, stack, opens),
+            None => None,
         },
         Class::LocalTee => match local_at(tables, locals, bytes, at + 1) {
             Some(local) => local_tee(tables, local, bytes, at, stack, opens),
-            None => away(tables, bytes, at, stack, opens),
+            None => None,
         },
         Class::GlobalGet => global_get(tables, bytes, at, stack, opens),
         Class::GlobalSet => global_set(tables, bytes, at, stack, opens),
@@ -140,7 +200,7 @@ fn away(
     end
 }
 
-/// Takes an operator on references, objects, exceptions, tables, segments or vectors, on locals that may have no value, or an atomic one.
+/// Takes an operator on references, objects, exceptions, tables, segments or vectors, or an atomic one.
 #[inline(never)]
 fn referring(
     tables: &Tables,
@@ -163,9 +223,6 @@ fn referring(
         0x15 => return_call_ref(tables, bytes, at, stack, opens),
         0x1c => select_typed(tables, bytes, at, stack, opens),
         0x1f => try_table(tables, bytes, at, stack, opens),
-        0x20 => late_get(tables, bytes, at, stack, opens),
-        0x21 => late_set(tables, bytes, at, stack, opens),
-        0x22 => late_tee(tables, bytes, at, stack, opens),
         0x25 => table_get(tables, bytes, at, stack, opens),
         0x26 => table_set(tables, bytes, at, stack, opens),
         0xd0 => ref_null(tables, bytes, at, stack, opens),
@@ -328,6 +385,123 @@ fn step(
 /// Takes all operators.
 #[inline(always)]
 fn run(tables: &Tables, bytes: &[u8], start: usize, stack: &mut Stack, opens: &mut Opens) -> bool
+    requires inside { start ≤ length bytes.now }
+    requires sure { length tables.now.locals.items ≤ tables.now.certain }
+    ensures { result ≡ true → (ids : List TypeTree) (z : Settings) (g : Context) → Fits ids z bytes.now tables.now g
+        → Goes ids z bytes.now tables.now g start (all opens.old) stack.old }
+{
+    if bytes.len() == 0 {
+        return false;
+    }
+    let last = bytes.len() - 1;
+    let locals = tables.locals.as_slice();
+    let mut at = start;
+    while at < last {
+        at = step(tables, locals, bytes, at, stack, opens);
+    }
+    finish(tables, bytes, at, stack, opens)
+}
+
+/// Takes an operator on locals, which may have no value.
+#[inline(never)]
+fn late_at(
+    tables: &Tables,
+    bytes: &[u8],
+    at: usize,
+    stack: &mut Stack,
+    opens: &mut Opens,
+) -> Option<usize>
+    requires { at < length bytes.now }
+    ensures leads { IfSome result (λ end. Leads bytes.now tables.now at (all opens.old) stack.old
+        end (all opens.new) stack.new) }
+    ensures forward { IfSome result (λ end. at < end) }
+    ensures inside { IfSome result (λ end. end ≤ length bytes.now) }
+{
+    match bytes[at] {
+        0x20 => late_get(tables, bytes, at, stack, opens),
+        0x21 => late_set(tables, bytes, at, stack, opens),
+        0x22 => late_tee(tables, bytes, at, stack, opens),
+        _ => None,
+    }
+}
+
+/// The same, with the operands as in [`away`].
+#[inline(always)]
+fn late(
+    tables: &Tables,
+    bytes: &[u8],
+    at: usize,
+    stack: &mut Stack,
+    opens: &mut Opens,
+) -> Option<usize>
+    requires { at < length bytes.now }
+    ensures leads { IfSome result (λ end. Leads bytes.now tables.now at (all opens.old) stack.old
+        end (all opens.new) stack.new) }
+    ensures forward { IfSome result (λ end. at < end) }
+    ensures inside { IfSome result (λ end. end ≤ length bytes.now) }
+{
+    let mut own = mem::replace(stack, Stack::new(*tables.known.flat.allocator()));
+    let end = late_at(tables, bytes, at, &mut own, opens);
+    *stack = own;
+    end
+}
+
+/// Takes the next operator of a body with locals that may have no value.
+#[inline(always)]
+fn next_late(
+    tables: &Tables,
+    locals: &[u32],
+    bytes: &[u8],
+    at: usize,
+    stack: &mut Stack,
+    opens: &mut Opens,
+) -> Option<usize>
+    requires more { at + 1 < length bytes.now }
+    requires locals { locals.now ≡ take tables.now.certain tables.now.locals.items }
+    ensures leads { IfSome result (λ end. Leads bytes.now tables.now at (all opens.old) stack.old
+        end (all opens.new) stack.new) }
+    ensures forward { IfSome result (λ end. at < end) }
+    ensures inside { IfSome result (λ end. end ≤ length bytes.now) }
+{
+    let code = bytes[at];
+    if code >= 0x20 && code <= 0x22 {
+        return late(tables, bytes, at, stack, opens);
+    }
+    next(tables, locals, bytes, at, stack, opens)
+}
+
+/// Takes the next operator of such a body, or goes behind all bytes.
+#[inline(always)]
+fn step_late(
+    tables: &Tables,
+    locals: &[u32],
+    bytes: &[u8],
+    at: usize,
+    stack: &mut Stack,
+    opens: &mut Opens,
+) -> usize
+    requires more { at + 1 < length bytes.now }
+    requires locals { locals.now ≡ take tables.now.certain tables.now.locals.items }
+    ensures leads { result < length bytes.now → Leads bytes.now tables.now at (all opens.old) stack.old
+        result (all opens.new) stack.new }
+    ensures forward { at < result }
+    ensures inside { result ≤ length bytes.now }
+{
+    match next_late(tables, locals, bytes, at, stack, opens) {
+        Some(end) => end,
+        None => behind(bytes, opens),
+    }
+}
+
+/// Takes all operators of such a body. It is apart from [`run`], where an operator on locals is one on locals that have values.
+#[inline(always)]
+fn run_late(
+    tables: &Tables,
+    bytes: &[u8],
+    start: usize,
+    stack: &mut Stack,
+    opens: &mut Opens,
+) -> bool
     requires { start ≤ length bytes.now }
     ensures { result ≡ true → (ids : List TypeTree) (z : Settings) (g : Context) → Fits ids z bytes.now tables.now g
         → Goes ids z bytes.now tables.now g start (all opens.old) stack.old }
@@ -339,7 +513,7 @@ fn run(tables: &Tables, bytes: &[u8], start: usize, stack: &mut Stack, opens: &m
     let locals = &tables.locals.as_slice()[..tables.certain];
     let mut at = start;
     while at < last {
-        at = step(tables, locals, bytes, at, stack, opens);
+        at = step_late(tables, locals, bytes, at, stack, opens);
     }
     finish(tables, bytes, at, stack, opens)
 }
@@ -388,6 +562,9 @@ impl Room {
             → (params : ℕ) → BeginSet tables.now params
             → (c : Code) × SpelledExpression z c (drop start bytes.now) × IsBody g params c }
     {
+        if tables.certain < tables.locals.as_slice().len() {
+            return self.accepts_late(tables, bytes, start);
+        }
         // a body that has more operands at a time is left to the validator of operators
         let places = (bytes.len() - start + 64).min(8192);
         if !self.stack.begin(places) {
@@ -400,6 +577,29 @@ impl Room {
         };
         let mut stack = mem::replace(&mut self.stack, Stack::new(self.alloc));
         let valid = run(tables, bytes, start, &mut stack, &mut opens);
+        self.stack = stack;
+        self.frames = opens.into_memory();
+        valid
+    }
+
+    /// The same of a body with locals that may have no value.
+    #[inline(never)]
+    fn accepts_late(&mut self, tables: &Tables, bytes: &[u8], start: usize) -> bool
+        requires { start ≤ length bytes.now }
+        ensures { result ≡ true → (ids : List TypeTree) (z : Settings) (g : Context) → Fits ids z bytes.now tables.now g
+            → (params : ℕ) → BeginSet tables.now params
+            → (c : Code) × SpelledExpression z c (drop start bytes.now) × IsBody g params c }
+    {
+        let places = (bytes.len() - start + 64).min(8192);
+        if !self.stack.begin(places) {
+            return false;
+        }
+        let frames = mem::replace(&mut self.frames, Pile::new(self.alloc));
+        let Some(mut opens) = Opens::begin(frames, body_frame(tables.results)) else {
+            return false;
+        };
+        let mut stack = mem::replace(&mut self.stack, Stack::new(self.alloc));
+        let valid = run_late(tables, bytes, start, &mut stack, &mut opens);
         self.stack = stack;
         self.frames = opens.into_memory();
         valid

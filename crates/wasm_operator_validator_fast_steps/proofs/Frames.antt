@@ -1,5 +1,5 @@
 -- Frames that begin and end, and whole bodies.
-use Rattle.std.proofs.Common.{map, ◌⊎◌, inl, inr, ◌<◌, lt-ltb, get_or, ◌≡◌, ◌∙◌, ℕ, ◌+◌, ◌-◌, List, [], ◌∷◌, ◌++◌, Bool, true, false, Some, refl, arith, sym, ap, subst, append-nil, length, drop, reverse, slice_get, nat_lt}
+use Rattle.std.proofs.Common.{map, ◌⊎◌, inl, inr, ◌<◌, lt-ltb, get_or, ◌≡◌, ◌∙◌, ℕ, ◌+◌, ◌-◌, List, [], ◌∷◌, ◌++◌, Bool, true, false, refl, arith, sym, ap, subst, append-nil, length, drop, reverse, nat_lt}
 use Rattle.std.proofs.lemmas.List.{map-append}
 use Rattle.std.proofs.lemmas.Nat.Bits.{bit_at-zero}
 use Rattle.std.proofs.lemmas.Grind.{common_steps}

@@ -268,12 +268,12 @@ module _ (text : List ℕ) (i : ℕ) (lt : i < length text) where
     behind_memory n = named_ordering access false >>= λ ordering. offset (has Memory64 features) >>= λ x. pure (argument (get_or text i 0 % 16) natural n ordering x)
 
     after_memory : (n k x e : ℕ) → GivesAt (offset (has Memory64 features)) text k x e → GivesAt (behind_memory n) text k (argument (get_or text i 0 % 16) natural n None x) e
-    unfolding named_ordering
+    unfolding named_ordering behind_memory
     after_memory n k x e g = record { forward = g.forward; inside = g.inside; gives = λ s same. rw (g.gives s same) refl }
 
     after_one : 64 ≤ get_or text i 0 → get_or text i 0 < 80 → (n k x e : ℕ) → GivesAt u32 text (i + 1) n k → GivesAt (offset (has Memory64 features)) text k x e
         → GivesAt (after_flags features access natural (flags_in (get_or text i 0))) text (i + 1) (argument (get_or text i 0 % 16) natural n None x) e
-    unfolding after_flags named_memory
+    unfolding after_flags named_memory behind_memory
     after_one ge small n k x e g o =
         let whole = gives_then u32 text (i + 1) n behind_memory k (argument (get_or text i 0 % 16) natural n None x) e g (after_memory n k x e o) in
         record {

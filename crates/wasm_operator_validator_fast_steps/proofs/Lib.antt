@@ -9,5 +9,5 @@ mod Calling
 mod Passing
 pub mod Throwing
 pub mod Unreaching
-mod Late
+mod LateRows
 mod Sure

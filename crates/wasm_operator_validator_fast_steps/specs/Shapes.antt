@@ -13,7 +13,7 @@ use Rattle.wasm_operators_enums.specs.Table.{info_of}
 use Rattle.wasm_operators_enums.specs.Immediates.{immediates_of, is_canonical}
 use Rattle.wasm_operators_immediates.specs.Kinds.{AccessOrdering, Plain}
 use Rattle.wasm_operators_immediates.specs.Immediates.{MemoryArgument}
-use Rattle.wasm_operator_validator_rules.specs.Accesses.{Access, load, store}
+use Rattle.wasm_operator_validator_rules.specs.Accesses.{Access}
 use Rattle.wasm_operator_validator_rules.specs.Operands.{Operand}
 use Rattle.wasm_operator_validator_rules.specs.Context.{Context, Initialised}
 use Rattle.wasm_operator_validator_rules.specs.InstructionTypes.{instruction_type, accesses}

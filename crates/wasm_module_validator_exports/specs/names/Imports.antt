@@ -1,6 +1,6 @@
 -- What is kept of a module's imports, by their names (WebAssembly 3.0, structure, modules, imports). Each pair of names stands once, where
 -- it came first; what is imported by it stands there in the order of the imports.
-use Rattle.std.specs.Prelude.{◌≡◌, ◌<◌, ◌/◌, ◌^◌, ◌⊎◌, ℕ, suc, Bool, true, false, cond, ◌&&◌, List, [], ◌∷◌, ◌++◌, map, length, set, slice_get, Option, Some, None, option_map, String, string_bytes, if◌then◌else◌}
+use Rattle.std.specs.Prelude.{◌≡◌, ◌<◌, ◌⊎◌, ℕ, suc, Bool, true, false, cond, ◌&&◌, List, [], ◌∷◌, ◌++◌, map, length, set, slice_get, Option, Some, None, option_map, String, string_bytes, if◌then◌else◌}
 use Rattle.std.specs.Str.{bytes_eq}
 use Rattle.std.specs.BTreeMap.{BTreeMap, get_by}
 use Rattle.std.specs.Ordering.{ordering_then, nat_cmp}
@@ -106,25 +106,6 @@ index_of m f (p ∷ ps) = if is_pair m f p then Some 0 else option_map suc (inde
 -- the number of a pair of names
 abbrev pub number_of : List ℕ → List ℕ → ℕ
 number_of m f = (write (write initial m) f).state
-
--- its upper half, which is kept
-abbrev pub mark_of : ℕ → ℕ
-mark_of v = v / 2 ^ 32
-
-abbrev pub mark_of_pair : Pair → ℕ
-mark_of_pair p = mark_of (number_of p.0 p.1)
-
--- the upper halves of the numbers of pairs
-abbrev pub AreMarked : List ℕ → List Pair → Type 0
-AreMarked marks ps = marks ≡ map mark_of_pair ps
-
--- where a pair is this one, the upper half of this number is kept
-abbrev pub TellsApart : List ℕ → List Pair → List ℕ → List ℕ → ℕ → Type 0
-TellsApart marks ps m f v = (i y : ℕ) (p : Pair) → slice_get marks i ≡ Some y → slice_get ps i ≡ Some p → is_pair m f p ≡ true → y ≡ mark_of v
-
--- another half is kept at an index
-abbrev pub IsMarkedApart : List ℕ → ℕ → ℕ → Type 0
-IsMarkedApart marks i v = (y : ℕ) × (slice_get marks i ≡ Some y) × (y ≡ mark_of v → ⊥)
 
 -- the first of a pair's two slots, among so many; the other is beside it
 abbrev pub slot_for : List ℕ → List ℕ → ℕ → ℕ

@@ -2,10 +2,11 @@
 
 ghost use Rattle.std.specs.Prelude.{◌≡◌, ◌++◌, ◌∷◌, ◌-◌, ◌<◌, ◌^◌, [], length, vec_len, vec_capacity, IfSome, option_map, slice_get, IfErr, OnErr, OnOk};
 ghost use Rattle.wasm_types.specs.decoding.declared.error.ErrorKind.TheVariants.{OutOfMemory};
-ghost use Rattle.wasm_module_validator_exports.specs.names.Imports.{AreKept, AreMarked, HasAdded, HasKept, HasKeptNames, HasPushed, Holds, all_named, module_at, named_of, pairs_of, with_import};
+ghost use Rattle.wasm_module_validator_exports.specs.names.Imports.{AreKept, HasAdded, HasKept, HasKeptNames, HasPushed, Holds, all_named, module_at, named_of, pairs_of, with_import};
 
 use crate::names::kept::{KeptName, name_of, push_name_in_room};
-use crate::names::pairs::{Others, Sought, mark, number, rebuilt, settle};
+use crate::names::pairs::{Others, Sought, rebuilt, settle};
+use crate::names::slots::after;
 use std::alloc::Global;
 use std::collections::BTreeMap;
 use std::marker::Model;
@@ -57,8 +58,6 @@ pub struct Imports {
     modules: Vec<String>,
     names: Vec<u8>,
     pairs: Vec<KeptNames>,
-    // Half of the number of each pair.
-    marks: Vec<u32>,
     // The index of a pair, in one of the two slots of the number of its names; a slot without one has an index where no pair stands.
     slots: Vec<u32>,
     // The pairs whose slots others have.
@@ -67,14 +66,13 @@ pub struct Imports {
 
 impl Model for Imports {
     ghost use Rattle.std.specs.Prelude.{List};
-    ghost use Rattle.wasm_module_validator_exports.specs.names.Imports.{AreKept, AreMarked, Holds, ImportedName, all_named, pairs_of};
+    ghost use Rattle.wasm_module_validator_exports.specs.names.Imports.{AreKept, Holds, ImportedName, all_named, pairs_of};
 
     ghost Value = { List ImportedName };
 
     ghost view = { λ i. all_named i.modules.items i.names.items i.pairs.items };
 
     ghost invariant = { λ i. AreKept i.modules.items i.names.items i.pairs.items
-        × AreMarked i.marks.items (pairs_of (all_named i.modules.items i.names.items i.pairs.items))
         × Holds i.slots.items i.others (pairs_of (all_named i.modules.items i.names.items i.pairs.items)) };
 }
 
@@ -126,14 +124,6 @@ fn push_in_room(pairs: &mut Vec<KeptNames>, kept: KeptNames)
     let _ = pairs.push(kept);
 }
 
-// Half of a number behind the others, in room that is there.
-fn push_mark_in_room(marks: &mut Vec<u32>, mark: u32)
-    requires { vec_len marks.old < vec_capacity marks.old }
-    ensures { marks.new.items ≡ marks.old.items ++ mark ∷ [] }
-{
-    let _ = marks.push(mark);
-}
-
 // The names of a pair of one import, kept behind the others.
 fn keep_names(
     alloc: Global,
@@ -173,15 +163,7 @@ fn push_at(pairs: &mut Vec<KeptNames>, at: usize, place: Place) -> bool
     }
 }
 
-// How many slots come after so many, a power of two too.
-fn after(slots: usize) -> usize {
-    if slots < 16 {
-        return 16;
-    }
-    slots.saturating_mul(4)
-}
-
-// Slots for one pair more: whether there is memory. There are many, so that few pairs come to the map, which is slow.
+// Slots for one pair more: whether there is memory.
 fn make_room(
     alloc: Global,
     slots: &mut Vec<u32>,
@@ -189,18 +171,16 @@ fn make_room(
     modules: &[String],
     names: &[u8],
     pairs: &[KeptNames],
-    marks: &[u32],
 ) -> bool
     requires kept { AreKept modules.now names.now pairs.now }
-    requires marked { AreMarked marks.now (pairs_of (all_named modules.now names.now pairs.now)) }
     requires holds { Holds slots.old.items others.old (pairs_of (all_named modules.now names.now pairs.now)) }
     ensures { Holds slots.new.items others.new (pairs_of (all_named modules.now names.now pairs.now)) }
 {
     let count = slots.as_slice().len();
-    if count / 8 > pairs.len() {
+    if count / 4 > pairs.len() {
         return true;
     }
-    let Some((more, found)) = rebuilt(alloc, after(count), modules, names, pairs, marks) else {
+    let Some((more, found)) = rebuilt(alloc, after(count), modules, names, pairs) else {
         return false;
     };
     *slots = more;
@@ -231,7 +211,6 @@ impl Imports {
             modules: Vec::new(alloc),
             names: Vec::new(alloc),
             pairs: Vec::new(alloc),
-            marks: Vec::new(alloc),
             slots: Vec::new(alloc),
             others: BTreeMap::new(alloc),
         }
@@ -265,9 +244,6 @@ impl Imports {
         let Ok(()) = self.pairs.reserve(1) else {
             return false;
         };
-        let Ok(()) = self.marks.reserve(1) else {
-            return false;
-        };
         if !make_room(
             self.alloc,
             &mut self.slots,
@@ -275,7 +251,6 @@ impl Imports {
             self.modules.as_slice(),
             self.names.as_slice(),
             self.pairs.as_slice(),
-            self.marks.as_slice(),
         ) {
             return false;
         }
@@ -289,7 +264,6 @@ impl Imports {
         ) else {
             return false;
         };
-        let number = number(module, name);
         match settle(
             self.alloc,
             &mut self.slots,
@@ -297,14 +271,11 @@ impl Imports {
             self.modules.as_slice(),
             self.names.as_slice(),
             self.pairs.as_slice(),
-            self.marks.as_slice(),
-            number,
             module,
             name,
         ) {
             Sought::New => {
                 push_in_room(&mut self.pairs, kept);
-                push_mark_in_room(&mut self.marks, mark(number));
                 true
             }
             Sought::At(at) => push_at(&mut self.pairs, at, place),

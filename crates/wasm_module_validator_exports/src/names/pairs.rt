@@ -3,12 +3,10 @@
 //! Each slot has the index of a pair of names; it is free if none stands at this index. A pair has two slots, as a name in the module
 //! `slots` has. If others have both already, the pair goes into a map, which finds it by its order: so pairs whose numbers meet are found
 //! no slower than by their order, whoever chooses the names. Of each pair in the map neither slot is free.
-//!
-//! Half of each pair's number is kept besides, side by side, so that nearly all others are told apart without their bytes.
 
-ghost use Rattle.std.specs.Prelude.{◌≡◌, ℕ, List, IfSome, IsTrue, length};
+ghost use Rattle.std.specs.Prelude.{◌≡◌, ℕ, List, IfSome, length};
 ghost use Rattle.wasm_module_validator_exports.specs.names.Exports.{beside};
-ghost use Rattle.wasm_module_validator_exports.specs.names.Imports.{AreKept, AreMarked, HasMet, HasMetAt, HasSettled, HasSought, Holds, IsMarkedApart, Pair, TellsApart, all_named, is_pair, mark_of, module_at, number_of, pairs_of, slot_for};
+ghost use Rattle.wasm_module_validator_exports.specs.names.Imports.{AreKept, HasMet, HasMetAt, HasSettled, HasSought, Holds, Pair, all_named, is_pair, module_at, number_of, pairs_of, slot_for};
 ghost use Rattle.wasm_module_validator_exports.specs.names.Kept.{IsNamed, name_at};
 
 use crate::names::imports::{KeptNames, module_of};
@@ -37,30 +35,13 @@ pub(crate) enum Sought {
 }
 
 // The number of a pair of names.
-pub(crate) fn number(module: &str, name: &str) -> u64
+fn number(module: &str, name: &str) -> u64
     ensures { result ≡ number_of «module».now name.now }
 {
     let mut hasher = FoldHasher::default();
     hasher.write(module.as_bytes());
     hasher.write(name.as_bytes());
     hasher.finish()
-}
-
-// The half of a number that is kept.
-pub(crate) fn mark(number: u64) -> u32
-    ensures { result ≡ mark_of number }
-{
-    (number >> 32) as u32
-}
-
-// Whether half of another number is kept at an index.
-fn is_apart(marks: &[u32], at: usize, number: u64) -> bool
-    ensures { IsTrue result → IsMarkedApart marks.now at number }
-{
-    match marks.get(at) {
-        Some(kept) => *kept != mark(number),
-        None => false,
-    }
 }
 
 // Whether these are the names that are kept. They are compared as bytes: a long name is not read again for each short one that meets it.
@@ -78,15 +59,11 @@ fn meet_at(
     modules: &[String],
     names: &[u8],
     pairs: &[KeptNames],
-    marks: &[u32],
-    number: u64,
     module: &str,
     name: &str,
     at: usize,
 ) -> Met
-    requires kept { AreKept modules.now names.now pairs.now }
-    requires told { TellsApart marks.now (pairs_of (all_named modules.now names.now pairs.now))
-        «module».now name.now number }
+    requires { AreKept modules.now names.now pairs.now }
     ensures { HasMetAt slots.now (pairs_of (all_named modules.now names.now pairs.now)) «module».now name.now at
         result }
 {
@@ -100,9 +77,6 @@ fn meet_at(
         }
         return Met::Other;
     };
-    if is_apart(marks, *index as usize, number) {
-        return Met::Other;
-    }
     if has_names(modules, names, kept, module, name) {
         return Met::Same(*index as usize);
     }
@@ -132,33 +106,16 @@ fn meet(
     modules: &[String],
     names: &[u8],
     pairs: &[KeptNames],
-    marks: &[u32],
-    number: u64,
     module: &str,
     name: &str,
 ) -> Met
-    requires kept { AreKept modules.now names.now pairs.now }
-    requires told { TellsApart marks.now (pairs_of (all_named modules.now names.now pairs.now))
-        «module».now name.now number }
-    requires number { number ≡ number_of «module».now name.now }
+    requires { AreKept modules.now names.now pairs.now }
     ensures { HasMet slots.now (pairs_of (all_named modules.now names.now pairs.now)) «module».now name.now
         result }
 {
-    let at = slot(number, slots.len());
-    let first = meet_at(
-        slots, modules, names, pairs, marks, number, module, name, at,
-    );
-    let second = meet_at(
-        slots,
-        modules,
-        names,
-        pairs,
-        marks,
-        number,
-        module,
-        name,
-        at ^ 1,
-    );
+    let at = slot(number(module, name), slots.len());
+    let first = meet_at(slots, modules, names, pairs, module, name, at);
+    let second = meet_at(slots, modules, names, pairs, module, name, at ^ 1);
     both(first, second)
 }
 
@@ -192,29 +149,15 @@ pub(crate) fn settle(
     modules: &[String],
     names: &[u8],
     pairs: &[KeptNames],
-    marks: &[u32],
-    number: u64,
     module: &str,
     name: &str,
 ) -> Sought
     requires kept { AreKept modules.now names.now pairs.now }
-    requires told { TellsApart marks.now (pairs_of (all_named modules.now names.now pairs.now))
-        «module».now name.now number }
-    requires number { number ≡ number_of «module».now name.now }
     requires holds { Holds slots.old.items others.old (pairs_of (all_named modules.now names.now pairs.now)) }
     ensures { HasSettled «module».now name.now (pairs_of (all_named modules.now names.now pairs.now))
         slots.new.items others.new result }
 {
-    match meet(
-        slots.as_slice(),
-        modules,
-        names,
-        pairs,
-        marks,
-        number,
-        module,
-        name,
-    ) {
+    match meet(slots.as_slice(), modules, names, pairs, module, name) {
         Met::Free(at, index) => {
             put(slots, at, index);
             return Sought::New;
@@ -234,10 +177,8 @@ pub(crate) fn rebuilt(
     modules: &[String],
     names: &[u8],
     pairs: &[KeptNames],
-    marks: &[u32],
 ) -> Option<(Vec<u32>, Others)>
-    requires kept { AreKept modules.now names.now pairs.now }
-    requires marked { AreMarked marks.now (pairs_of (all_named modules.now names.now pairs.now)) }
+    requires { AreKept modules.now names.now pairs.now }
     ensures { IfSome result (λ it. Holds it.0.items it.1 (pairs_of (all_named modules.now names.now pairs.now))) }
 {
     let Ok(mut slots) = Vec::from_elem(alloc, u32::MAX, slots) else {
@@ -248,7 +189,6 @@ pub(crate) fn rebuilt(
         let (before, _) = pairs.split_at(i);
         let kept = &pairs[i];
         let (module, name) = (module_of(modules, kept), name_of(names, kept.name));
-        let number = number(module, name);
         match settle(
             alloc,
             &mut slots,
@@ -256,8 +196,6 @@ pub(crate) fn rebuilt(
             modules,
             names,
             before,
-            marks,
-            number,
             module,
             name,
         ) {

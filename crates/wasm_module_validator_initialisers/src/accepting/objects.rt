@@ -186,12 +186,22 @@ fn refer_to_number(stack: &mut Vec<ValType>) -> bool
 fn any_of(host: bool) -> Option<RefType>
     ensures { IfSome result (λ r. r ≡ any_of host) }
 {
-    let ty = if host {
-        AbstractHeapType::Extern
-    } else {
-        AbstractHeapType::Any
-    };
-    RefType::new(true, HeapType::Abstract { shared: false, ty })
+    if host {
+        return RefType::new(
+            true,
+            HeapType::Abstract {
+                shared: false,
+                ty: AbstractHeapType::Extern,
+            },
+        );
+    }
+    RefType::new(
+        true,
+        HeapType::Abstract {
+            shared: false,
+            ty: AbstractHeapType::Any,
+        },
+    )
 }
 
 // Converts the reference on top to one of the host, or from one.

@@ -1,8 +1,13 @@
-use Rattle.std.proofs.Common.{◌<◌, length, arith}
+use Rattle.std.proofs.Common.{◌<◌, ◌∙◌, length, arith, sym}
+use Rattle.std.proofs.lemmas.List.{take_all}
 use Rattle.wasm_operator_validator_fast_loop.proofs.judge.run.Goals as goal
 
 pub loop-at-init : goal.loop-at-init
-loop-at-init c = (c.requires, λ lt ids z g fits x. x)
+loop-at-init c = (c.requires.inside, λ lt ids z g fits x. x)
+
+pub step-at-requires-clause-locals : goal.step-at-requires-clause-locals
+step-at-requires-clause-locals c =
+    c.as_slice-locals.ensures.value ∙ sym (take_all c.args.tables.now.certain c.args.tables.now.locals.items c.requires.sure)
 
 pub loop-at-preserved : goal.loop-at-preserved
 loop-at-preserved c =

@@ -17,6 +17,6 @@ returns c = λ e.
       with_all xs c.take_all.new.self,
       c.if-not-take_all.ensures refl,
       subst (λ (n : Nested). Enters flat c.args.kind c.args.sig (with_all xs c.take_all.new.self) c.put_all.new.self c.args.opens.now.inner c.args.opens.now.outer n.inner n.outer) (sym (c.nest.ensures e))
-          (entered_with flat xs c.take_all.new.self c.enter-base.new.self c.put_all.new.self c.args.kind c.args.sig _ _ _ _ refl refl (ap (λ (o : Open). o.set) c.inner.ensures) refl
+          (entered_with flat xs c.take_all.new.self c.enter-base.new.self c.put_all.new.self c.args.kind c.args.sig _ _ _ _ refl refl (ap (λ (o : Open). o.set) c.inner-set.ensures) refl
           (rw c.as_slice.ensures.value at c.in-Some.ensures.value) c.enter-base.ensures.under c.enter-base.ensures.own (c.if-not-put_all.ensures refl)),
     )

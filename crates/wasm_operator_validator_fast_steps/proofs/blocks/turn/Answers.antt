@@ -1,4 +1,4 @@
-use Rattle.std.proofs.Common.{◌+◌, ◌∷◌, ◌∙◌, refl, sym, ap, subst}
+use Rattle.std.proofs.Common.{ℕ, ◌+◌, ◌∷◌, ◌∙◌, refl, sym, ap, subst}
 use Rattle.wasm_operators_immediates.specs.declared.frames.FrameKind.TheVariants.{Else}
 use Rattle.wasm_operator_validator_fast_tables.specs.declared.tables.Open.{Open}
 use Rattle.wasm_operator_validator_fast_tables.specs.Nested.{Nested}

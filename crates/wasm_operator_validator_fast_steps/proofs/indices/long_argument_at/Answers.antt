@@ -1,4 +1,4 @@
-use Rattle.std.proofs.Common.{◌∙◌, arith}
+use Rattle.std.proofs.Common.{arith}
 use Rattle.wasm_operator_validator_fast_steps.proofs.Indexed.{argued, argued_long}
 use Rattle.wasm_operator_validator_fast_steps.proofs.indices.long_argument_at.Goals as goal
 

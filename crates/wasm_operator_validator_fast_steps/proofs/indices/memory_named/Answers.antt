@@ -1,4 +1,4 @@
-use Rattle.std.proofs.Common.{◌∙◌, sym, arith}
+use Rattle.std.proofs.Common.{◌∙◌, sym}
 use Rattle.wasm_operator_validator_fast_steps.proofs.Indexed.{names_none, names_one}
 use Rattle.wasm_operator_validator_fast_steps.proofs.indices.memory_named.Goals as goal
 

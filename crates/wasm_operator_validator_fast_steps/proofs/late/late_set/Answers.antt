@@ -2,7 +2,7 @@ use Rattle.std.proofs.Common.{◌∷◌, get_or, refl, sym, subst}
 use Rattle.wasm_operator_validator_fast_tables.specs.Nested.{Nested}
 use Rattle.wasm_operator_validator_fast_tables.specs.Loop.{Leads}
 use Rattle.wasm_operator_validator_fast_tables.proofs.Lowering.{lowered}
-use Rattle.wasm_operator_validator_fast_steps.proofs.Late.{took_late_set}
+use Rattle.wasm_operator_validator_fast_steps.proofs.LateRows.{took_late_set}
 use Rattle.wasm_operator_validator_fast_steps.proofs.late.late_set.Goals as goal
 
 pub returns-clause-leads : goal.returns-clause-leads

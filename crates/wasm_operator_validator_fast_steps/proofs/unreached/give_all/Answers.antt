@@ -8,4 +8,4 @@ returns-then-results-le-MANY c = λ e. (c.args.results.now, c.put_all.ensures e 
 
 pub returns : goal.returns
 returns c = λ e.
-    some_given c.put_all.new.stack c.args.stack.now.1 (ap (λ (v : Values). v.1) (c.put_all.ensures e) ∙ c.keep-kept.ensures.under)
+    some_given c.put_all-2.new.self c.args.stack.now.1 (ap (λ (v : Values). v.1) (c.put_all-2.ensures e) ∙ c.keep-kept.ensures.under)

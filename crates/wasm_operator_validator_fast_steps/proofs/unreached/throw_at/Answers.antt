@@ -1,4 +1,3 @@
-use Rattle.std.proofs.Common.{refl}
 use Rattle.std.proofs.lemmas.Option.{slice_get-get_or}
 use Rattle.wasm_operator_validator_fast_tables.specs.declared.tables.Sig.{Sig}
 use Rattle.wasm_operator_validator_fast_steps.proofs.Unreaching.{passed_throw}

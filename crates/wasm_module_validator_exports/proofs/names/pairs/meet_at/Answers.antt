@@ -1,22 +1,11 @@
-use Rattle.std.proofs.Common.{rules, false, true}
-use Rattle.wasm_module_validator_exports.proofs.Finding.{apart_there, leads_to, not_free, not_led}
+use Rattle.std.proofs.Common.{rules, true}
+use Rattle.wasm_module_validator_exports.proofs.Finding.{leads_to, not_free, not_led}
 use Rattle.wasm_module_validator_exports.proofs.Keeping.{kept_at, read}
 use Rattle.wasm_module_validator_exports.proofs.names.pairs.meet_at.Goals as goal
 
-pub returns-then-is_apart : goal.returns-then-is_apart
-returns-then-is_apart c = (
-  not_led c.args.slots.now c.args.modules.now c.args.names.now c.args.pairs.now c.args.module.now c.args.name.now c.args.at c.in-Some.index.now
-      c.in-Some-get.kept.now (search rules) (search rules) (search rules) (search rules)
-      (apart_there c.args.slots.now c.args.modules.now c.args.names.now c.args.pairs.now c.args.module.now c.args.name.now c.args.at c.in-Some.index.now
-      c.in-Some-get.kept.now (search rules) (search rules) (search rules) (search rules) c.args.marks.now c.args.number c.requires.told
-      (c.is_apart.ensures c.if-is_apart.true)),
-  not_free c.args.slots.now c.args.modules.now c.args.names.now c.args.pairs.now c.args.module.now c.args.name.now c.args.at c.in-Some.index.now
-      c.in-Some-get.kept.now (search rules) (search rules) (search rules) (search rules),
-)
-
 pub has_names-requires : goal.has_names-requires
 has_names-requires c =
-    kept_at c.args.modules.now c.args.names.now c.args.pairs.now c.in-Some.index.now c.in-Some-get.kept.now c.requires.kept
+    kept_at c.args.modules.now c.args.names.now c.args.pairs.now c.in-Some.index.now c.in-Some-get.kept.now c.requires
     (read c.args.pairs.now c.in-Some.index.now c.in-Some-get.kept.now (search rules) (search rules))
 
 pub returns-then-has_names : goal.returns-then-has_names

@@ -1,25 +1,17 @@
 use Rattle.std.proofs.Common.{rules, ◌≡◌, ◌∙◌, ◌++◌, ◌∷◌, ◌+◌, List, [], ap, subst, sym, take}
 use Rattle.wasm_module_validator_exports.specs.declared.names.imports.KeptNames.{KeptNames}
-use Rattle.wasm_module_validator_exports.specs.names.Imports.{AreKept, Holds, Pair, TellsApart, all_named, pairs_of}
-use Rattle.wasm_module_validator_exports.proofs.Finding.{tells_front}
+use Rattle.wasm_module_validator_exports.specs.names.Imports.{AreKept, Holds, Pair, all_named, pairs_of}
 use Rattle.wasm_module_validator_exports.proofs.Keeping.{kept_at, kept_front, one_further, read}
 use Rattle.wasm_module_validator_exports.proofs.names.pairs.rebuilt.Goals as goal
 
 pub name_of-name-requires : goal.name_of-name-requires
 name_of-name-requires c =
-    kept_at c.args.modules.now c.args.names.now c.args.pairs.now c.loop-i.i c.index-pairs-i.result c.requires.kept
+    kept_at c.args.modules.now c.args.names.now c.args.pairs.now c.loop-i.i c.index-pairs-i.result c.requires
     (read c.args.pairs.now c.loop-i.i c.index-pairs-i.result (search rules) c.index-pairs-i.is)
 
 pub settle-requires-clause-kept : goal.settle-requires-clause-kept
 settle-requires-clause-kept c =
-    subst (AreKept c.args.modules.now c.args.names.now) (sym c.split_at.ensures.front) (kept_front c.args.modules.now c.args.names.now c.args.pairs.now c.loop-i.i c.requires.kept)
-
-pub settle-requires-clause-told : goal.settle-requires-clause-told
-settle-requires-clause-told c =
-    subst (λ (xs : List KeptNames). TellsApart c.args.marks.now (pairs_of (all_named c.args.modules.now c.args.names.now xs)) c.module_of-module.result.now c.name_of-name.result.now c.number.result)
-    (sym c.split_at.ensures.front)
-    (tells_front c.args.marks.now c.args.modules.now c.args.names.now c.args.pairs.now c.loop-i.i c.module_of-module.result.now c.name_of-name.result.now c.number.result
-    c.requires.marked c.number.ensures)
+    subst (AreKept c.args.modules.now c.args.names.now) (sym c.split_at.ensures.front) (kept_front c.args.modules.now c.args.names.now c.args.pairs.now c.loop-i.i c.requires)
 
 pub loop-i-preserved : goal.loop-i-preserved
 loop-i-preserved c =

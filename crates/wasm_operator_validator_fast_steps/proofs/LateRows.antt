@@ -1,14 +1,11 @@
 -- Locals that have values from some place on.
-use Rattle.std.proofs.Common.{◌≡◌, ◌<◌, ◌≤◌, ◌+◌, ◌-◌, ◌*◌, ◌^◌, ◌%◌, ◌∙◌, ◌⊎◌, inl, inr, ℕ, Bool, true, false, List, [], ◌∷◌, refl, sym, ap, subst, arith, nat_eq, length, get_or, w64}
+use Rattle.std.proofs.Common.{◌≡◌, ◌<◌, ◌≤◌, ◌+◌, ◌-◌, ◌*◌, ◌^◌, ◌%◌, ◌∙◌, ◌⊎◌, inl, inr, ℕ, Bool, true, false, List, [], ◌∷◌, refl, sym, subst, arith, length, get_or, w64}
 use Rattle.std.specs.Prelude.{◌==◌, if◌then◌else◌, bit_or, bit_and, ◌/◌}
-use Rattle.std.specs.Int.{bit_at}
 use Rattle.std.proofs.lemmas.Bool.{cases_lt}
 use Rattle.std.proofs.lemmas.Nat.Bits.{bit_at_set_other, shr_and_one}
 use borrow.Author.Tests.{eqb-false}
 use Rattle.wasm_types.specs.decoding.Leb.{u32}
 use Rattle.wasm_types.specs.decoding.Numbers.{GivesAt}
-use Rattle.wasm_types.specs.settings.Settings.{Settings}
-use Rattle.wasm_types.specs.trees.Trees.{TypeTree}
 use Rattle.wasm_operators_immediates.specs.Kinds as kind
 use Rattle.wasm_operators_immediates.specs.Immediates.{Index}
 use Rattle.wasm_operators_enums.specs.declared.memory.MemoryOperator.TheVariants as memory
@@ -21,8 +18,7 @@ use Rattle.wasm_operator_validator_rules.specs.Context.{Initialised}
 use Rattle.wasm_operator_validator_fast_tables.specs.declared.tables.Open.{Open}
 use Rattle.wasm_operator_validator_fast_tables.specs.declared.tables.Tables.{Tables}
 use Rattle.wasm_operator_validator_fast_tables.specs.Stacks.{Values}
-use Rattle.wasm_operator_validator_fast_tables.specs.Values.{type_of, types}
-use Rattle.wasm_operator_validator_fast_tables.specs.Tables.{HasDefault}
+use Rattle.wasm_operator_validator_fast_tables.specs.Values.{type_of}
 use Rattle.wasm_operator_validator_fast_tables.specs.Loop.{HasValue, Full, Leads}
 use Rattle.wasm_operator_validator_fast_steps.specs.Late.{IsSet}
 use Rattle.wasm_operator_validator_fast_steps.proofs.Coded.{first}
@@ -44,12 +40,12 @@ module _ (t : Tables) (bits x : ℕ) (set : Initialised) (full : Full t bits set
   set_more above within k lt has = either (x == k) refl
     where
       other : (x == k) ≡ false → HasValue t (bit_or bits (1 * 2 ^ (x - t.certain) % 2 ^ 64)) k → HasValue t bits k
-      other no (inl sure) = inl sure
-      other no (inr (inl default)) = inr (inl default)
-      other no (inr (inr bit)) = placed (cases_lt k t.certain)
+      other apart_from (inl sure) = inl sure
+      other apart_from (inr (inl default)) = inr (inl default)
+      other apart_from (inr (inr bit)) = placed (cases_lt k t.certain)
         where
           apart : t.certain ≤ k → k - t.certain ≡ x - t.certain → ⊥
-          apart le same = let one : x ≡ k = omega (arith, le, above, same) in eqb-false x k no one
+          apart le same = let one : x ≡ k = omega (arith, le, above, same) in eqb-false x k apart_from one
 
           placed : (k < t.certain) ⊎ (t.certain ≤ k) → HasValue t bits k
           placed (inl few) = inl few
