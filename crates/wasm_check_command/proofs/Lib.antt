@@ -1,6 +1,5 @@
 pub mod WordLemmas
 pub mod LineLemmas
-pub mod LargeLemmas
 pub mod ReportLemmas
 pub mod FileReports
 pub mod FileLemmas

@@ -12,7 +12,6 @@ mod command;
 mod files;
 mod going;
 mod judging;
-mod large;
 mod listing;
 mod names;
 mod needs;

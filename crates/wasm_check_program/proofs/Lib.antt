@@ -1,2 +1,1 @@
 mod Pieces
-mod Begun

@@ -8,5 +8,4 @@ pub mod WorkedReaders
 pub mod WorkedPassing
 pub mod Waiting
 pub mod Judging
-pub mod GoingOn
 pub mod Statements

@@ -31,8 +31,6 @@ pub(crate) struct Judging {
     pub(crate) passing: usize,
     /// The offset where these contents begin.
     pub(crate) contents: u64,
-    /// Whether what was refused is a body, behind which the parser stands.
-    pub(crate) has_refused_body: bool,
     pub(crate) alloc: Global,
 }
 
@@ -64,7 +62,6 @@ impl Judging {
             entries: 0,
             passing: 0,
             contents: 0,
-            has_refused_body: false,
             alloc,
         }
     }
@@ -98,10 +95,7 @@ impl Judging {
             &anew,
         ) {
             Ok(()) => Taken::Item(consumed),
-            Err(error) => {
-                self.has_refused_body = true;
-                Taken::Refused(error)
-            }
+            Err(error) => Taken::Refused(error),
         }
     }
 
@@ -129,10 +123,7 @@ impl Judging {
                     &body,
                 ) {
                     Ok(()) => Taken::Item(consumed),
-                    Err(error) => {
-                        self.has_refused_body = true;
-                        Taken::Refused(error)
-                    }
+                    Err(error) => Taken::Refused(error),
                 }
             }
             Ok(ValidPayload::End(types)) => {
