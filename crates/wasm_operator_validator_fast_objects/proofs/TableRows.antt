@@ -223,8 +223,8 @@ module _ (t : Tables) (text : List ℕ) (i e : ℕ) (o : Open) (outer : List Ope
       let long = addressed ids least (a.table64 && b.table64) (lengths a.table64 b.table64 wide broad) in
       let all : all_known (type_of ids to.index ∷ type_of ids from.index ∷ type_of ids least ∷ [])
       ≡ all_known (address_type a.table64 ∷ address_type b.table64 ∷ shorter a.table64 b.table64 ∷ []) =
-          ap (λ (x : ValueType). all_known (x ∷ type_of ids from.index ∷ type_of ids least ∷ [])) one
-          ∙ ap (λ (x : ValueType). all_known (address_type a.table64 ∷ x ∷ type_of ids least ∷ [])) two
-          ∙ ap (λ (x : ValueType). all_known (address_type a.table64 ∷ address_type b.table64 ∷ x ∷ [])) long in
+      ap (λ (x : ValueType). all_known (x ∷ type_of ids from.index ∷ type_of ids least ∷ [])) one
+      ∙ ap (λ (x : ValueType). all_known (address_type a.table64 ∷ x ∷ type_of ids least ∷ [])) two
+      ∙ ap (λ (x : ValueType). all_known (address_type a.table64 ∷ address_type b.table64 ∷ x ∷ [])) long in
       let fits_in = subst (λ (x : ValueType). Below x a.element) (sym of) (is_below t.known.order from.ty to.ty below ids fits.knows.steps a.element is) in
       (a, b, there, also, uses (Here ids c) a.shared fits.unshared, uses (Here ids c) b.shared fits.unshared, fits_in, (all, refl)))
