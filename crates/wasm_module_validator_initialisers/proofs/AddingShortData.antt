@@ -2,17 +2,14 @@
 use Rattle.std.proofs.Common.{◌≡◌, ℕ, List, Result, Ok, Option, Some, None, refl, subst}
 use Rattle.std.specs.Prelude.{IfSome}
 use Rattle.wasm_types.specs.decoding.ErrorValue.{ErrorValue}
-use Rattle.wasm_types.specs.settings.Features.{BulkMemory}
-use Rattle.wasm_types.specs.trees.Gates.{Has}
 use Rattle.wasm_operator_validator_state.specs.resources.Meaning.{Meaning}
-use Rattle.wasm_module_validator_initialisers.specs.segments.Short.{HasNarrowMemory, IsPassiveData, IsShortData, in_first_memory, passive_data}
+use Rattle.wasm_module_validator_initialisers.specs.segments.Short.{HasNarrowMemory, IsShortData, in_first_memory}
 use Rattle.wasm_module_validator_initialisers.specs.segments.ShortLaws.{short_data_is_valid}
 use Rattle.wasm_module_validator_type_storage.specs.trees.Groups.{Group}
 use Rattle.wasm_module_validator_state.specs.Items.{Items}
 use Rattle.wasm_module_validator_resources.specs.rules_in_order.Sections as section
 use Rattle.wasm_module_validator_state.specs.invariant.Standing.{constants_of, IsAdded}
 use Rattle.wasm_module_validator_initialisers.proofs.NewData.{data_told, data_added}
-use Rattle.wasm_module_validator_initialisers.proofs.Parts.{passive_is}
 
 -- an answer that is no refusal
 went_well : Result (Unit {0}) ErrorValue
@@ -31,12 +28,3 @@ module _ (groups : List Group) (i : Items) (text : List ℕ) (from : ℕ) where
       → IfSome r (λ to. (s : IsShortData text from to) → IsAdded section.data_segments groups i (in_first_memory s.constant s.content) i)
   short_added (Some to) m is h = one to (subst (λ (n : Meaning). HasNarrowMemory n.«module») is h)
   short_added None m is h = tt
-
--- and so may a passive one
-pub passive_added : (i : Items) (text : List ℕ) (from : ℕ) → Has i.spaces.settings.features BulkMemory → (r : Option ℕ)
-    → IfSome r (λ to. (groups : List Group) (s : IsPassiveData text from to) → IsAdded section.data_segments groups i (passive_data s.content) i)
-unfolding went_well
-passive_added i text from bulk (Some to) groups s =
-    let t = passive_data s.content in
-    (data_told groups i t went_well (passive_is i.spaces.settings (constants_of groups i.spaces) i.spaces.imported_globals bulk), data_added groups i t i refl)
-passive_added i text from bulk None = tt

@@ -24,6 +24,4 @@ mod NewTables
 mod NewElements
 mod NewData
 mod AcceptedGlobals
-mod Expressions
-mod ShortElements
 mod AddingShortData

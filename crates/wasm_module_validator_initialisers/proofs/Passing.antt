@@ -13,7 +13,7 @@ use Rattle.wasm_types.specs.settings.Settings.{Settings, no_features}
 use Rattle.wasm_types.specs.settings.Features.{Feature, has, mask, ExtendedConst, Floats, ReferenceTypes, Gc as gc_feature}
 use Rattle.wasm_types.specs.trees.Gates.{Has}
 use Rattle.wasm_types.specs.trees.laws.Below.{below_reflexive}
-use Rattle.wasm_types.specs.trees.Types.{f32, f64, i32, i64, number, ref, abstract, concrete, HeapOf, any, extern, i31}
+use Rattle.wasm_types.specs.trees.Types.{f32, f64, i32, i64, number, ref, abstract, concrete, HeapOf, i31}
 use Rattle.wasm_types.specs.trees.Trees.{TypeTree}
 use Rattle.wasm_types.specs.trees.ValidGroup.{type_at}
 use Rattle.wasm_types.specs.trees.declared.index.UnpackedIndex.TheVariants as index
@@ -59,7 +59,7 @@ use Rattle.wasm_operator_validator_rules.specs.constants.Constants.{IsConstantOp
 use Rattle.wasm_module_validator_resources.specs.rules_in_order.Between.{IsBetween}
 use Rattle.wasm_module_validator_resources.specs.rules_in_order.BetweenLaws.{InTurn, in_turn, between_so}
 use Rattle.wasm_module_validator_checks.specs.rules.Spaces.{referred_by}
-use Rattle.wasm_module_validator_initialisers.specs.accepting.Fields.{any_of, Converts, RefersToNumber}
+use Rattle.wasm_module_validator_initialisers.specs.accepting.Fields.{RefersToNumber}
 use Rattle.wasm_module_validator_initialisers.specs.accepting.Steps.{integer, integer_type, IsNullByte, IsSum, MayTake, RefersTo, tops, within_constant, IsNext, Nexts}
 
 -- ---- bytes
@@ -239,27 +239,6 @@ module _ (bits : ℕ) (m : Meaning) (text : List ℕ) (i j : ℕ) (before : List
       let takes : MayTake (n ∷ tops m left) (n ∷ []) (tops m left) = (below_reflexive n, all_below_refl (all_known (tops m left))) in
       put_next o u left behind (value.Ref r) (n ∷ []) told refl refl (λ count. allowed) (of_feature bits o proposal.Gc gc_feature refl refl refl allowed)
       (λ t set. (n ∷ [] ⟶ u ∷ [], refl, (refl, refl))) (subst (λ (s : List ValueType). MayTake s (n ∷ []) (tops m left)) (sym one) takes) (ap (λ (s : Reference). type_in m (value.Ref s)) made) put
-
-  -- a reference that is converted
-  pub to_host_next : (behind : List ValType) → BeginsPrefixed text i 0xfb 0x1b j → Has bits gc_feature → Converts m true before behind → Nexts bits m text i before j behind
-  unfolding type_in
-  to_host_next behind begins allowed (left, taken, put) =
-      let o = op.Gc gc.ExternConvertAny in
-      let n : ValueType = ref true (abstract false any) in
-      let u : ValueType = ref true (abstract false extern) in
-      let told : ToldAt text i j o = λ features. is_told features text i j o (prefixed_of text i 0xfb 0x1b 0x1b j begins refl refl o refl) _ refl refl refl refl in
-      put_next o u left behind (value.Ref (any_of true)) (n ∷ []) told refl refl (λ count. allowed) (of_feature bits o proposal.Gc gc_feature refl refl refl allowed)
-      (λ t set. (true, false, (refl, refl))) taken refl put
-
-  pub from_host_next : (behind : List ValType) → BeginsPrefixed text i 0xfb 0x1a j → Has bits gc_feature → Converts m false before behind → Nexts bits m text i before j behind
-  unfolding type_in
-  from_host_next behind begins allowed (left, taken, put) =
-      let o = op.Gc gc.AnyConvertExtern in
-      let n : ValueType = ref true (abstract false extern) in
-      let u : ValueType = ref true (abstract false any) in
-      let told : ToldAt text i j o = λ features. is_told features text i j o (prefixed_of text i 0xfb 0x1a 0x1a j begins refl refl o refl) _ refl refl refl refl in
-      put_next o u left behind (value.Ref (any_of false)) (n ∷ []) told refl refl (λ count. allowed) (of_feature bits o proposal.Gc gc_feature refl refl refl allowed)
-      (λ t set. (true, false, (refl, refl))) taken refl put
 
   -- a null, by its heap type
   null_next : (h : HeapType) (v : ValueType) (r : Reference) (behind : List ValType) → i < j → ((z : Settings) → IsBetween (SpelledOperator z (op.Bulk (bulk.RefNull h))) text i j)

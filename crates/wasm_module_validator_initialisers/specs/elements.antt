@@ -7,6 +7,5 @@ pub mod Naming
 pub mod Refusals
 -- Elements that their bytes alone tell.
 pub mod Short
-pub mod Expressions
 -- Worked segments, a pair for each rule.
 pub mod Worked

@@ -1,8 +1,8 @@
 //! Constants judged in one pass over their bytes.
 //!
 //! [`accepts_constant`] goes over the bytes of a constant once, with the types of its operands on a stack, and says yes or nothing: then the
-//! complete way tells. It knows numbers, sums of integers, globals, nulls, new structures and arrays, references to numbers of 31
-//! bits, and references that are converted.
+//! complete way tells. It knows numbers, sums of integers, globals, nulls, new structures and arrays, and references to numbers of 31
+//! bits.
 
 mod fields;
 mod judge;
@@ -12,4 +12,3 @@ mod references;
 mod stack;
 
 pub use judge::accepts_constant;
-pub(crate) use references::null_type;

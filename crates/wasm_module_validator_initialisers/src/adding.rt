@@ -10,7 +10,6 @@
 mod accepted;
 mod data;
 mod elements;
-mod expressions;
 mod globals;
 pub mod laws;
 mod marking;
@@ -19,9 +18,8 @@ mod short;
 mod tables;
 
 pub use crate::elements::OperatorValidatorAllocations;
-pub use data::{check_data_item, check_data_with, check_passive_data_item, check_short_data_item};
+pub use data::{check_data_item, check_data_with, check_short_data_item};
 pub use elements::add_element;
-pub use expressions::add_short_element;
 pub use globals::add_global;
 pub use short::add_short_global;
 pub use tables::add_table;

@@ -8,7 +8,6 @@
 //! `wasm_module_validator_resources::referring` has it.
 
 mod elements;
-mod expressions;
 mod items;
 pub mod laws;
 mod modes;
@@ -17,11 +16,9 @@ mod short;
 
 pub use crate::segments::{
     ConstExpr, DataOf, GlobalOf, OperatorValidatorAllocations, Settings, TableInitOf, TableOf,
-    WasmModuleResources, check_data, check_global, check_short_data, check_table, passive_data_at,
-    reader_by, refers_to_none,
+    WasmModuleResources, check_data, check_global, check_short_data, check_table, reader_by,
+    refers_to_none,
 };
 pub use elements::check_element;
-pub(crate) use expressions::short_element_at;
-pub(crate) use short::short_function_at;
 pub use wasm_module_validator_resources::referring::{ReferringToAll, name_references};
 pub use wasm_sections_items::elements::{ElementItemsOf, ElementKindOf, ElementOf};

@@ -16,7 +16,7 @@ mod tables;
 pub use constants::{check_constant, reader_by, refers_to_none};
 pub use data::check_data;
 pub use globals::check_global;
-pub use short::{check_short_data, passive_data_at};
+pub use short::check_short_data;
 pub use tables::check_table;
 pub use wasm_module_validator_checks::externs::{Settings, check_value_type, require};
 pub use wasm_operator_validator_constants::{

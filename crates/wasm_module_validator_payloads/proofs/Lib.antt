@@ -2,4 +2,3 @@ pub mod Adding
 pub mod Comparing
 pub mod Counting
 pub mod Arms
-pub mod EmptyGroups

@@ -1,7 +1,5 @@
 -- Rules: what is kept of a module that is being read, and when that stands for what was judged.
 pub mod Progress
--- Rules: groups of no types, and when one may be added.
-pub mod Groups
 -- Laws, with the proofs.
 pub mod laws
 -- The rules of crates below, under their names: crates above cite them here.

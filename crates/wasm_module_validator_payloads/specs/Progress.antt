@@ -99,12 +99,13 @@ pub record Reads (s : Section) (groups : List Group) (items : Items) (count : �
 abbrev pub IsRead : Section → Kept → Reading → Type 0
 IsRead s k u = Reads s k.groups k.items k.count u.settings u.tree
 
--- From one offset of a text to another stand the bytes of an item, by any settings with these limits; it is added to what was read with so
--- many groups, which leaves so many, and the list of types stays.
-abbrev pub AddsShortIn : {T V : Type 0} (s : Section) → (T → V) → (T → ItemRead s) → (Settings → Grammar V) → List Group → Items → ℕ → Items
-    → ℕ → Limits → List ℕ → ℕ → ℕ → Type 0
-AddsShortIn s view of g groups i before j after l text from to =
-    AddsShort view of g (AddsIn s) (IsRead s) (kept groups i before) (kept groups j after) l text from to
+-- From one offset of a text to another stand the bytes of an item, by any settings with these limits; it is added to what was read, and the
+-- list of types stays.
+abbrev pub AddsShortIn : {T V : Type 0} (s : Section) → (T → V) → (T → ItemRead s) → (Settings → Grammar V) → List Group → Items → Items
+    → Limits → List ℕ → ℕ → ℕ
+    → Type 0
+AddsShortIn s view of g groups i j l text from to =
+    (count : ℕ) → AddsShort view of g (AddsIn s) (IsRead s) (kept groups i count) (kept groups j count) l text from to
 
 -- after these types, over the list of types, an item that was read is next a group of so many
 abbrev pub HasNext : (s : Section) → List Group → Items → ItemRead s → List TypeTree → ℕ → Type 0

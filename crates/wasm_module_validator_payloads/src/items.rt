@@ -74,7 +74,6 @@ pub trait SectionItem<'a>: FromReader<'a> {
         alloc: Global,
         state: &mut ModuleState,
         types: &TypeList,
-        groups: &mut u32,
         bytes: &[u8],
         at: usize,
         limits: &Limits,
@@ -82,9 +81,9 @@ pub trait SectionItem<'a>: FromReader<'a> {
         requires over { IsReadOver types.now.groups state.old.spaces }
         requires inside { at ≤ length bytes.now }
         ensures added { IfSome result (AddsShortIn section Self.FromReader.view of Self.FromReader.grammar
-            types.now.groups state.old groups.old state.new groups.new limits.now bytes.now at) }
+            types.now.groups state.old
+            state.new limits.now bytes.now at) }
         ensures stays { IfNone result (state.new ≡ state.old) }
-        ensures uncounted { IfNone result (groups.new ≡ groups.old) }
         ensures over { IfSome result (λ _. IsReadOver types.now.groups state.new.spaces) }
         ensures settings { IfSome result (λ _. state.new.spaces.settings ≡ state.old.spaces.settings) }
         ensures grown { IfSome result (λ _. GrowsWith types.now.groups state.old.spaces types.now.groups
@@ -159,15 +158,7 @@ impl<'a, T: SectionItem<'a>> AddItem<'a, T> for Collected {
     }
 
     fn add_short(&mut self, bytes: &[u8], at: usize, limits: &Limits) -> Option<usize> {
-        T::add_short(
-            self.alloc,
-            &mut self.state,
-            &self.types,
-            &mut self.groups,
-            bytes,
-            at,
-            limits,
-        )
+        T::add_short(self.alloc, &mut self.state, &self.types, bytes, at, limits)
     }
 
     ghost alike = { T.alike };

@@ -23,15 +23,13 @@ ghost use Rattle.wasm_sections_items.specs.elements.Spells.{SpelledSegment};
 ghost use Rattle.wasm_module_validator_payloads.specs.Progress.{AddsShortIn, Reads, TellsRead};
 
 use crate::SectionItem;
-use crate::groups::add_empty_group;
 use std::alloc::Global;
 use wasm_module_validator_declarations::{
     add_export_item, add_function_item, add_group, add_memory_item, add_short_export,
     add_short_function, add_tag_item,
 };
 use wasm_module_validator_initialisers::adding::{
-    add_element, add_global, add_short_element, add_short_global, add_table, check_data_item,
-    check_passive_data_item, check_short_data_item,
+    add_element, add_global, add_short_global, add_table, check_data_item, check_short_data_item,
 };
 use wasm_module_validator_state::invariant::ModuleState;
 use wasm_module_validator_type_list::TypeList;
@@ -77,18 +75,14 @@ impl<'a> SectionItem<'a> for RecGroup {
     }
 
     fn add_short(
-        alloc: Global,
-        state: &mut ModuleState,
+        _alloc: Global,
+        _state: &mut ModuleState,
         _types: &TypeList,
-        groups: &mut u32,
-        bytes: &[u8],
-        at: usize,
+        _bytes: &[u8],
+        _at: usize,
         _limits: &Limits,
     ) -> Option<usize> {
-        match add_empty_group(alloc, state, groups, bytes, at) {
-            Some(end) => Some(end),
-            None => None,
-        }
+        None
     }
 
     ghost alike = { groups_alike };
@@ -128,7 +122,6 @@ impl<'a> SectionItem<'a> for u32 {
         _alloc: Global,
         state: &mut ModuleState,
         types: &TypeList,
-        _groups: &mut u32,
         bytes: &[u8],
         at: usize,
         _limits: &Limits,
@@ -197,7 +190,6 @@ impl<'a> SectionItem<'a> for TableOf<ConstExpr<'a>> {
         _alloc: Global,
         _state: &mut ModuleState,
         _types: &TypeList,
-        _groups: &mut u32,
         _bytes: &[u8],
         _at: usize,
         _limits: &Limits,
@@ -206,9 +198,8 @@ impl<'a> SectionItem<'a> for TableOf<ConstExpr<'a>> {
         requires inside { _at ≤ length _bytes.now }
         ensures added { IfSome result (AddsShortIn section.tables table_read table_read
             (λ z. SpelledTableItem (ConstantText z))
-            _types.now.groups _state.old _groups.old _state.new _groups.new _limits.now _bytes.now _at) }
+            _types.now.groups _state.old _state.new _limits.now _bytes.now _at) }
         ensures stays { IfNone result (_state.new ≡ _state.old) }
-        ensures uncounted { IfNone result (_groups.new ≡ _groups.old) }
         ensures over { IfSome result (λ _. IsReadOver _types.now.groups _state.new.spaces) }
         ensures settings { IfSome result (λ _. _state.new.spaces.settings ≡ _state.old.spaces.settings) }
         ensures grown { IfSome result (λ _. GrowsWith _types.now.groups _state.old.spaces _types.now.groups
@@ -254,7 +245,6 @@ impl<'a> SectionItem<'a> for MemoryType {
         _alloc: Global,
         _state: &mut ModuleState,
         _types: &TypeList,
-        _groups: &mut u32,
         _bytes: &[u8],
         _at: usize,
         _limits: &Limits,
@@ -306,7 +296,6 @@ impl<'a> SectionItem<'a> for TagType {
         _alloc: Global,
         _state: &mut ModuleState,
         _types: &TypeList,
-        _groups: &mut u32,
         _bytes: &[u8],
         _at: usize,
         _limits: &Limits,
@@ -373,7 +362,6 @@ impl<'a> SectionItem<'a> for GlobalOf<ConstExpr<'a>> {
         alloc: Global,
         state: &mut ModuleState,
         types: &TypeList,
-        _groups: &mut u32,
         bytes: &[u8],
         at: usize,
         _limits: &Limits,
@@ -382,9 +370,8 @@ impl<'a> SectionItem<'a> for GlobalOf<ConstExpr<'a>> {
         requires inside { at ≤ length bytes.now }
         ensures added { IfSome result (AddsShortIn section.globals global_read global_read
             (λ z. SpelledGlobalItem (ConstantText z))
-            types.now.groups state.old _groups.old state.new _groups.new _limits.now bytes.now at) }
+            types.now.groups state.old state.new _limits.now bytes.now at) }
         ensures stays { IfNone result (state.new ≡ state.old) }
-        ensures uncounted { IfNone result (_groups.new ≡ _groups.old) }
         ensures over { IfSome result (λ _. IsReadOver types.now.groups state.new.spaces) }
         ensures settings { IfSome result (λ _. state.new.spaces.settings ≡ state.old.spaces.settings) }
         ensures grown { IfSome result (λ _. GrowsWith types.now.groups state.old.spaces types.now.groups
@@ -455,7 +442,6 @@ impl<'a> SectionItem<'a> for Export<'a> {
         _alloc: Global,
         state: &mut ModuleState,
         types: &TypeList,
-        _groups: &mut u32,
         bytes: &[u8],
         at: usize,
         limits: &Limits,
@@ -463,9 +449,8 @@ impl<'a> SectionItem<'a> for Export<'a> {
         requires over { IsReadOver types.now.groups state.old.spaces }
         requires inside { at ≤ length bytes.now }
         ensures added { IfSome result (AddsShortIn section.exports export_read export_read SpelledExport
-            types.now.groups state.old _groups.old state.new _groups.new limits.now bytes.now at) }
+            types.now.groups state.old state.new limits.now bytes.now at) }
         ensures stays { IfNone result (state.new ≡ state.old) }
-        ensures uncounted { IfNone result (_groups.new ≡ _groups.old) }
         ensures over { IfSome result (λ _. IsReadOver types.now.groups state.new.spaces) }
         ensures settings { IfSome result (λ _. state.new.spaces.settings ≡ state.old.spaces.settings) }
         ensures grown { IfSome result (λ _. GrowsWith types.now.groups state.old.spaces types.now.groups
@@ -533,30 +518,25 @@ impl<'a> SectionItem<'a> for ElementOf<'a, ConstExpr<'a>> {
     }
 
     fn add_short(
-        alloc: Global,
-        state: &mut ModuleState,
-        types: &TypeList,
-        _groups: &mut u32,
-        bytes: &[u8],
-        at: usize,
+        _alloc: Global,
+        _state: &mut ModuleState,
+        _types: &TypeList,
+        _bytes: &[u8],
+        _at: usize,
         _limits: &Limits,
     ) -> Option<usize>
-        requires over { IsReadOver types.now.groups state.old.spaces }
-        requires inside { at ≤ length bytes.now }
+        requires over { IsReadOver _types.now.groups _state.old.spaces }
+        requires inside { _at ≤ length _bytes.now }
         ensures added { IfSome result (AddsShortIn section.element_segments element_read element_read
             (λ z. SpelledSegment (ConstantText z))
-            types.now.groups state.old _groups.old state.new _groups.new _limits.now bytes.now at) }
-        ensures stays { IfNone result (state.new ≡ state.old) }
-        ensures uncounted { IfNone result (_groups.new ≡ _groups.old) }
-        ensures over { IfSome result (λ _. IsReadOver types.now.groups state.new.spaces) }
-        ensures settings { IfSome result (λ _. state.new.spaces.settings ≡ state.old.spaces.settings) }
-        ensures grown { IfSome result (λ _. GrowsWith types.now.groups state.old.spaces types.now.groups
-            state.new.spaces) }
+            _types.now.groups _state.old _state.new _limits.now _bytes.now _at) }
+        ensures stays { IfNone result (_state.new ≡ _state.old) }
+        ensures over { IfSome result (λ _. IsReadOver _types.now.groups _state.new.spaces) }
+        ensures settings { IfSome result (λ _. _state.new.spaces.settings ≡ _state.old.spaces.settings) }
+        ensures grown { IfSome result (λ _. GrowsWith _types.now.groups _state.old.spaces _types.now.groups
+            _state.new.spaces) }
     {
-        match add_short_element(alloc, state, types, bytes, at) {
-            Some(end) => Some(end),
-            None => None,
-        }
+        None
     }
 
     ghost alike = { λ x y is. is };
@@ -618,7 +598,6 @@ impl<'a> SectionItem<'a> for DataOf<'a, ConstExpr<'a>> {
         _alloc: Global,
         state: &mut ModuleState,
         types: &TypeList,
-        _groups: &mut u32,
         bytes: &[u8],
         at: usize,
         _limits: &Limits,
@@ -627,18 +606,14 @@ impl<'a> SectionItem<'a> for DataOf<'a, ConstExpr<'a>> {
         requires inside { at ≤ length bytes.now }
         ensures added { IfSome result (AddsShortIn section.data_segments data_read data_read
             (λ z. SpelledData (ConstantText z))
-            types.now.groups state.old _groups.old state.new _groups.new _limits.now bytes.now at) }
+            types.now.groups state.old state.new _limits.now bytes.now at) }
         ensures stays { IfNone result (state.new ≡ state.old) }
-        ensures uncounted { IfNone result (_groups.new ≡ _groups.old) }
         ensures over { IfSome result (λ _. IsReadOver types.now.groups state.new.spaces) }
         ensures settings { IfSome result (λ _. state.new.spaces.settings ≡ state.old.spaces.settings) }
         ensures grown { IfSome result (λ _. GrowsWith types.now.groups state.old.spaces types.now.groups
             state.new.spaces) }
     {
-        if let Some(end) = check_short_data_item(state, types, bytes, at) {
-            return Some(end);
-        }
-        match check_passive_data_item(state, bytes, at) {
+        match check_short_data_item(state, types, bytes, at) {
             Some(end) => Some(end),
             None => None,
         }

@@ -12,7 +12,6 @@
 
 mod collected;
 mod frames;
-mod groups;
 mod imports;
 mod items;
 mod kinds;

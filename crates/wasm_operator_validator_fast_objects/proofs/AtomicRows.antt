@@ -1,5 +1,5 @@
 -- What atomic accesses and the fence take and give.
-use Rattle.std.proofs.Common.{◌≡◌, ◌∙◌, ◌+◌, ℕ, List, [], ◌∷◌, ◌++◌, Some, None, true, false, refl, sym, ap, subst, get_or, reverse}
+use Rattle.std.proofs.Common.{◌≡◌, ◌∙◌, ℕ, List, [], ◌∷◌, ◌++◌, Some, None, true, false, refl, sym, ap, subst, get_or, reverse}
 use Rattle.std.specs.Prelude.{◌%◌}
 use Rattle.std.proofs.lemmas.Bool.{eq-eqb}
 use Rattle.wasm_types.specs.decoding.Numbers.{GivesAt}
@@ -83,7 +83,7 @@ zero_of settings text i n e g = gives_as zero_byte text i n of_zero e g
 -- ---- the operators
 
 module _ (t : Tables) (text : List ℕ) (i e : ℕ) (o : Open) (outer : List Open) (v w : Values) where
-  Here : List TypeTree → Context → Context
+  abbrev Here : List TypeTree → Context → Context
   Here ids c = inside_all ids c t.known.flat.items (o ∷ outer)
 
   pub took_atomic : (code n natural address ty : ℕ) (k : AccessClass) → BeginsPrefixed text i 0xfe code n → Has t.features.0 feature.Threads → IsAtomicAt code natural k ty

@@ -1,21 +1,14 @@
 //! A module read from its first byte to its last.
 
 ghost use Rattle.std.specs.Prelude.{◌≡◌, IfOk, OnOk};
-ghost use Rattle.wasm_types.specs.decoding.Denials.{Tells};
-ghost use Rattle.wasm_types.specs.settings.Settings.{Settings};
-ghost use Rattle.wasm_sections_parser.specs.declared.frame.Frame.{Frame};
-ghost use Rattle.wasm_sections_parser.specs.Parsing.{shape_of};
-ghost use Rattle.wasm_sections.specs.Payloads.{IsPayloadOf};
-ghost use Rattle.wasm_module_validator_section_order.specs.items.Adding.{UnlessFull};
-ghost use Rattle.wasm_module_validator_section_order.specs.frames.Walks.{HasSettings};
 ghost use Rattle.wasm_module_validator_payloads.specs.declarations.Total.{TellsWithinTotal};
-ghost use Rattle.wasm_module_validator_section_order.specs.rules_in_order.Steps.{SoFar, JudgesShape};
-ghost use Rattle.wasm_module_validator_payloads.specs.Progress.{FullBy, Grows, IsAt, nothing_over};
+ghost use Rattle.wasm_module_validator_section_order.specs.rules_in_order.Steps.{SoFar};
+ghost use Rattle.wasm_module_validator_payloads.specs.Progress.{Grows, IsAt, nothing_over};
 ghost use Rattle.wasm_module_validator_drivers.specs.reading.Reading.{HasGroupIn, IsReadAs};
 
 use crate::judging::{Body, HeldSettings, InProgress};
 use std::alloc::Global;
-use wasm_sections::{Parser, Payload};
+use wasm_sections::Parser;
 use wasm_types::Result;
 
 /// Reads a module that is all of these bytes, by these settings, and gives its bodies. Its types go into the list of what nothing was read of
@@ -48,32 +41,10 @@ pub fn read_module<'a>(
             Ok(payload) => payload,
             Err(error) => return Err(error),
         };
-        match take(progress, payload, &mut bodies) {
+        match progress.take_payload(payload, &mut bodies) {
             Ok(()) => (),
             Err(error) => return Err(error),
         }
     }
     Ok(bodies)
-}
-
-// Takes a payload. Most are bodies, of which there may be very many: each is handed on as it is, and not moved with what else a payload may be.
-#[inline(always)]
-fn take<'a>(
-    progress: &mut InProgress,
-    payload: Payload<'a>,
-    bodies: &mut Vec<Body<'a>>,
-) -> Result<()>
-    ensures answer { UnlessFull (FullBy payload.entry progress.old bodies.old.items) result
-        ((z : Settings) (p : SoFar) (f : Frame) → IsAt z progress.old bodies.old.items p → HasSettings z f
-        → IsPayloadOf f payload.entry
-        → Tells result ((q : SoFar) × JudgesShape z p (shape_of f) q)) }
-    ensures added { OnOk result ((z : Settings) (p q : SoFar) (f : Frame) → IsAt z progress.old bodies.old.items p
-        → HasSettings z f → IsPayloadOf f payload.entry
-        → JudgesShape z p (shape_of f) q → IsAt z progress.new bodies.new.items q) }
-    ensures grown { OnOk result (Grows progress.old.kept progress.new.kept) }
-{
-    match payload {
-        Payload::CodeSectionEntry(body) => progress.take_body(body, bodies),
-        payload => progress.take_payload(payload, bodies),
-    }
 }

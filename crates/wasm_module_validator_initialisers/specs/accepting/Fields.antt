@@ -1,12 +1,12 @@
 -- Structures and arrays that a constant makes (WebAssembly 3.0, validation, aggregate instructions).
-use Rattle.std.specs.Prelude.{◌≡◌, ℕ, Bool, true, false, List, [], ◌∷◌, ◌++◌, ◌&&◌, map, not, Option, Some, None, option_map}
+use Rattle.std.specs.Prelude.{◌≡◌, ℕ, Bool, true, false, List, [], ◌∷◌, ◌++◌, ◌&&◌, map, Option, Some, None, option_map}
 use Rattle.wasm_types.specs.settings.Features.{CustomDescriptors, Gc, has}
 use Rattle.wasm_types.specs.trees.Gates.{Has}
 use Rattle.wasm_types.specs.trees.Types.{FieldOf, field_map, ref, concrete}
 use Rattle.wasm_types.specs.trees.Trees.{TypeTree, opened}
 use Rattle.wasm_types.specs.trees.ValidGroup.{type_at}
 use Rattle.wasm_types.specs.values.Reference.{Reference}
-use Rattle.wasm_types.specs.values.declared.heap.AbstractHeapType.TheVariants.{Any, Extern, I31}
+use Rattle.wasm_types.specs.values.declared.heap.AbstractHeapType.TheVariants.{I31}
 use Rattle.wasm_types.specs.values.declared.heap.HeapType.TheVariants.{Abstract}
 use Rattle.wasm_types.specs.values.declared.value.ValType.{ValType}
 use Rattle.wasm_types.specs.values.declared.value.ValType.TheVariants as value
@@ -85,16 +85,6 @@ IsArray m x f = (bits : ℕ) (t : ValueType) → array_named (within_constant bi
 abbrev pub RefersToNumber : List ValType → List ValType → Type 0
 RefersToNumber before behind = (left : List ValType) × (r : Reference) × (before ≡ left ++ value.I32 ∷ [])
     × (r ≡ record { nullable = false; heap = Abstract false I31 }) × (behind ≡ left ++ value.Ref r ∷ [])
-
--- the nullable reference to anything of the host, or of the module
-abbrev pub any_of : Bool → Reference
-any_of true = record { nullable = true; heap = Abstract false Extern }
-any_of false = record { nullable = true; heap = Abstract false Any }
-
--- a reference of one side is taken, and one to the other is put in its place: to the host's, or to the module's
-abbrev pub Converts : Meaning → Bool → List ValType → List ValType → Type 0
-Converts m to_host before behind = (left : List ValType) × MayTake (tops m before) (type_in m (value.Ref (any_of (not to_host))) ∷ []) (tops m left)
-    × (behind ≡ left ++ value.Ref (any_of to_host) ∷ [])
 
 -- An operator with this code behind the prefix, which carries the index and these numbers, makes an object of the type at the index. It takes
 -- operands of the first types, which leaves those of the last.

@@ -1,9 +1,7 @@
--- Globals and element segments that their bytes alone tell (WebAssembly 3.0, binary format, modules, global section and element section).
-use Rattle.std.specs.Prelude.{◌≡◌, ℕ, List, [], ◌∷◌, Bool, true, false, Option, None, Some, slice_get}
-use Rattle.wasm_types.specs.decoding.Decoder.{State}
+-- Globals that their bytes alone tell (WebAssembly 3.0, binary format, modules, global section).
+use Rattle.std.specs.Prelude.{◌≡◌, ℕ, List, [], Bool, true, false, Some, slice_get}
 use Rattle.wasm_types.specs.settings.Settings.{Settings}
 use Rattle.wasm_types.specs.trees.Types.{number}
-use Rattle.wasm_types.specs.externs.Spells.{SpelledGlobal}
 use Rattle.wasm_types.specs.externs.declared.global.GlobalType.{GlobalType}
 use Rattle.wasm_operators_bodies.specs.declared.short.ShortConstant.{ShortConstant}
 use Rattle.wasm_operators_bodies.specs.declared.short.ShortConstant.TheVariants as short
@@ -15,9 +13,6 @@ use Rattle.wasm_module_validator_checks.specs.rules.Valid.{IsValidGlobalType}
 -- the types of integers, as a number and as the code has it
 pub use Rattle.wasm_module_validator_initialisers.specs.accepting.Steps.{integer, integer_type}
 use Rattle.wasm_module_validator_initialisers.specs.accepting.Steps.{IsShortConstant}
-use Rattle.wasm_module_validator_initialisers.specs.elements.Expressions.{SpellsSegment}
-use Rattle.wasm_module_validator_initialisers.specs.elements.Trees.{element_read}
-use Rattle.wasm_sections_items.specs.declared.elements.element.ElementOf.{ElementOf}
 use Rattle.wasm_sections_items.specs.segments.Spells.{GlobalTree, SpelledGlobalItem}
 use Rattle.wasm_module_validator_type_storage.specs.trees.Groups.{Group}
 use Rattle.wasm_module_validator_resources.specs.rules_in_order.Between.{IsBetween}
@@ -55,26 +50,9 @@ pub record AddsGlobal (groups : List Group) (old new : Items) (text : List ℕ) 
   pub bytes : IsBetween (SpellsGlobal item) text i j
   pub added : IsAdded section.globals groups old item new
 
--- the function that a constant refers to, if it refers to one
-abbrev pub named_by : Option ℕ → List ℕ
-named_by None = []
-named_by (Some x) = x ∷ []
-
--- From one offset of a text to another stands a type of globals as the module writes it. It is valid, and this type over ids.
-pub record IsTypeThere (z : Settings) (m : Meaning) (named : GlobalType) (text : List ℕ) (i j : ℕ) : Type 0 where
-  pub written : GlobalType
-  pub bytes : IsBetween (SpelledGlobal written) text i j
+-- A global of a type that is valid, which is another type over ids, has a value of it, from one offset of a text to another; the value refers
+-- to no function.
+pub record IsTypedGlobal (z : Settings) (m : Meaning) (written named : GlobalType) (text : List ℕ) (i j : ℕ) : Type 0 where
   pub valid : IsValidGlobalType z m.«module» written
   pub same : global_in m named ≡ global_written m.«module».types written
-
--- From one offset of a text to another stand the type of a global, which is this over ids, and a value of it, which refers to these functions.
-pub record IsTypedGlobal (z : Settings) (m : Meaning) (named : GlobalType) (names : List ℕ) (text : List ℕ) (i j : ℕ) : Type 0 where
-  pub middle : ℕ
-  pub first : IsTypeThere z m named text i middle
-  pub value : IsShortConstant z.features m.«module» (type_in m named.content_type) text middle j names
-
--- from one offset of a text to another stand the bytes of an element segment, which is added
-pub record AddsElement (groups : List Group) (old new : Items) (text : List ℕ) (i j : ℕ) : Type 0 where
-  pub item : ElementOf State
-  pub bytes : IsBetween (SpellsSegment item) text i j
-  pub added : IsAdded section.element_segments groups old (element_read item) new
+  pub value : IsShortConstant z.features m.«module» (type_in m named.content_type) text i j []

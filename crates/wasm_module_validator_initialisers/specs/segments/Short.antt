@@ -1,13 +1,11 @@
 -- Data segments that their bytes alone tell (WebAssembly 3.0, binary format, modules, data section).
-use Rattle.std.specs.Prelude.{◌≡◌, ◌⊎◌, ℕ, List, Some, false, slice_get}
-use Rattle.wasm_types.specs.decoding.Leb.{u32}
-use Rattle.wasm_types.specs.decoding.Numbers.{GivesAt}
+use Rattle.std.specs.Prelude.{◌≡◌, ℕ, List, Some, false, slice_get}
 use Rattle.wasm_types.specs.externs.declared.memory.MemoryType.{MemoryType}
 use Rattle.wasm_types.specs.settings.Settings.{Settings}
 use Rattle.wasm_operators_bodies.specs.declared.short.ShortConstant.TheVariants as short
 use Rattle.wasm_operators_bodies.specs.Short.{SpellsShort}
 use Rattle.wasm_operators_encoding.specs.ConstantDecoder.{ConstantText}
-use Rattle.wasm_sections_items.specs.segments.Spells.{DataTree, SpelledData, active, passive}
+use Rattle.wasm_sections_items.specs.segments.Spells.{DataTree, SpelledData, active}
 use Rattle.wasm_operator_validator_rules.specs.Context.{Module}
 use Rattle.wasm_module_validator_resources.specs.rules_in_order.Between.{IsBetween}
 
@@ -19,10 +17,6 @@ in_first_memory constant content = record { mode = active 0 constant; content = 
 abbrev pub SpellsInFirst : List ℕ → List ℕ → List ℕ → Type 0
 SpellsInFirst constant content front = (z : Settings) → SpelledData (ConstantText z) (in_first_memory constant content) front
 
--- from one offset of a text to another stands what says that a segment is active in memory 0: its flag, and the memory if it is named
-abbrev pub IsFirstMemory : List ℕ → ℕ → ℕ → Type 0
-IsFirstMemory text i j = GivesAt u32 text i 0 j ⊎ ((k : ℕ) × GivesAt u32 text i 2 k × GivesAt u32 text k 0 j)
-
 -- memory 0 of a module has addresses of 32 bits
 abbrev pub HasNarrowMemory : Module → Type 0
 HasNarrowMemory g = (m : MemoryType) × (slice_get g.memories 0 ≡ Some m) × (m.memory64 ≡ false)
@@ -33,16 +27,3 @@ pub record IsShortData (text : List ℕ) (i j : ℕ) : Type 0 where
   pub content : List ℕ
   pub number : SpellsShort short.I32 constant
   pub bytes : IsBetween (SpellsInFirst constant content) text i j
-
--- a passive segment with these bytes
-abbrev pub passive_data : List ℕ → DataTree (List ℕ)
-passive_data content = record { mode = passive; content = content }
-
--- the bytes of such a segment, whatever the settings are
-abbrev pub SpellsPassive : List ℕ → List ℕ → Type 0
-SpellsPassive content front = (z : Settings) → SpelledData (ConstantText z) (passive_data content) front
-
--- from one offset of a text to another stand the bytes of a passive data segment
-pub record IsPassiveData (text : List ℕ) (i j : ℕ) : Type 0 where
-  pub content : List ℕ
-  pub bytes : IsBetween (SpellsPassive content) text i j

@@ -5,7 +5,7 @@ ghost use Rattle.wasm_types.specs.settings.Features.{CustomDescriptors, Gc, has}
 ghost use Rattle.wasm_types.specs.trees.Gates.{Has};
 ghost use Rattle.wasm_operators_immediates.specs.Immediates.{Count};
 ghost use Rattle.wasm_operators_frequent.specs.Short.{Begins, BeginsPrefixed};
-ghost use Rattle.wasm_module_validator_initialisers.specs.accepting.Fields.{any_of, Converts, MakesObject, RefersToNumber};
+ghost use Rattle.wasm_module_validator_initialisers.specs.accepting.Fields.{MakesObject, RefersToNumber};
 ghost use Rattle.wasm_module_validator_initialisers.specs.accepting.Steps.{Nexts};
 
 use crate::accepting::fields::{
@@ -182,45 +182,7 @@ fn refer_to_number(stack: &mut Vec<ValType>) -> bool
     put(stack, ValType::Ref(reference))
 }
 
-// The nullable reference to anything of the host, or of the module.
-fn any_of(host: bool) -> Option<RefType>
-    ensures { IfSome result (λ r. r ≡ any_of host) }
-{
-    if host {
-        return RefType::new(
-            true,
-            HeapType::Abstract {
-                shared: false,
-                ty: AbstractHeapType::Extern,
-            },
-        );
-    }
-    RefType::new(
-        true,
-        HeapType::Abstract {
-            shared: false,
-            ty: AbstractHeapType::Any,
-        },
-    )
-}
-
-// Converts the reference on top to one of the host, or from one.
-fn convert<R: WasmModuleResources>(to_host: bool, resources: &R, stack: &mut Vec<ValType>) -> bool
-    ensures { IsTrue result → Converts (R.meaning resources.now) to_host stack.old.items stack.new.items }
-{
-    let Some(from) = any_of(!to_host) else {
-        return false;
-    };
-    let Some(to) = any_of(to_host) else {
-        return false;
-    };
-    if !take(stack, ValType::Ref(from), resources) {
-        return false;
-    }
-    put(stack, ValType::Ref(to))
-}
-
-/// A new structure or array, the reference to a number of 31 bits, or a reference that is converted.
+/// A new structure or array, or the reference to a number of 31 bits.
 pub(crate) fn object<R: WasmModuleResources>(
     bytes: &[u8],
     at: usize,
@@ -239,18 +201,6 @@ pub(crate) fn object<R: WasmModuleResources>(
     };
     if code == 0x1c {
         if !refer_to_number(stack) {
-            return None;
-        }
-        return Some(middle);
-    }
-    if code == 0x1a {
-        if !convert(false, resources, stack) {
-            return None;
-        }
-        return Some(middle);
-    }
-    if code == 0x1b {
-        if !convert(true, resources, stack) {
             return None;
         }
         return Some(middle);

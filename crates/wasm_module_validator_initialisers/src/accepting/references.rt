@@ -40,8 +40,8 @@ pub(crate) fn global<R: WasmModuleResources>(
     Some(end)
 }
 
-/// The abstract heap type of a byte, if a null of it may be written under these features. Of types of continuations nothing is said.
-pub(crate) fn null_type(byte: u8, features: &WasmFeatures) -> Option<AbstractHeapType>
+// The abstract heap type of a byte, if a null of it may be written under these features. Of types of continuations nothing is said.
+fn null_type(byte: u8, features: &WasmFeatures) -> Option<AbstractHeapType>
     ensures { IfSome result (IsNullByte features.now.0 byte) }
 {
     if byte == 0x70 {

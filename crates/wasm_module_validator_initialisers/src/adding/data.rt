@@ -1,8 +1,7 @@
 //! Data segments.
 
-ghost use Rattle.std.specs.Prelude.{◌≡◌, ◌≤◌, List, length, IfErr, IfSome, OnOk};
-ghost use Rattle.wasm_module_validator_initialisers.specs.segments.Short.{IsPassiveData, IsShortData, in_first_memory, passive_data};
-ghost use Rattle.wasm_module_validator_type_storage.specs.trees.Groups.{Group};
+ghost use Rattle.std.specs.Prelude.{◌≡◌, ◌≤◌, length, IfErr, IfSome, OnOk};
+ghost use Rattle.wasm_module_validator_initialisers.specs.segments.Short.{IsShortData, in_first_memory};
 ghost use Rattle.wasm_types.specs.decoding.Denials.{Tells, UnlessMemory};
 ghost use Rattle.wasm_types.specs.settings.Limits.{IsWithinCeilings};
 ghost use Rattle.wasm_module_validator_resources.specs.Named.{IsReadOver};
@@ -15,7 +14,6 @@ ghost use Rattle.wasm_module_validator_initialisers.specs.adding.Read.{data_tree
 
 use crate::elements::{
     ConstExpr, DataOf, OperatorValidatorAllocations, ReferringToAll, check_data, check_short_data,
-    passive_data_at,
 };
 use std::alloc::Global;
 use wasm_module_validator_state::invariant::ModuleState;
@@ -124,17 +122,4 @@ pub fn check_short_data_item(
 {
     let module = state.resources(types);
     check_short_data(&ReferringToAll::new(&module), bytes, at)
-}
-
-/// The same of a passive one.
-pub fn check_passive_data_item(state: &ModuleState, bytes: &[u8], at: usize) -> Option<usize>
-    requires inside { at ≤ length bytes.now }
-    ensures passive { IfSome result (IsPassiveData bytes.now at) }
-    ensures added { IfSome result (λ j. (groups : List Group) (s : IsPassiveData bytes.now at j)
-        → IsAdded section.data_segments groups state.now (passive_data s.content) state.now) }
-{
-    if !state.settings().features().bulk_memory() {
-        return None;
-    }
-    passive_data_at(bytes, at)
 }

@@ -30,8 +30,8 @@ fn is_wide(byte: u8) -> Option<bool>
     }
 }
 
-/// Whether a global with this byte may be written, if it is not shared.
-pub(crate) fn is_mutable(byte: u8) -> Option<bool>
+// Whether a global with this byte may be written, if it is not shared.
+fn is_mutable(byte: u8) -> Option<bool>
     ensures { IfSome result (λ mutable. byte ≡ bit mutable) }
 {
     match byte {

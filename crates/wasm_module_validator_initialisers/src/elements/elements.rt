@@ -23,8 +23,8 @@ use std::alloc::Global;
 use wasm_sections_items::elements::{ElementItemsOf, ElementOf};
 use wasm_types::{RefType, Result, ValType};
 
-/// A reference type that the module writes, over ids.
-pub(crate) fn check_reference<R: WasmModuleResources>(
+// A reference type that the module writes, over ids.
+fn check_reference<R: WasmModuleResources>(
     ty: RefType,
     resources: &R,
     settings: &Settings,

@@ -36,8 +36,8 @@ fn is_function_of<R: WasmModuleResources>(index: u32, ty: &ValType, resources: &
     resources.is_subtype(ValType::Ref(reference), *ty)
 }
 
-/// The function that the element at an offset refers to, and where it ends, if it is one.
-pub(crate) fn short_function_at<R: WasmModuleResources>(
+// The function that the element at an offset refers to, and where it ends, if it is one.
+fn short_function_at<R: WasmModuleResources>(
     bytes: &[u8],
     at: usize,
     ty: &ValType,
@@ -49,10 +49,6 @@ pub(crate) fn short_function_at<R: WasmModuleResources>(
     ensures { IfSome result (λ r. IsShortConstant features.now.0 (R.meaning resources.now).«module»
         (type_in (R.meaning resources.now) ty.now) bytes.now at r.1 (r.0 ∷ [])) }
 {
-    // Most elements that are no function are told apart by their first byte.
-    if at >= bytes.len() || bytes[at] != 0xd2 {
-        return None;
-    }
     let Some((ShortConstant::Function(index), long)) = short_constant(&bytes[at..]) else {
         return None;
     };
@@ -91,8 +87,8 @@ fn take_short_element<R: WasmModuleResources>(
     }
 }
 
-/// Goes past the elements at the front of these bytes that the bytes alone tell, at most so many: how many are left, and where those end.
-pub(crate) fn take_front<R: WasmModuleResources>(
+// Goes past the elements at the front of these bytes that the bytes alone tell, at most so many: how many are left, and where those end.
+fn take_front<R: WasmModuleResources>(
     bytes: &[u8],
     most: u32,
     ty: &ValType,

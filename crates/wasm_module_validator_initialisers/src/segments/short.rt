@@ -1,10 +1,10 @@
 //! Data segments that their bytes alone tell.
 //!
-//! Most data segments of a module are copied into memory 0 at a number of 32 bits, or are passive. [`check_short_data`] and [`passive_data_at`] tell
-//! these with no reader of operators; of all others they say nothing.
+//! Most data segments of a module are copied into memory 0 at a number of 32 bits. [`check_short_data`] tells these with no reader of operators;
+//! of all others it says nothing.
 
 ghost use Rattle.std.specs.Prelude.{◌≤◌, length, IfSome};
-ghost use Rattle.wasm_module_validator_initialisers.specs.segments.Short.{HasNarrowMemory, IsFirstMemory, IsPassiveData, IsShortData};
+ghost use Rattle.wasm_module_validator_initialisers.specs.segments.Short.{HasNarrowMemory, IsShortData};
 
 use wasm_operator_validator_constants::WasmModuleResources;
 use wasm_operators_bodies::{ShortConstant, short_constant};
@@ -30,61 +30,18 @@ pub fn check_short_data<R: WasmModuleResources>(
     short_data_at(bytes, at)
 }
 
-// Where the offset of the data segment at an offset begins, if it is active in memory 0, whether that is named or not.
-fn first_memory_at(bytes: &[u8], at: usize) -> Option<usize>
-    requires { at ≤ length bytes.now }
-    ensures { IfSome result (IsFirstMemory bytes.now at) }
-{
-    let Some((flag, middle)) = short_u32_at(bytes, at) else {
-        return None;
-    };
-    if flag == 0 {
-        return Some(middle);
-    }
-    if flag != 2 {
-        return None;
-    }
-    let Some((memory, end)) = short_u32_at(bytes, middle) else {
-        return None;
-    };
-    if memory != 0 {
-        return None;
-    }
-    Some(end)
-}
-
 /// Where the data segment at an offset ends, if it is active in memory 0 at a number of 32 bits.
 fn short_data_at(bytes: &[u8], at: usize) -> Option<usize>
     requires { at ≤ length bytes.now }
     ensures { IfSome result (IsShortData bytes.now at) }
 {
-    let Some(first) = first_memory_at(bytes, at) else {
+    let Some((0, first)) = short_u32_at(bytes, at) else {
         return None;
     };
     let Some((ShortConstant::I32, long)) = short_constant(&bytes[first..]) else {
         return None;
     };
     let Some((count, start)) = short_u32_at(bytes, first + long) else {
-        return None;
-    };
-    if count as usize > bytes.len() - start {
-        return None;
-    }
-    Some(start + count as usize)
-}
-
-/// Where the data segment at an offset ends, if it is passive. No feature is asked.
-pub fn passive_data_at(bytes: &[u8], at: usize) -> Option<usize>
-    requires { at ≤ length bytes.now }
-    ensures { IfSome result (IsPassiveData bytes.now at) }
-{
-    let Some((flag, middle)) = short_u32_at(bytes, at) else {
-        return None;
-    };
-    if flag != 1 {
-        return None;
-    }
-    let Some((count, start)) = short_u32_at(bytes, middle) else {
         return None;
     };
     if count as usize > bytes.len() - start {

@@ -17,7 +17,7 @@ use Rattle.wasm_sections_items.specs.declared.segments.segment.DataOf.{DataOf}
 use Rattle.wasm_sections_items.specs.declared.segments.segment.DataKindOf.TheVariants as data_kind
 use Rattle.wasm_sections_items.specs.segments.Spells.{DataTree, SpelledData}
 use Rattle.wasm_operators_encoding.specs.ConstantDecoder.{ConstantText}
-use Rattle.wasm_module_validator_initialisers.specs.segments.Short.{IsPassiveData, IsShortData, in_first_memory, passive_data}
+use Rattle.wasm_module_validator_initialisers.specs.segments.Short.{IsShortData, in_first_memory}
 use Rattle.wasm_module_validator_section_order.specs.rules_in_order.BetweenLaws.{between_so}
 use Rattle.wasm_module_validator_section_order.specs.rules_in_order.Sections as section
 use Rattle.wasm_module_validator_section_order.specs.sections.Kinds.{data_read}
@@ -63,18 +63,6 @@ pub adds_data : (groups : List Group) (i : Items) (l : Limits) (text : List ℕ)
 unfolding segment
 adds_data groups i l text from to s added =
     adds_short section.data_segments data_read data_read (λ z. SpelledData (ConstantText z)) (segment s.constant s.content) groups i i l text from to
-    (λ z m n h. ap (λ (t : ModuleTree). t.types) h.2.added) added (between_so _ _ text from to (λ t h z same. h z) s.bytes)
-
--- a passive one, of which nothing is kept either
-passive_segment : List ℕ → DataOf State
-passive_segment content = record { kind = data_kind.Passive; bytes = record { ref_ptr = (0, 0); now = content }; range = record { start = 0; end = 0 } }
-
-pub adds_passive : (groups : List Group) (i : Items) (l : Limits) (text : List ℕ) (from to : ℕ) (s : IsPassiveData text from to)
-    → IsAdded section.data_segments groups i (passive_data s.content) i → (count : ℕ)
-    → AddsShort data_read data_read (λ z. SpelledData (ConstantText z)) (AddsIn section.data_segments) (IsRead section.data_segments) (kept groups i count) (kept groups i count) l text from to
-unfolding passive_segment
-adds_passive groups i l text from to s added =
-    adds_short section.data_segments data_read data_read (λ z. SpelledData (ConstantText z)) (passive_segment s.content) groups i i l text from to
     (λ z m n h. ap (λ (t : ModuleTree). t.types) h.2.added) added (between_so _ _ text from to (λ t h z same. h z) s.bytes)
 
 -- what holds whatever the answer is

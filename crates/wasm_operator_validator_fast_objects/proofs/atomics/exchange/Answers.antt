@@ -25,10 +25,10 @@ returns-in-CompareExchange c = λ e.
 
 pub returns-in-Notify : goal.returns-in-Notify
 returns-in-Notify c = λ e.
-    let (r, taken, put) = c.take_change-2.ensures e in
-    exchanged c.args.class class.Notify c.args.ty c.args.address c.args.stack.now c.take_change-2.new.stack r c.args.stack.now.1 c.in-Notify.is taken put
+    let (r, taken, put) = c.take_change-in-Notify.ensures e in
+    exchanged c.args.class class.Notify c.args.ty c.args.address c.args.stack.now c.take_change-in-Notify.new.stack r c.args.stack.now.1 c.in-Notify.is taken put
 
 pub returns-in-Wait : goal.returns-in-Wait
 returns-in-Wait c = λ e.
-    let (r, taken, put) = c.take_two_change-2.ensures e in
-    exchanged c.args.class class.Wait c.args.ty c.args.address c.args.stack.now c.take_two_change-2.new.stack r c.args.stack.now.1 c.in-Wait.is taken put
+    let (r, taken, put) = c.take_two_change-in-Wait.ensures e in
+    exchanged c.args.class class.Wait c.args.ty c.args.address c.args.stack.now c.take_two_change-in-Wait.new.stack r c.args.stack.now.1 c.in-Wait.is taken put

@@ -47,17 +47,17 @@ loop-payload-preserved c =
     let room : 0 + length c.args.bytes.now < 2 ^ 64 = omega (arith, c) in
     let next = subst (λ (r : Result Payload ErrorValue). NextPayload c.loop-payload.payload-iterator (Some r) c.next.new.self) c.in-Ok.is c.in-Some.ensures.steps in (
       goes_on p c.args.bytes.now refl room c.loop-payload.payload-iterator c.next.new.self c.loop-payload.progress c.loop-payload.bodies.items c.in-Ok.payload c.loop-payload.invariant.0 next
-          c.take.new.self _ c.in-Ok-take.ensures.answer c.in-Ok-take.ensures.added,
-      grows_further c.args.progress.now.kept c.loop-payload.progress.kept c.take.new.self.kept c.loop-payload.invariant.1 c.in-Ok-take.ensures.grown,
+          c.take_payload.new.self _ c.in-Ok-take_payload.ensures.answer c.in-Ok-take_payload.ensures.added,
+      grows_further c.args.progress.now.kept c.loop-payload.progress.kept c.take_payload.new.self.kept c.loop-payload.invariant.1 c.in-Ok-take_payload.ensures.grown,
     )
 
-pub returns-in-Err-take-clause-answer : goal.returns-in-Err-take-clause-answer
-returns-in-Err-take-clause-answer c =
+pub returns-in-Err-take_payload-clause-answer : goal.returns-in-Err-take_payload-clause-answer
+returns-in-Err-take_payload-clause-answer c =
     let p : Parser = record { offset = 0; settings = c.args.settings.now; progress = fresh } in
     let room : 0 + length c.args.bytes.now < 2 ^ 64 = omega (arith, c) in
     let next = subst (λ (r : Result Payload ErrorValue). NextPayload c.loop-payload.payload-iterator (Some r) c.next.new.self) c.in-Ok.is c.in-Some.ensures.steps in
     let here = c.loop-payload.progress.kept in
-    let error = c.in-Err-take.error in
+    let error = c.in-Err-take_payload.error in
     let x = c.in-Ok.payload in
     let Has = HasGroupIn c.args.settings.now c.args.bytes.now in
     either_from (λ full. total_before c.args.progress.now.kept here Has error c.loop-payload.invariant.1
@@ -66,7 +66,7 @@ returns-in-Err-take-clause-answer c =
     c.loop-payload.invariant.0 next b n refl)
     (let g = c.loop-payload.invariant.0 in full c.args.settings.now g.some.0 (g.stands g.some.0 g.some.1))))
     (λ told. refused_payload p c.args.bytes.now refl room c.loop-payload.payload-iterator c.next.new.self c.loop-payload.progress c.loop-payload.bodies.items c.in-Ok.payload c.loop-payload.invariant.0 next
-    c.in-Err-take.error.kind told) c.in-Err-take.ensures.answer
+    c.in-Err-take_payload.error.kind told) c.in-Err-take_payload.ensures.answer
 
 pub returns-clause-answer : goal.returns-clause-answer
 returns-clause-answer c =

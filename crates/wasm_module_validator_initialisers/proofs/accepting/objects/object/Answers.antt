@@ -4,7 +4,7 @@ use Rattle.wasm_types.specs.decoding.Numbers.{GivesAt}
 use Rattle.wasm_types.specs.settings.Features.{Gc}
 use Rattle.wasm_types.specs.trees.Gates.{Has}
 use Rattle.wasm_operators_frequent.specs.Short.{BeginsPrefixed}
-use Rattle.wasm_module_validator_initialisers.proofs.Passing.{from_host_next, number_next, to_host_next}
+use Rattle.wasm_module_validator_initialisers.proofs.Passing.{number_next}
 use Rattle.wasm_module_validator_initialisers.proofs.accepting.objects.object.Goals as goal
 
 pub returns-then-code-eq28 : goal.returns-then-code-eq28
@@ -17,21 +17,3 @@ returns-then-code-eq28 g c =
     = record { prefix_there = c.requires; code_there = subst (λ (n : ℕ). GivesAt u32 text (c.args.at + 1) n c.in-Some.middle) is c.in-Some.ensures.found } in
     number_next c.args.features.now.0 m text c.args.at c.in-Some.middle c.args.stack.now.items c.refer_to_number.new.stack.items begins gc
     (c.refer_to_number.ensures c.if-not-refer_to_number.false)
-
-pub returns-then-code-eq26 : goal.returns-then-code-eq26
-returns-then-code-eq26 g c =
-    let m = g.R.WasmModuleResources.meaning c.args.resources.now in
-    let text = c.args.bytes.now in
-    let gc : Has c.args.features.now.0 Gc = search rules in
-    let begins : BeginsPrefixed text c.args.at 0xfb 0x1a c.in-Some.middle
-    = record { prefix_there = c.requires; code_there = subst (λ (n : ℕ). GivesAt u32 text (c.args.at + 1) n c.in-Some.middle) c.if-code-eq26.true c.in-Some.ensures.found } in
-    from_host_next c.args.features.now.0 m text c.args.at c.in-Some.middle c.args.stack.now.items c.convert.new.stack.items begins gc (c.convert.ensures c.if-not-convert.false)
-
-pub returns-then-code-eq27 : goal.returns-then-code-eq27
-returns-then-code-eq27 g c =
-    let m = g.R.WasmModuleResources.meaning c.args.resources.now in
-    let text = c.args.bytes.now in
-    let gc : Has c.args.features.now.0 Gc = search rules in
-    let begins : BeginsPrefixed text c.args.at 0xfb 0x1b c.in-Some.middle
-    = record { prefix_there = c.requires; code_there = subst (λ (n : ℕ). GivesAt u32 text (c.args.at + 1) n c.in-Some.middle) c.if-code-eq27.true c.in-Some.ensures.found } in
-    to_host_next c.args.features.now.0 m text c.args.at c.in-Some.middle c.args.stack.now.items c.convert-2.new.stack.items begins gc (c.convert-2.ensures c.if-not-convert-2.false)

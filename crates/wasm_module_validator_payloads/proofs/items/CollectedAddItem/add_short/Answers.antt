@@ -11,4 +11,4 @@ returns-clause-added g c =
     let inside = c.self.inside in
     some_from c.add_short.result _ _
     (λ j h. subst (λ (k : Kept). AddsShort g.T.FromReader.view g.T.SectionItem.of g.T.FromReader.grammar (AddsIn s) (IsRead s) k
-    (kept inside.types.groups c.add_short.new.state c.add_short.new.groups) c.args.limits.now c.args.bytes.now c.args.at j) c.self.view_is h) c.add_short.ensures.added
+    (kept inside.types.groups c.add_short.new.state inside.groups) c.args.limits.now c.args.bytes.now c.args.at j) c.self.view_is (h inside.groups)) c.add_short.ensures.added

@@ -17,7 +17,7 @@ unfolding written
 returns-in-Some-clause-added c =
     let a = c.in-Some.ensures.added in
     adds_short section.exports export_read export_read SpelledExport (written a.item) c.args.types.now.groups c.args.state.now c.add_short_export.new.state c.args.limits.now
-    c.args.bytes.now c.args.at c.in-Some.end (λ z m n h. ap (λ (t : ModuleTree). t.types) h.2.added) a.added a.bytes c.args._groups.now
+    c.args.bytes.now c.args.at c.in-Some.end (λ z m n h. ap (λ (t : ModuleTree). t.types) h.2.added) a.added a.bytes
 
 pub returns-in-Some-clause-grown : goal.returns-in-Some-clause-grown
 returns-in-Some-clause-grown c = grows_by_none c.args.types.now.groups c.args.state.now.spaces c.add_short_export.new.state.spaces c.in-Some.ensures.types
