@@ -1,6 +1,6 @@
 //! A module whose pieces are handed over, judged to its end.
 
-ghost use Rattle.std.specs.Prelude.{◌<◌, ◌^◌, ◌++◌, [], List, ℕ, length};
+ghost use Rattle.std.specs.Prelude.{◌≡◌, ◌<◌, ◌^◌, ◌++◌, [], List, ℕ, length};
 ghost use Rattle.wasm_types.specs.settings.Limits.{IsWithinCeilings};
 ghost use Rattle.wasm_types.specs.settings.Settings.{Settings};
 ghost use Rattle.wasm_module_validator_index_spaces.specs.declared.view.validator_id.ValidatorId.{ValidatorId};
