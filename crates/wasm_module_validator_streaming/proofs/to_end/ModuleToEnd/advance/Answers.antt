@@ -43,5 +43,5 @@ returns-in-Err-Refused c =
 
 pub returns-in-Err-TooLong : goal.returns-in-Err-TooLong
 returns-in-Err-TooLong c = record {
-  came = λ z id got h more room. memory_denies z ((got ++ c.args.bytes.now) ++ more) c.out_of_memory.result (ap (λ (e : ErrorValue). e.kind) c.out_of_memory.ensures);
+  came = λ z id got h more room. memory_denies z ((got ++ c.args.bytes.now) ++ more) c.out_of_memory-in-Err-TooLong.result (ap (λ (e : ErrorValue). e.kind) c.out_of_memory-in-Err-TooLong.ensures);
 }
