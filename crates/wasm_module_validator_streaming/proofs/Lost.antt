@@ -1,5 +1,5 @@
 -- What judges a module to its end: what an item leads to, before a body is refused and behind one that is.
-use Rattle.std.proofs.Common.{◌≡◌, ◌∙◌, ◌<◌, ◌≤◌, ◌+◌, ◌-◌, ◌^◌, ℕ, Bool, true, false, List, [], ◌++◌, length, drop, Option, Some, None, Result, Ok, Err, is_some, refl, sym, ap, subst, arith, length-drop}
+use Rattle.std.proofs.Common.{◌≡◌, ◌∙◌, ◌<◌, ◌≤◌, ◌+◌, ◌^◌, ℕ, Bool, true, false, List, ◌++◌, length, drop, Option, Some, None, Ok, is_some, refl, sym, ap, subst, arith, length-drop}
 use Rattle.std.proofs.lemmas.Bool.{false≢true}
 use Rattle.wasm_types.specs.decoding.Denials.{Denies}
 use Rattle.wasm_types.specs.decoding.DenialLaws.{denies}

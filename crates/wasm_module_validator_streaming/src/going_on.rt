@@ -14,8 +14,8 @@ use wasm_module_validator::{Types, ValidPayload};
 use wasm_sections::Chunk;
 use wasm_types::{Error, ErrorKind};
 
-/// What judges a module as its bytes come, and goes on behind the first body that is refused. If a section is refused too, that is told: so it is where
-/// all sections are read before the first body is judged.
+/// What judges a module as its bytes come, and goes on after the first body that is refused. If a section is refused
+/// too, that is told, as it is if all sections are read before the first body is judged.
 #[derive(Drop)]
 pub(crate) struct GoingOn {
     pub(crate) judging: Judging,
@@ -45,8 +45,8 @@ impl GoingOn {
         }
     }
 
-    /// Keeps why a body was refused, and passes over the body: the parser, which was at this offset, is behind it. Out of memory is no verdict on it,
-    /// and ends the judging.
+    /// Keeps why a body was refused, and passes over the body: the parser was at this offset, and is after the body now.
+    /// Out of memory is no verdict, and ends the judging.
     #[cold]
     #[inline(never)]
     fn go_on(&mut self, before: u64, bytes: &[u8], error: Error) -> Taken<Types>
@@ -63,7 +63,7 @@ impl GoingOn {
         Taken::Item(passed as usize)
     }
 
-    /// Takes the next item behind a body that was refused. The bodies that come are not judged any more.
+    /// Takes the next item after a body that was refused. The bodies that come are not judged any more.
     #[cold]
     #[inline(never)]
     fn take_unjudged(&mut self, bytes: &[u8], eof: bool) -> Taken<Types>

@@ -31,7 +31,7 @@ pub(crate) struct Judging {
     pub(crate) passing: usize,
     /// The offset where these contents begin.
     pub(crate) contents: u64,
-    /// Whether what was refused is a body, behind which the parser stands.
+    /// Whether what was refused is a body. The parser is after it then.
     pub(crate) has_refused_body: bool,
     pub(crate) alloc: Global,
 }

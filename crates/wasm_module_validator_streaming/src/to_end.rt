@@ -15,11 +15,13 @@ use wasm_module_validator::Types;
 use wasm_module_validator_index_spaces::view::ValidatorId;
 use wasm_types::{Error, Limits, Result, WasmFeatures};
 
-/// A module as far as its bytes were handed over, which is judged to its end, whatever comes: of several faults that is told then which is told of the
-/// bytes as a whole. First that is a fault of the sections; and if they have none, that of the first body that is refused.
+/// A module as far as its bytes were handed over, which is judged to its end, whatever comes. So of several faults the
+/// one is told that is told of the bytes as a whole: a fault of the sections if they have one, else that of the first
+/// body that is refused.
 ///
-/// Each section, and each body, is judged as soon as it is whole, and is not kept; so what is held of the bytes is a part of one item. Behind a
-/// fault of the sections nothing is judged or held any more, and behind a body that is refused no other body is judged.
+/// Each section, and each body, is judged as soon as it is whole, and is not kept; so what is held of the bytes is a
+/// part of one item. After a fault of the sections nothing is judged or held any more, and after a body that is refused
+/// no other body is judged.
 ///
 /// [`CameToEnd`] tells which bytes came: none at first, and with each piece those of the piece too.
 #[derive(Drop)]
@@ -96,7 +98,8 @@ impl ModuleToEnd {
         }
     }
 
-    /// The verdict on the module whose bytes are all that came. An accepted module runs soundly, and what was learned of it is shown.
+    /// The verdict on the module whose bytes are all that came. An accepted module runs soundly, and what was learned
+    /// of it is shown.
     ///
     /// # Errors
     ///

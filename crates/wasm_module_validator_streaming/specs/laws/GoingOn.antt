@@ -1,5 +1,5 @@
 -- What judges a module to its end stands where it is said: more bytes may come, and it may be known that none do.
-use Rattle.std.proofs.Common.{◌≡◌, ◌<◌, ◌+◌, ◌^◌, ℕ, List, ◌++◌, Option, Some, None, Bool, true, false, length, sym, subst, arith, append_assoc, length-append}
+use Rattle.std.proofs.Common.{◌<◌, ◌+◌, ◌^◌, ℕ, List, ◌++◌, Option, Some, None, true, false, length, subst, arith, append_assoc, length-append}
 use Rattle.std.proofs.lemmas.Bool.{false≢true}
 use Rattle.wasm_types.specs.decoding.ErrorValue.{ErrorValue}
 use Rattle.wasm_types.specs.settings.Settings.{Settings}
