@@ -1,9 +1,10 @@
 -- How inputs are read: whole, or in pieces as they come. An input that comes in pieces is judged while it is read, so it may be refused long
 -- before its end; and none is read past 2^30 bytes.
-use Rattle.std.specs.Prelude.{◌≡◌, ℕ, ◌≤◌, ◌<◌, ◌+◌, ◌^◌, Bool, true, false, List, [], length, IfSome, Option}
+use Rattle.std.specs.Prelude.{◌≡◌, ℕ, ◌≤◌, ◌<◌, ◌+◌, ◌^◌, ◌++◌, Bool, true, false, List, [], ◌∷◌, length, IfSome, Option, Result}
 use Rattle.std.specs.Int.RustNames.{bit_or}
-use Rattle.std.specs.Io.KnownBytes.{Consumes}
-use Rattle.wasm_types.specs.decoding.Denials.{UnlessMemory}
+use Rattle.std.specs.Io.KnownBytes.{Consumes, prepend_known}
+use Rattle.wasm_types.specs.decoding.Denials.{Tells, UnlessMemory}
+use Rattle.wasm_types.specs.decoding.ErrorValue.{ErrorValue}
 use Rattle.wasm_types.specs.settings.Features.{vectors_bit}
 use Rattle.wasm_types.specs.settings.Limits.{IsWithinCeilings}
 use Rattle.wasm_types.specs.settings.Sets.{bits_of}
@@ -105,9 +106,22 @@ CanJudge c = IsWithinCeilings c.limits × HasPieces c.mode
 
 -- ---- a reader whose bytes are judged as they come
 
+-- some bytes of a module came, perhaps none, and it is judged by some settings
+abbrev pub HasBegun : {M : Type 0} → (Settings → List ℕ → M → Type 0) → M → Type 0
+HasBegun came begun = (z : Settings) × (got : List ℕ) × came z got begun
+
 -- a reader has these bytes left, where it says which
 abbrev pub AreLeft : Option (List ℕ) → List ℕ → Type 0
 AreLeft said bytes = IfSome said (λ xs. xs ≡ bytes)
+
+-- these bytes begin as a binary module does (WebAssembly 3.0, 5.5.16): so they are no text
+abbrev pub BeginsBinary : List ℕ → Type 0
+BeginsBinary bytes = (rest : List ℕ) × (bytes ≡ 0 ∷ rest)
+
+-- this is the verdict on some bytes and those that a reader has behind them, at most 2^30 together
+abbrev pub HasVerdict : (List ℕ → Type 0) → List ℕ → Option (List ℕ) → Result (Unit {0}) ErrorValue → Type 0
+HasVerdict accepts front said verdict = (rest : List ℕ) × AreLeft (prepend_known front said) (front ++ rest) × IsShort (front ++ rest)
+    × Tells verdict (accepts (front ++ rest))
 
 -- it has valid bytes, at most 2^30
 abbrev pub HasValid : (List ℕ → Type 0) → Option (List ℕ) → Type 0

@@ -1,9 +1,14 @@
 -- What is written of one input.
-use Rattle.std.specs.Prelude.{◌≡◌, ◌↔◌, ℕ, Bool, IsTrue, List, ◌++◌, Option}
+use Rattle.std.specs.Prelude.{◌≡◌, ◌↔◌, ℕ, Bool, true, false, IsTrue, List, [], ◌++◌, Option, None, Result, Ok, Err}
 use Rattle.std.specs.Io.KnownBytes.{Appends, Keeps}
+use Rattle.wasm_types.specs.decoding.ErrorValue.{ErrorValue}
+use Rattle.wasm_types.specs.reader.Reading.{IsNotMemory}
+use Rattle.wasm_types.specs.settings.declared.Limits.{Limits}
+use Rattle.wasm_check_lines.specs.Forms.{refused_text, valid_text}
 use Rattle.wasm_check_faults.specs.declared.error.CheckError.{CheckError}
 use Rattle.wasm_check_faults.specs.declared.error.CheckError.TheVariants.{Read, TooLong, OutOfMemory, Write}
 use Rattle.wasm_check_command.specs.Lines.{HasBytes, IsLine, BeginsLine, BeginsLineOf}
+use Rattle.wasm_check_command.specs.Manners.{Manner}
 use Rattle.wasm_check_command.specs.Modes.{Ruling, IsTooLong}
 
 -- A text could not be written: at most a front of it was.
@@ -21,6 +26,12 @@ pub record IsVerdict (ruling : Ruling) (name bytes : List ℕ) (valid : Bool) (l
 -- The line tells the verdict on what a reader has that says these bytes, and so does the test.
 abbrev pub IsVerdictOf : Ruling → List ℕ → Option (List ℕ) → Bool → List ℕ → Type 0
 IsVerdictOf ruling name said valid line = (bytes : List ℕ) × HasBytes ruling said bytes × IsVerdict ruling name bytes valid line
+
+-- What is written of an input with this verdict, of whose bytes the line tells nothing: out of memory is no verdict.
+abbrev pub IsTextOf : Manner → Limits → List ℕ → Result (Unit {0}) ErrorValue → Bool → List ℕ → Type 0
+IsTextOf manner limits name (Ok t) valid line = (valid ≡ true) × (line ≡ valid_text manner.form name)
+IsTextOf manner limits name (Err e) valid line = (valid ≡ false) × IsNotMemory e.kind
+    × (line ≡ refused_text manner.form manner.explains name limits e [] None)
 
 -- The line on these bytes was written, and the answer is their verdict.
 pub record WritesLine (ruling : Ruling) (name bytes : List ℕ) (valid : Bool) (old new : Option (List ℕ)) : Type 0 where

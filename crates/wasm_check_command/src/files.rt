@@ -1,8 +1,9 @@
 //! The files that the words name are opened, and judged one after another.
-ghost use Rattle.std.specs.Prelude.{◌≡◌, ◌⊎◌, ℕ, ◌<◌, ◌≤◌, IsTrue, false, List, [], length, min, map, take, slice_get, Some, IfOk, IfErr};
+ghost use Rattle.std.specs.Prelude.{◌≡◌, ◌⊎◌, ℕ, ◌<◌, ◌≤◌, false, List, [], length, min, map, take, slice_get, Some, IfOk, IfErr};
 ghost use Rattle.wasm_check_command.specs.Modes.{CanJudge, ruling_of};
 ghost use Rattle.wasm_check_command.specs.Verdict.{IsJudged};
 ghost use Rattle.wasm_check_command.specs.Opened.{is_stdin, names_stdin, kept_open, said_by};
+ghost use Rattle.wasm_check_command.specs.declared.files.Size.TheVariants.{TooLong as TheTooLong};
 ghost use Rattle.wasm_check_command.specs.Files.{texts, joined, CannotOpen, FailsOpening, JudgesFile, FailsFile, FailsAgain, EndsFiles, StopsFiles, is_enough};
 
 use crate::judging::{Chosen, Input, Judge, MAX_BYTES, Status, judge_reader};
@@ -217,17 +218,42 @@ fn open_all<'a, F: Files + Standard>(
     }
 }
 
-/// Whether the system says of a file that it is longer than an input may be. It says so of no standard input.
-fn is_too_long<R: OpenFile, I>(opened: &Opened<R, I>) -> bool
-    ensures { IsTrue result → is_stdin opened.now ≡ false }
+/// A regular file of more bytes is large.
+const LARGE: u64 = 0x2_0000;
+
+/// What the system says of the size of an input, before it is read.
+#[derive(Clone, Copy, Debug)]
+pub(crate) enum Size {
+    /// Nothing that would matter.
+    Unknown,
+    /// It is a regular file, and large.
+    Large,
+    /// It is longer than an input may be.
+    TooLong,
+}
+
+/// What the system says of the size of a file. It says nothing of standard input.
+fn size_of<R: OpenFile, I>(opened: &Opened<R, I>) -> Size
+    ensures { result ≡ TheTooLong → is_stdin opened.now ≡ false }
 {
     match opened {
         Opened::File(file) => match file.metadata() {
-            Ok(metadata) => metadata.len() > MAX_BYTES as u64,
-            Err(_) => false,
+            Ok(metadata) => size_by(metadata.is_file(), metadata.len()),
+            Err(_) => Size::Unknown,
         },
-        Opened::Stdin(_) => false,
+        Opened::Stdin(_) => Size::Unknown,
     }
+}
+
+/// The same by the number of bytes, and by whether it is a regular file.
+fn size_by(is_regular: bool, bytes: u64) -> Size {
+    if bytes > MAX_BYTES as u64 {
+        return Size::TooLong;
+    }
+    if is_regular && bytes > LARGE {
+        return Size::Large;
+    }
+    Size::Unknown
 }
 
 /// Judges a file, writes its line, and says whether it is a valid module. A file that is too long by what the system says is not
@@ -250,13 +276,17 @@ pub(crate) fn judge_opened<'a, J: Judge, R: Read + OpenFile + Drop, I: Read + Dr
         (said_by R.remaining I.remaining input.entry.reader) valid (W.contents out.old) (W.contents out.new)) }
 {
     let name = input.name;
-    if is_too_long(&input.reader) {
-        return Err(Fault::Stopped {
-            error: CheckError::TooLong(index),
-            name,
-            reason: Reason::Unknown,
-        });
-    }
+    let is_large = match size_of(&input.reader) {
+        Size::Unknown => false,
+        Size::Large => true,
+        Size::TooLong => {
+            return Err(Fault::Stopped {
+                error: CheckError::TooLong(index),
+                name,
+                reason: Reason::Unknown,
+            });
+        }
+    };
     match judge_reader(
         judge,
         alloc,
@@ -264,6 +294,7 @@ pub(crate) fn judge_opened<'a, J: Judge, R: Read + OpenFile + Drop, I: Read + Dr
         index,
         name,
         &mut input.reader,
+        is_large,
         buffer,
         out,
     ) {

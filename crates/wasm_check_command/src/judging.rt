@@ -1,12 +1,12 @@
 //! Inputs are judged one after another, and a line is written for each.
-ghost use Rattle.std.specs.Prelude.{◌≡◌, ◌≤◌, ℕ, List, length, IfOk, IfErr, OnOk, string_bytes};
-ghost use Rattle.std.specs.Io.KnownBytes.{Appends, ReadConsumes};
+ghost use Rattle.std.specs.Prelude.{◌≡◌, ◌≤◌, ◌++◌, ℕ, IsTrue, false, List, [], length, IfOk, IfErr, OnOk, string_bytes};
+ghost use Rattle.std.specs.Io.KnownBytes.{Appends, ReadConsumes, prepend_known};
 ghost use Rattle.wasm_types.specs.decoding.Denials.{Tells};
 ghost use Rattle.wasm_types.specs.settings.Settings.{Settings};
 ghost use Rattle.wasm_types.specs.settings.Limits.{IsWithinCeilings};
 ghost use Rattle.wasm_check_command.specs.Settings.{settings_by, settings_of};
 ghost use Rattle.wasm_check_command.specs.Lines.{IsExplained};
-ghost use Rattle.wasm_check_command.specs.Modes.{AreLeft, CanJudge, FailsJudging, HasPieces, HasValid, IsShort, ReadsWithin};
+ghost use Rattle.wasm_check_command.specs.Modes.{AreLeft, CanJudge, FailsJudging, HasBegun, HasPieces, HasValid, IsShort, ReadsWithin};
 ghost use Rattle.wasm_check_command.specs.Modes.{TellsValid, by_features, judged_by, manner_of, ruled, ruling_by, ruling_of};
 ghost use Rattle.wasm_check_command.specs.Faults.{FailsReading};
 ghost use Rattle.wasm_check_command.specs.Verdict.{WritesFront, IsVerdict, WritesLine, IsJudged, FailsWriting, FailsAt};
@@ -14,6 +14,7 @@ ghost use Rattle.wasm_check_faults.specs.declared.error.CheckError.TheVariants.{
 ghost use Rattle.wasm_check_command.specs.declared.judging.Mode.TheVariants.{Whole as whole};
 ghost use Rattle.wasm_check_command.specs.Reports.{sources_of, IsReported, Stops};
 
+use crate::large::judge_large;
 use crate::needs::minimal_list;
 use crate::pieces::judge_in_pieces;
 use crate::steady::{read_steadily, write_steadily};
@@ -28,7 +29,7 @@ use wasm_types::{Error, ErrorKind, Limits, WasmFeatures};
 pub const MAX_BYTES: usize = 0x4000_0000;
 
 /// How many bytes a read asks for.
-const CHUNK: usize = 0x1_0000;
+pub(crate) const CHUNK: usize = 0x1_0000;
 
 /// How inputs are read.
 #[derive(Clone, Copy, Debug, PartialEq, Eq)]
@@ -52,8 +53,14 @@ pub enum Unjudged {
 
 /// What says of bytes whether they are valid.
 pub trait Judge {
+    /// A module that is judged as its bytes come.
+    type Begun: Drop;
+
     /// Which bytes are valid, by the features and limits that hold.
     ghost accepts: { Settings → List ℕ → Type 0 };
+
+    /// A module is judged by these settings, and these bytes of it came.
+    ghost came: { Settings → List ℕ → Self.Begun → Type 0 };
 
     /// Judges these bytes by these features and limits. They are those of the input at this place.
     ///
@@ -91,6 +98,31 @@ pub trait Judge {
         requires some { 1 ≤ piece }
         ensures ok { OnOk result (HasValid (accepts (settings_by features.0 limits)) (R.remaining reader.old)) }
         ensures err { IfErr result (FailsJudging (accepts (settings_by features.0 limits)) (R.remaining reader.old)) };
+
+    /// A module of which no bytes came yet, which is judged by these features and limits. It is the input at this place.
+    fn begin(
+        &self,
+        alloc: Global,
+        features: WasmFeatures,
+        limits: Limits,
+        index: usize,
+    ) -> Self::Begun
+        requires within { IsWithinCeilings limits }
+        ensures { came (settings_by features.0 limits) [] result };
+
+    /// Takes the next bytes of a module.
+    fn take(&self, begun: &mut Self::Begun, bytes: &[u8])
+        requires { HasBegun came begun.old }
+        ensures { (z : Settings) (got : List ℕ) → came z got begun.old → came z (got ++ bytes.now) begun.new };
+
+    /// The verdict on the module that is all the bytes that came.
+    ///
+    /// # Errors
+    ///
+    /// As `judge` of these bytes.
+    fn conclude(&self, begun: Self::Begun) -> Result<(), Error>
+        requires { HasBegun came begun }
+        ensures { (z : Settings) (got : List ℕ) → came z got begun → IsShort got → Tells result (accepts z got) };
 
     /// What is known of the place of the fault in these bytes, which were refused by this error under these features and limits, if something
     /// is.
@@ -170,7 +202,7 @@ pub(crate) fn without_reason(error: CheckError) -> Failure
 }
 
 /// One read, of at most so many bytes and no more than the chunk has: how many came, at its front.
-fn read_some<R: Read>(reader: &mut R, chunk: &mut [u8], most: usize) -> io::Result<usize>
+pub(crate) fn read_some<R: Read>(reader: &mut R, chunk: &mut [u8], most: usize) -> io::Result<usize>
     requires chunk { 1 ≤ length chunk.old }
     requires most { 1 ≤ most }
     ensures gives { ReadConsumes (R.remaining reader.old) (R.remaining reader.new) result chunk.new }
@@ -192,6 +224,22 @@ pub(crate) fn read_whole<R: Read>(
     ensures most { ReadsWithin (R.remaining reader.old) (R.remaining reader.new) }
 {
     buffer.clear();
+    read_behind(index, reader, buffer)
+}
+
+/// Puts what a reader has left behind the bytes in the buffer. No more is read than shows that they are too many together.
+pub(crate) fn read_behind<R: Read>(
+    index: usize,
+    reader: &mut R,
+    buffer: &mut Vec<u8>,
+) -> Result<(), Failure>
+    requires { IsShort buffer.old.items }
+    ensures ok { OnOk result (AreLeft (prepend_known buffer.old.items (R.remaining reader.old)) buffer.new.items
+        × IsShort buffer.new.items) }
+    ensures err { IfErr result (λ u.
+        FailsReading index (prepend_known buffer.old.items (R.remaining reader.old)) u.error) }
+    ensures most { ReadsWithin (prepend_known buffer.old.items (R.remaining reader.old)) (R.remaining reader.new) }
+{
     let mut chunk = [0u8; CHUNK];
     for _turn in 0..=MAX_BYTES {
         let left = MAX_BYTES - buffer.len();
@@ -345,7 +393,7 @@ pub(crate) fn write_text<W: Write>(text: &[u8], out: &mut W) -> Result<(), Failu
 }
 
 /// Judges these bytes, writes their line, and says whether they spell a valid module.
-fn judge_bytes<J: Judge, W: Write>(
+pub(crate) fn judge_bytes<J: Judge, W: Write>(
     judge: &J,
     alloc: Global,
     chosen: Chosen,
@@ -369,7 +417,14 @@ fn judge_bytes<J: Judge, W: Write>(
     Ok(is_valid)
 }
 
-/// Reads an input whole and judges it, writes its line, and says whether it is a valid module.
+/// Whether a large input is judged as it comes: nothing else is asked than the verdict, for which its bytes would be needed once more.
+fn asks_verdict(chosen: Chosen) -> bool
+    ensures { IsTrue result → chosen.needs ≡ false }
+{
+    !chosen.needs && !chosen.explains
+}
+
+/// Judges an input, which is read whole unless it is large, writes its line, and says whether it is a valid module.
 fn judge_whole<J: Judge, R: Read, W: Write>(
     judge: &J,
     alloc: Global,
@@ -377,6 +432,7 @@ fn judge_whole<J: Judge, R: Read, W: Write>(
     index: usize,
     name: &str,
     reader: &mut R,
+    is_large: bool,
     buffer: &mut Vec<u8>,
     out: &mut W,
 ) -> Result<bool, Failure>
@@ -387,6 +443,9 @@ fn judge_whole<J: Judge, R: Read, W: Write>(
         (R.remaining reader.old) (W.contents out.old) (W.contents out.new) u.error) }
     ensures most { ReadsWithin (R.remaining reader.old) (R.remaining reader.new) }
 {
+    if is_large && asks_verdict(chosen) {
+        return judge_large(judge, alloc, chosen, index, name, reader, buffer, out);
+    }
     match read_whole(index, reader, buffer) {
         Ok(()) => (),
         Err(failure) => return Err(failure),
@@ -394,7 +453,8 @@ fn judge_whole<J: Judge, R: Read, W: Write>(
     judge_bytes(judge, alloc, chosen, index, name, buffer.as_slice(), out)
 }
 
-/// Judges an input by what was chosen, writes its line, and says whether it is a valid module.
+/// Judges an input by what was chosen, writes its line, and says whether it is a valid module. The line is the same whether the input is taken for a
+/// large one or not.
 pub(crate) fn judge_reader<J: Judge, R: Read, W: Write>(
     judge: &J,
     alloc: Global,
@@ -402,6 +462,7 @@ pub(crate) fn judge_reader<J: Judge, R: Read, W: Write>(
     index: usize,
     name: &str,
     reader: &mut R,
+    is_large: bool,
     buffer: &mut Vec<u8>,
     out: &mut W,
 ) -> Result<bool, Failure>
@@ -412,7 +473,9 @@ pub(crate) fn judge_reader<J: Judge, R: Read, W: Write>(
         (R.remaining reader.old) (W.contents out.old) (W.contents out.new) u.error) }
 {
     match chosen.mode {
-        Mode::Whole => judge_whole(judge, alloc, chosen, index, name, reader, buffer, out),
+        Mode::Whole => judge_whole(
+            judge, alloc, chosen, index, name, reader, is_large, buffer, out,
+        ),
         Mode::Pieces(piece) => {
             judge_in_pieces(judge, alloc, chosen, piece, index, name, reader, out)
         }
@@ -443,6 +506,7 @@ fn judge_input<J: Judge, R: Read + Drop, W: Write>(
         index,
         name,
         &mut input.reader,
+        false,
         buffer,
         out,
     ) {

@@ -12,6 +12,7 @@ mod command;
 mod files;
 mod going;
 mod judging;
+mod large;
 mod listing;
 mod names;
 mod needs;

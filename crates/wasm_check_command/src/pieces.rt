@@ -38,7 +38,7 @@ impl<R: Read> Read for Noted<'_, R> {
 }
 
 /// The text of an input that was refused, whose bytes are gone.
-fn unexplained(
+pub(crate) fn unexplained(
     alloc: Global,
     chosen: Chosen,
     name: &str,

@@ -6,6 +6,7 @@ ghost use Rattle.wasm_types.specs.settings.Limits.{IsWithinCeilings};
 ghost use Rattle.wasm_check_command.specs.Modes.{HasPieces, ruling_by};
 ghost use Rattle.wasm_check_command.specs.Reports.{sources_of, IsReported, Stops};
 ghost use Rattle.wasm_check_program.specs.Faults.{unjudged};
+ghost use Rattle.wasm_check_program.specs.Begun.{came_to_end};
 
 use std::alloc::{AllocError, Global};
 use std::io::{Read, Write};
@@ -14,14 +15,20 @@ use wasm_check_explanation::{explain, told};
 use wasm_check_faults::CheckError;
 use wasm_check_lines::Explanation;
 use wasm_module_validator::{Validator, ValidatorId};
-use wasm_module_validator_streaming::{ReadError, WatchedReader, validate_reader_limited};
+use wasm_module_validator_streaming::{
+    ModuleToEnd, ReadError, WatchedReader, validate_reader_limited,
+};
 use wasm_types::{Error, Limits, WasmFeatures};
 
 /// Judges bytes as a module, each time by a validator of its own, which has the input's place for its id.
 pub(crate) struct Validating;
 
 impl Judge for Validating {
+    type Begun = ModuleToEnd;
+
     ghost accepts = { AcceptsUnder };
+
+    ghost came = { came_to_end };
 
     fn judge(
         &self,
@@ -55,6 +62,28 @@ impl Judge for Validating {
         match validate_reader_limited(alloc, id, features, limits, &mut watched, piece, most) {
             Ok(_types) => Ok(()),
             Err(fault) => Err(unjudged(fault)),
+        }
+    }
+
+    fn begin(
+        &self,
+        alloc: Global,
+        features: WasmFeatures,
+        limits: Limits,
+        index: usize,
+    ) -> ModuleToEnd {
+        let id = ValidatorId::new(index);
+        ModuleToEnd::new(alloc, id, features, limits)
+    }
+
+    fn take(&self, begun: &mut ModuleToEnd, bytes: &[u8]) {
+        begun.take(bytes)
+    }
+
+    fn conclude(&self, begun: ModuleToEnd) -> Result<(), Error> {
+        match begun.end() {
+            Ok(_types) => Ok(()),
+            Err(error) => Err(error),
         }
     }
 

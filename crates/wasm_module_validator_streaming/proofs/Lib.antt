@@ -14,3 +14,6 @@ pub mod Waiting
 pub mod Handed
 -- A module whose pieces are handed over.
 pub mod HandedModule
+-- A module that is judged to its end.
+pub mod Lost
+pub mod ToEnd

@@ -20,5 +20,8 @@ pub mod Verdicts
 pub mod Handing
 -- A module whose pieces are handed over.
 pub mod HandedOver
+-- A module that is judged to its end.
+pub mod GoingOn
+pub mod ToEnd
 -- Laws, with the proofs.
 pub mod laws

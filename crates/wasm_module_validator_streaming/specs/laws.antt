@@ -8,4 +8,5 @@ pub mod WorkedReaders
 pub mod WorkedPassing
 pub mod Waiting
 pub mod Judging
+pub mod GoingOn
 pub mod Statements

@@ -31,6 +31,8 @@ pub(crate) struct Judging {
     pub(crate) passing: usize,
     /// The offset where these contents begin.
     pub(crate) contents: u64,
+    /// Whether what was refused is a body. The parser is after it then.
+    pub(crate) has_refused_body: bool,
     pub(crate) alloc: Global,
 }
 
@@ -62,6 +64,7 @@ impl Judging {
             entries: 0,
             passing: 0,
             contents: 0,
+            has_refused_body: false,
             alloc,
         }
     }
@@ -95,7 +98,10 @@ impl Judging {
             &anew,
         ) {
             Ok(()) => Taken::Item(consumed),
-            Err(error) => Taken::Refused(error),
+            Err(error) => {
+                self.has_refused_body = true;
+                Taken::Refused(error)
+            }
         }
     }
 
@@ -123,7 +129,10 @@ impl Judging {
                     &body,
                 ) {
                     Ok(()) => Taken::Item(consumed),
-                    Err(error) => Taken::Refused(error),
+                    Err(error) => {
+                        self.has_refused_body = true;
+                        Taken::Refused(error)
+                    }
                 }
             }
             Ok(ValidPayload::End(types)) => {

@@ -9,16 +9,18 @@
 //! let types = validate_reader(alloc, id, features, &mut reader, 0x1_0000, 0x4000_0000)?;
 //! ```
 //!
-//! A [`ModuleInPieces`] takes the bytes from its caller, piece after piece, and holds no more of them than its caller allows.
+//! A [`ModuleInPieces`] takes the bytes from its caller, piece after piece, and holds no more of them than its caller allows. A [`ModuleToEnd`] takes
+//! them to the end, and tells of several faults the one that is told of the bytes as a whole.
 //!
 //! A validator is told of each payload as its bytes come, and of each body the verdict is known before the next is read.
 //! `specs/laws/Running.antt` says where it stands by then (`Goes`), and the laws of [`laws`](pieces_are_judged) that it comes to the verdict
 //! on the whole, however the bytes are cut. `specs/Pieces.antt` says what a call answers of a reader's bytes, and
-//! `specs/HandedOver.antt` what it answers of pieces that are handed over.
+//! `specs/HandedOver.antt` and `specs/ToEnd.antt` what it answers of pieces that are handed over.
 #![tactic(auto)]
 
 mod customs;
 mod functions;
+mod going_on;
 mod handing;
 mod judging;
 mod laws;
@@ -26,6 +28,7 @@ mod modules;
 mod pieces;
 mod reading;
 mod taking;
+mod to_end;
 mod validate;
 mod watched;
 
@@ -33,5 +36,6 @@ pub use handing::PieceError;
 pub use laws::{pieces_are_judged, readers_are_worked, runs_begin};
 pub use pieces::ModuleInPieces;
 pub use reading::ReadError;
+pub use to_end::ModuleToEnd;
 pub use validate::{validate_reader, validate_reader_limited};
 pub use watched::WatchedReader;
