@@ -1,6 +1,6 @@
 -- The body of a function: which bytes spell one that is valid, what its validation promises, and why others are refused
 -- (WebAssembly 3.0, binary format, modules, code section; validation, modules, functions and locals).
-use Rattle.std.specs.Prelude.{◌≡◌, ◌↔◌, ◌⊎◌, ◌+◌, ◌≤◌, ℕ, List, [], ◌++◌, length, true, Some, is_some, slice_get, Result, IfErr, OnOk}
+use Rattle.std.specs.Prelude.{◌≡◌, ◌↔◌, ◌⊎◌, ◌≤◌, ℕ, List, [], ◌++◌, length, true, Some, is_some, slice_get, Result, IfErr, OnOk}
 use Rattle.wasm_types.specs.decoding.Decoder.{State as Bytes}
 use Rattle.wasm_types.specs.settings.Settings.{Settings}
 use Rattle.wasm_types.specs.settings.declared.Limits.{Limits}

@@ -1,5 +1,5 @@
 -- The beginning of a body that is judged in one loop: its locals as codes (WebAssembly 3.0, binary format, modules, code section).
-use Rattle.std.specs.Prelude.{◌≡◌, ◌<◌, ◌≤◌, ◌⊎◌, ℕ, List, [], ◌∷◌, ◌++◌, length, drop, get_or, replicate, slice_get, Some, true}
+use Rattle.std.specs.Prelude.{◌≡◌, ◌<◌, ◌≤◌, ◌⊎◌, ℕ, List, ◌++◌, length, drop, get_or, replicate, slice_get, Some, true}
 use Rattle.wasm_types.specs.decoding.Leb.{IsListed}
 use Rattle.wasm_types.specs.settings.Settings.{Settings}
 use Rattle.wasm_types.specs.trees.Trees.{TypeTree}

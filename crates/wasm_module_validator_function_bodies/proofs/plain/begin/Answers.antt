@@ -17,6 +17,6 @@ returns-clause-begun c =
           (c.in-Ok.ensures.items ∙ ap (λ (l : List ℕ). l ++ c.in-Some.params.now) c.clear.ensures.items ∙ (rw (types, flat) at c.in-Some.ensures.value))
           (same_all c.args.tables.now _ c.args.bytes.now _ c.take_locals.new.tables.locals.items c.in-Some-take_locals.start (record { known = refl; features = refl; references = refl; vectors = refl })
           c.in-Some-take_locals.ensures.taken);
-      certain = rw (sym (rw (types, flat) at c.in-Some.ensures.value)) c.certain_of.ensures;
+      certain = rw (sym (rw (types, flat) at c.in-Some.ensures.value)) (rw c.as_slice-3.ensures.value at c.certain_of-tables.ensures);
       within = rw c.as_slice-2.ensures.value at c.if-as_slice-limits.false;
     }
