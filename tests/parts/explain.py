@@ -76,7 +76,7 @@ EXPLAINED = [
         "--limits locals=N sets this limit", "in the code section, function 0", "of type (func)", "its locals are misspelt or too many",
         "rules: WebAssembly 3.0, appendix, implementation limitations"],
         {**PLAIN, "body": "locals unread"}),
-    ("mixed.wasm", ["--limits=locals=1"], "0x0: too many locals: locals exceed maximum", [
+    ("mixed.wasm", ["--limits=locals=1"], "0x29: too many locals: locals exceed maximum", [
         "--limits locals=N sets this limit", "in the code section, function 2 `mix`", "of type (param i32 i64) (result f32)",
         "its parameters are more than it may have locals", "rules: WebAssembly 3.0, appendix, implementation limitations"],
         {"section": "code", "function": 2, "name": "mix", "params": ["i32", "i64"], "results": ["f32"], "body": "params refused"}),

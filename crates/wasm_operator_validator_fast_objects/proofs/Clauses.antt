@@ -274,6 +274,6 @@ module _ (t : Tables) (text : List ℕ) (i e : ℕ) (o : Open) (outer : List Ope
         (front, drop e text, spelled, rest, whole),
         rw enters.params (opened t text i e o outer v w ids q p (params_in t.known.flat.items p.sig) enters.under (ap Opens (sym enters.kind)) (rw enters.kind refl) c
             (rw enters.sig (typed ids z c fits))
-            (of_feature c.bits q proposals.Exceptions feature.Exceptions fits.allows refl (fits.references on).exceptions refl, h.fit ids z c fits) os
+            (of_feature c.bits q proposals.Exceptions feature.Exceptions fits.allows refl (fits.references on).exceptions refl, h.fit ids z c fits) enters.set os
             (rw (enters.frames, enters.begun) at closes)),
       )

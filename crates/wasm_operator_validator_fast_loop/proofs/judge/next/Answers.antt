@@ -58,10 +58,10 @@ pub local_get-requires : goal.local_get-requires
 local_get-requires c = record { begins = at_class c.args.bytes.now c.args.at 0x20 class.LocalGet c.class_of.result c.requires.more c.class_of.ensures c.in-LocalGet.is (λ code e. e); local = c.in-Some.ensures }
 
 pub local_set-requires : goal.local_set-requires
-local_set-requires c = record { begins = at_class c.args.bytes.now c.args.at 0x21 class.LocalSet c.class_of.result c.requires.more c.class_of.ensures c.in-LocalSet.is (λ code e. e); local = c.in-Some.ensures }
+local_set-requires c = record { begins = at_class c.args.bytes.now c.args.at 0x21 class.LocalSet c.class_of.result c.requires.more c.class_of.ensures c.in-LocalSet.is (λ code e. e); local = c.in-Some-local_at.ensures }
 
 pub local_tee-requires : goal.local_tee-requires
-local_tee-requires c = record { begins = at_class c.args.bytes.now c.args.at 0x22 class.LocalTee c.class_of.result c.requires.more c.class_of.ensures c.in-LocalTee.is (λ code e. e); local = c.in-Some.ensures }
+local_tee-requires c = record { begins = at_class c.args.bytes.now c.args.at 0x22 class.LocalTee c.class_of.result c.requires.more c.class_of.ensures c.in-LocalTee.is (λ code e. e); local = c.in-Some-local_at-2.ensures }
 
 pub global_get-requires : goal.global_get-requires
 global_get-requires c = at_class c.args.bytes.now c.args.at 0x23 class.GlobalGet c.class_of.result c.requires.more c.class_of.ensures c.in-GlobalGet.is (λ code e. e)
