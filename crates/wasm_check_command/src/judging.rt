@@ -453,8 +453,8 @@ fn judge_whole<J: Judge, R: Read, W: Write>(
     judge_bytes(judge, alloc, chosen, index, name, buffer.as_slice(), out)
 }
 
-/// Judges an input by what was chosen, writes its line, and says whether it is a valid module. The line is the same whether the input is taken for a
-/// large one or not.
+/// Judges an input by what was chosen, writes its line, and says whether it is a valid module. The line is the same
+/// whether the input is taken for a large one or not.
 pub(crate) fn judge_reader<J: Judge, R: Read, W: Write>(
     judge: &J,
     alloc: Global,

@@ -1,5 +1,5 @@
-//! A large input is judged as it comes, to its end, and of what came nothing is kept but the part of the module that it is in. Its line is the one
-//! that it has if it is read whole.
+//! A large input is judged as it comes, to its end. Of what came nothing is kept but the part of the module that it is
+//! in. Its line is the one that it has if it is read whole.
 ghost use Rattle.std.specs.Prelude.{◌≡◌, IsTrue, false, IfOk, IfErr, OnOk, string_bytes};
 ghost use Rattle.std.specs.Io.KnownBytes.{Consumes, prepend_known};
 ghost use Rattle.wasm_types.specs.settings.Limits.{IsWithinCeilings};
@@ -76,8 +76,8 @@ fn begin_with<J: Judge>(
     begun
 }
 
-/// The verdict on these bytes and what a reader has left behind them. All of that is read, whatever the verdict, but no more than shows that it is
-/// too much.
+/// The verdict on these bytes and what a reader has left behind them. All of that is read, whatever the verdict, but no
+/// more than shows that it is too much.
 fn judge_behind<J: Judge, R: Read>(
     judge: &J,
     alloc: Global,
@@ -137,8 +137,8 @@ fn verdict_text(
     }
 }
 
-/// Judges an input that begins with these bytes, and of which a reader has the others left, as it comes; writes its line, and says whether it is a
-/// valid module.
+/// Judges an input that begins with these bytes, and of which a reader has the others left, as it comes; writes its
+/// line, and says whether it is a valid module.
 fn judge_binary<J: Judge, R: Read, W: Write>(
     judge: &J,
     alloc: Global,
@@ -155,8 +155,8 @@ fn judge_binary<J: Judge, R: Read, W: Write>(
     requires binary { BeginsBinary front.now }
     ensures ok { IfOk result (λ valid. IsJudged (ruled (manner_of chosen) whole J.accepts (settings_of chosen)) name.now
         (prepend_known front.now (R.remaining reader.old)) valid (W.contents out.old) (W.contents out.new)) }
-    ensures err { IfErr result (λ u. FailsAt (ruled (manner_of chosen) whole J.accepts (settings_of chosen)) index name.now
-        (prepend_known front.now (R.remaining reader.old)) (W.contents out.old) (W.contents out.new) u.error) }
+    ensures err { IfErr result (λ u. FailsAt (ruled (manner_of chosen) whole J.accepts (settings_of chosen)) index
+        name.now (prepend_known front.now (R.remaining reader.old)) (W.contents out.old) (W.contents out.new) u.error) }
     ensures most { ReadsWithin (prepend_known front.now (R.remaining reader.old)) (R.remaining reader.new) }
 {
     let verdict = match judge_behind(judge, alloc, chosen, index, front, reader) {
@@ -172,8 +172,8 @@ fn judge_binary<J: Judge, R: Read, W: Write>(
     }
 }
 
-/// Judges an input that begins with the bytes in the buffer, and of which a reader has the others left, when all of it is read; writes its line, and
-/// says whether it is a valid module.
+/// Judges an input that begins with the bytes in the buffer, and of which a reader has the others left, when all of it is
+/// read; writes its line, and says whether it is a valid module.
 fn judge_others<J: Judge, R: Read, W: Write>(
     judge: &J,
     alloc: Global,
@@ -188,8 +188,8 @@ fn judge_others<J: Judge, R: Read, W: Write>(
     requires short { IsShort buffer.old.items }
     ensures ok { IfOk result (λ valid. IsJudged (ruled (manner_of chosen) whole J.accepts (settings_of chosen)) name.now
         (prepend_known buffer.old.items (R.remaining reader.old)) valid (W.contents out.old) (W.contents out.new)) }
-    ensures err { IfErr result (λ u. FailsAt (ruled (manner_of chosen) whole J.accepts (settings_of chosen)) index name.now
-        (prepend_known buffer.old.items (R.remaining reader.old)) (W.contents out.old) (W.contents out.new) u.error) }
+    ensures err { IfErr result (λ u. FailsAt (ruled (manner_of chosen) whole J.accepts (settings_of chosen)) index
+        name.now (prepend_known buffer.old.items (R.remaining reader.old)) (W.contents out.old) (W.contents out.new) u.error) }
     ensures most { ReadsWithin (prepend_known buffer.old.items (R.remaining reader.old)) (R.remaining reader.new) }
 {
     match read_behind(index, reader, buffer) {
@@ -199,8 +199,8 @@ fn judge_others<J: Judge, R: Read, W: Write>(
     judge_bytes(judge, alloc, chosen, index, name, buffer.as_slice(), out)
 }
 
-/// Judges a large input as it comes, writes its line, and says whether it is a valid module. One that does not begin as a binary module does is read
-/// whole: its line may say that it is a text.
+/// Judges a large input as it comes, writes its line, and says whether it is a valid module. One that does not begin as a
+/// binary module does is read whole: its line may say that it is a text.
 pub(crate) fn judge_large<J: Judge, R: Read, W: Write>(
     judge: &J,
     alloc: Global,
@@ -215,8 +215,8 @@ pub(crate) fn judge_large<J: Judge, R: Read, W: Write>(
     requires alone { chosen.needs ≡ false }
     ensures ok { IfOk result (λ valid. IsJudged (ruled (manner_of chosen) whole J.accepts (settings_of chosen)) name.now
         (R.remaining reader.old) valid (W.contents out.old) (W.contents out.new)) }
-    ensures err { IfErr result (λ u. FailsAt (ruled (manner_of chosen) whole J.accepts (settings_of chosen)) index name.now
-        (R.remaining reader.old) (W.contents out.old) (W.contents out.new) u.error) }
+    ensures err { IfErr result (λ u. FailsAt (ruled (manner_of chosen) whole J.accepts (settings_of chosen)) index
+        name.now (R.remaining reader.old) (W.contents out.old) (W.contents out.new) u.error) }
     ensures most { ReadsWithin (R.remaining reader.old) (R.remaining reader.new) }
 {
     match read_front(index, reader, buffer) {

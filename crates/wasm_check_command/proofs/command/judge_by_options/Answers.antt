@@ -1,6 +1,11 @@
+use Rattle.std.proofs.Common.{inl}
+use Rattle.std.proofs.KnownBytes.{Keeps-refl}
 use Rattle.wasm_check_command.specs.Files.{texts, asked_of}
 use Rattle.wasm_check_command.proofs.FileLemmas.{judged_by, stopped_by}
 use Rattle.wasm_check_command.proofs.command.judge_by_options.Goals as goal
+
+pub returns-in-Err-clause-err : goal.returns-in-Err-clause-err
+returns-in-Err-clause-err g c = inl (c.in-Err.ensures.err, Keeps-refl (g.W.Write.contents c.args.out.now))
 
 pub returns-clause-ok : goal.returns-clause-ok
 returns-clause-ok g c =

@@ -46,10 +46,12 @@ returns-then-count-eq0-clause-most g c =
 
 pub returns-then-count-left-clause-err : goal.returns-then-count-left-clause-err
 returns-then-count-left-clause-err g c =
-    subst (FailsReading c.args.index (prepend_known c.args.front.now (g.R.Read.remaining c.args.reader.now))) (sym c.without_reason.ensures)
-    (refl, long_both g.J.Judge.came (settings_of c.args.chosen) c.args.front.now (g.R.Read.remaining c.args.reader.now) (g.R.Read.remaining c.loop-turn.reader) (g.R.Read.remaining c.read_some.new.reader)
-    c.loop-turn.came c.loop-turn.begun c.loop-turn.invariant.behind c.read_some.new.chunk c.in-Ok.count c.in-Ok.ensures.within.1 c.in-Ok.ensures.gives.0
-    (omega (arith, c.loop-turn.invariant.within, c.if-count-left.true)))
+    subst (FailsReading c.args.index (prepend_known c.args.front.now (g.R.Read.remaining c.args.reader.now))) (sym c.without_reason.ensures) (
+      refl,
+      long_both g.J.Judge.came (settings_of c.args.chosen) c.args.front.now (g.R.Read.remaining c.args.reader.now) (g.R.Read.remaining c.loop-turn.reader) (g.R.Read.remaining c.read_some.new.reader)
+          c.loop-turn.came c.loop-turn.begun c.loop-turn.invariant.behind c.read_some.new.chunk c.in-Ok.count c.in-Ok.ensures.within.1 c.in-Ok.ensures.gives.0
+          (omega (arith, c.loop-turn.invariant.within, c.if-count-left.true)),
+    )
 
 pub returns-then-count-left-clause-most : goal.returns-then-count-left-clause-most
 returns-then-count-left-clause-most g c =
