@@ -3,6 +3,8 @@
 ghost use Rattle.std.specs.Prelude.{◌≡◌, IfOk, is_some, option_map, true};
 ghost use Rattle.wasm_types.specs.decoding.declared.error.ErrorKind.TheVariants as kinds;
 ghost use Rattle.wasm_sections.specs.declared.payload.Payload.TheVariants as payloads;
+ghost use Rattle.wasm_types.specs.settings.Limits.{IsWithinCeilings};
+ghost use Rattle.wasm_module_validator_drivers.specs.resources.Named.{IsReadOver};
 ghost use Rattle.wasm_operator_validator_state.specs.Refusals.{refused_by};
 ghost use Rattle.wasm_module_validator_drivers.specs.Sharing.{IsWhole, renewed_behind};
 ghost use Rattle.wasm_module_validator.specs.declared.validator.State.TheVariants as states;
@@ -13,7 +15,9 @@ ghost use Rattle.wasm_module_validator.specs.Methods.{failure, refusal, can_rese
 use crate::types::{Types, look_up};
 use crate::validator::{State, Validator};
 use std::ops::Range;
-use wasm_module_validator_drivers::{FuncToValidate, ValidatorResources, check_header};
+use wasm_module_validator_drivers::{
+    FuncToValidate, ModuleState, TypeList, ValidatorResources, check_header,
+};
 use wasm_module_validator_index_spaces::view::{TypesRef, ValidatorId};
 use wasm_sections::{
     DataSectionReader, ElementSectionReader, ExportSectionReader, FunctionBody,
@@ -109,6 +113,16 @@ impl Validator {
             return None;
         }
         Some(look_up(self.id, self.reached.state(), self.reached.types()))
+    }
+
+    /// What is kept of the module as far as it was read, and the list that its types stand in: for who takes a section item by item.
+    pub fn so_far(&self) -> (&ModuleState, &TypeList)
+        ensures state { result.0.now ≡ self.now.reached.progress.kept.items }
+        ensures types { result.1.now.groups ≡ self.now.reached.progress.kept.groups }
+        ensures over { IsReadOver result.1.now.groups result.0.now.spaces }
+        ensures within { IsWithinCeilings result.0.now.spaces.settings.limits }
+    {
+        (self.reached.state(), self.reached.types())
     }
 
     /// Takes the header of a module (WebAssembly 3.0, binary format, modules).

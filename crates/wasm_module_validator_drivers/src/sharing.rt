@@ -3,9 +3,11 @@
 ghost use Rattle.std.specs.Prelude.{◌≡◌, ◌<◌, IfErr, IfOk, OnOk, Some, None, is_some, length, true};
 ghost use Rattle.wasm_types.specs.decoding.Denials.{Tells};
 ghost use Rattle.wasm_types.specs.decoding.declared.error.ErrorKind.TheVariants.{OutOfMemory};
+ghost use Rattle.wasm_types.specs.settings.Limits.{IsWithinCeilings};
 ghost use Rattle.wasm_types.specs.settings.Settings.{Settings};
 ghost use Rattle.wasm_sections.specs.declared.payload.Payload.TheVariants as payloads;
 ghost use Rattle.wasm_module_validator_payloads.specs.declarations.Total.{TellsWithinTotal};
+ghost use Rattle.wasm_module_validator_resources.specs.Named.{IsReadOver};
 ghost use Rattle.wasm_module_validator_payloads.specs.state.Items.{no_items};
 ghost use Rattle.wasm_module_validator_section_order.specs.rules_in_order.Sections.{code_place};
 ghost use Rattle.wasm_module_validator_section_order.specs.rules_in_order.Steps.{SoFar};
@@ -99,9 +101,11 @@ impl SharedProgress {
         }
     }
 
-    /// The list that its types stand in.
+    /// The list that its types stand in. Each is valid, the module's are in it, and no limit is above its ceiling.
     pub fn types(&self) -> &TypeList
-        ensures { result.now.groups ≡ self.now.progress.kept.groups }
+        ensures value { result.now.groups ≡ self.now.progress.kept.groups }
+        ensures over { IsReadOver result.now.groups self.now.progress.kept.items.spaces }
+        ensures within { IsWithinCeilings self.now.progress.kept.items.spaces.settings.limits }
     {
         match &self.shared {
             Some(shared) => shared.types(),

@@ -14,6 +14,14 @@ pub mod Judges
 pub mod Awaiting
 -- Contents of custom sections that go by.
 pub mod Passing
+-- A data section whose bytes go by.
+pub mod DataSections
+-- The front of a segment of one.
+pub mod SegmentFronts
+-- Its segments, judged one by one.
+pub mod Segments
+-- What a part of its bytes leads to.
+pub mod Steps
 -- What is said of the bytes of a module.
 pub mod Verdicts
 -- Bytes that are handed over.

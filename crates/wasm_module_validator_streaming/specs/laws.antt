@@ -9,3 +9,6 @@ pub mod WorkedPassing
 pub mod Waiting
 pub mod Judging
 pub mod Statements
+pub mod DataSections
+pub mod SegmentFronts
+pub mod Segments

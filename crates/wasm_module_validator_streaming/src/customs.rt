@@ -18,6 +18,17 @@ pub(crate) enum Front {
         /// The offset where the contents begin.
         contents: u64,
     },
+    /// A data section with its id, its size and its count, not all of whose contents are there.
+    Segments {
+        /// How many segments it counts.
+        count: u32,
+        /// How many bytes its id, its size and its count take.
+        front: usize,
+        /// How many bytes of the contents follow the count.
+        left: usize,
+        /// The offset where the contents begin.
+        contents: u64,
+    },
     /// Perhaps a part of such a front: with fewer than so many bytes more it is none.
     Cut(usize),
     /// Anything else, which is no such front whatever follows.
@@ -47,7 +58,7 @@ fn front_at(bytes: &[u8], offset: u64, features: WasmFeatures, limits: Limits) -
     let Some(id) = reader.short_u8() else {
         return Front::Cut(2);
     };
-    if id != 0 {
+    if id != 0 && id != 11 {
         return Front::Other;
     }
     let Some(size) = reader.short_u32() else {
@@ -58,6 +69,17 @@ fn front_at(bytes: &[u8], offset: u64, features: WasmFeatures, limits: Limits) -
         return Front::Other;
     }
     let contents = reader.original_position();
+    if id == 11 {
+        return match reader.short_u32() {
+            Some(count) => Front::Segments {
+                count,
+                front: reader.current_position(),
+                left: size as usize - (there - reader.bytes_remaining()),
+                contents,
+            },
+            None => Front::Cut(1),
+        };
+    }
     let Ok(text) = reader.read_bytes(there) else {
         return Front::Other;
     };

@@ -9,6 +9,7 @@ ghost use Rattle.wasm_module_validator_streaming.specs.Judges.{HasItsJudge};
 ghost use Rattle.wasm_module_validator_streaming.specs.Payloads.{StepsPayload};
 
 use crate::functions::judge_next;
+use crate::segments::Segments;
 use crate::taking::Taken;
 use std::alloc::Global;
 use wasm_module_validator::{Types, ValidPayload, Validator};
@@ -31,6 +32,8 @@ pub(crate) struct Judging {
     pub(crate) passing: usize,
     /// The offset where these contents begin.
     pub(crate) contents: u64,
+    /// The segments of the data section, if its contents are those that go by.
+    pub(crate) segments: Option<Segments>,
     pub(crate) alloc: Global,
 }
 
@@ -62,6 +65,7 @@ impl Judging {
             entries: 0,
             passing: 0,
             contents: 0,
+            segments: None,
             alloc,
         }
     }

@@ -25,6 +25,7 @@ mod laws;
 mod modules;
 mod pieces;
 mod reading;
+mod segments;
 mod taking;
 mod validate;
 mod watched;

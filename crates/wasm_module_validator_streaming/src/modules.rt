@@ -10,6 +10,7 @@ ghost use Rattle.wasm_module_validator_streaming.specs.laws.Running.{memory_deni
 
 use crate::customs::{Front, read_front};
 use crate::judging::Judging;
+use crate::segments::{Part, Segments, Step, take_no_segments};
 use crate::taking::{Taken, TakesBytes};
 use wasm_module_validator::Types;
 use wasm_sections::Chunk;
@@ -68,8 +69,92 @@ impl Judging {
                 self.contents = contents;
                 Taken::Item(there)
             }
+            Front::Segments {
+                count,
+                front,
+                left,
+                contents,
+            } => self.begin_segments(count, front, left, contents, needed),
             Front::Cut(more) => Taken::Waits(needed.min(more)),
             Front::Other => Taken::Waits(needed),
+        }
+    }
+
+    /// Takes the front of a data section.
+    #[inline(never)]
+    fn begin_segments(
+        &mut self,
+        count: u32,
+        front: usize,
+        left: usize,
+        contents: u64,
+        needed: usize,
+    ) -> Taken<Types> {
+        let all = front as u64 + left as u64;
+        let Some(_end) = self.parser.offset().checked_add(all) else {
+            return Taken::Waits(needed);
+        };
+        self.parser.pass_section(11, count, all);
+        let (state, _types) = self.validator.so_far();
+        let fault = match state.check_data_segment_count(count, contents) {
+            Ok(()) => None,
+            Err(error) => Some(error),
+        };
+        self.in_loop = None;
+        self.passing = left;
+        self.contents = contents;
+        self.segments = Some(Segments {
+            left: count,
+            content: 0,
+            fault,
+        });
+        Taken::Item(front)
+    }
+
+    /// Takes bytes of a data section, as far as they are there.
+    #[inline(never)]
+    fn take_segments(&mut self, bytes: &[u8], eof: bool) -> Taken<Types> {
+        let there = bytes.len().min(self.passing);
+        let Some(segments) = &mut self.segments else {
+            unreachable!()
+        };
+        let part = Part {
+            bytes: &bytes[..there],
+            left: self.passing,
+            offset: self.parser.offset() - self.passing as u64,
+        };
+        let step = if there == 0 {
+            Step::Wait(1)
+        } else {
+            segments.step(self.alloc, &self.validator, &part)
+        };
+        match step {
+            Step::Wait(_more) if eof => {
+                Taken::Refused(Error::eof(self.contents, self.passing - there))
+            }
+            Step::Wait(more) => Taken::Waits(more),
+            Step::Pass(count) => {
+                self.passing -= count;
+                if self.passing > 0 {
+                    return Taken::Item(count);
+                }
+                self.end_segments(count)
+            }
+        }
+    }
+
+    /// Takes the last bytes of a data section, so many.
+    fn end_segments(&mut self, count: usize) -> Taken<Types> {
+        let end = self.parser.offset();
+        let Some(segments) = std::mem::replace(&mut self.segments, None) else {
+            unreachable!()
+        };
+        if let Some(error) = segments.end(self.alloc, end, &self.validator) {
+            return Taken::Refused(error);
+        }
+        match take_no_segments(self.alloc, &mut self.validator, self.contents) {
+            Ok(()) => Taken::Item(count),
+            Err(error) => Taken::Refused(error),
         }
     }
 
@@ -104,6 +189,9 @@ impl TakesBytes for Judging {
 
     fn take(&mut self, bytes: &[u8], eof: bool) -> Taken<Types> {
         if self.passing > 0 {
+            if let Some(_segments) = &self.segments {
+                return self.take_segments(bytes, eof);
+            }
             return self.take_contents(bytes, eof);
         }
         self.take_next(bytes, eof)
