@@ -154,7 +154,7 @@ impl Judging {
         }
         match take_no_segments(self.alloc, &mut self.validator, self.contents) {
             Ok(()) => Taken::Item(count),
-            Err(error) => Taken::Refused(error),
+            Err(refusal) => Taken::Refused(refusal),
         }
     }
 

@@ -4,6 +4,7 @@ ghost use Rattle.std.specs.Prelude.{◌≡◌, ◌≤◌, ◌<◌, ◌+◌, ◌^
 ghost use Rattle.wasm_types.specs.decoding.Denials.{Tells};
 ghost use Rattle.wasm_types.specs.decoding.Decoder.{Done, Reaches};
 ghost use Rattle.wasm_types.specs.reader.Reading.{Fails};
+ghost use Rattle.wasm_types.specs.settings.declared.Limits.{Limits as TheLimits};
 ghost use Rattle.wasm_operators_encoding.specs.ConstantDecoder.{constant};
 ghost use Rattle.wasm_sections_items.specs.limited.Walking.{Walk};
 ghost use Rattle.wasm_sections_items.specs.segments.Decode.{data_of};
@@ -146,9 +147,9 @@ fn check_kind(alloc: Global, validator: &Validator, kind: DataKind<'_>, offset: 
 fn pass_short(validator: &Validator, bytes: &[u8], most: u32) -> (u32, usize)
     ensures left { result.0 ≤ most }
     ensures inside { result.1 ≤ length bytes.now }
-    ensures stands { (w : Walk) (more : List ℕ) (z : _) → w.reader.rest ≡ bytes.now ++ more → w.left ≡ most
+    ensures stands { (w : Walk) (more : List ℕ) (l : TheLimits) → w.reader.rest ≡ bytes.now ++ more → w.left ≡ most
         → StandsOn data_read data_read segment_decoder segment_grammar (AddsIn section.data_segments)
-        (IsRead section.data_segments) z w (behind w result.1 result.0) validator.now.reached.progress.kept
+        (IsRead section.data_segments) l w (behind w result.1 result.0) validator.now.reached.progress.kept
         validator.now.reached.progress.kept }
 {
     let (state, types) = validator.so_far();

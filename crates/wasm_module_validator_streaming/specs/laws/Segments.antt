@@ -116,9 +116,15 @@ module _ {K : Type 0} (reads : K → Reading → Type 0) (z : Settings) (k : K) 
     pub unread_stops : (e : ErrorValue) → Fails e (segment_decoder z here) → Stops reads z k n b e
     unread_stops e f m r =
         stops_at_bytes data_read data_read (λ x y is. is) segment_decoder segment_grammar exact (AddsIn section.data_segments) z reads n b k
-        _ w (record { left = 0; reader = w.reader; over = true }) k e h.stands
-        (h.stands.going, refl, inr (let some = h.left in omega (arith, some), subst (λ (y : Settings). Fails e (segment_decoder y w.reader)) (sym settings_here)
-        (subst (λ (s : State). Fails e (segment_decoder z s)) (sym at_here) f))) m r
+        _ w (record { left = 0; reader = w.reader; over = true }) k e h.stands (
+          h.stands.going,
+          refl,
+          inr (
+            let some = h.left in omega (arith, some),
+            subst (λ (y : Settings). Fails e (segment_decoder y w.reader)) (sym settings_here)
+                (subst (λ (s : State). Fails e (segment_decoder z s)) (sym at_here) f),
+          ),
+        ) m r
 
     module _ (mode : DataMode (List ℕ)) (c : ℕ) (t : State) (front : data_front (constant z) here ≡ Done (front_of mode c) t) where
       -- its bytes are more than the section has
