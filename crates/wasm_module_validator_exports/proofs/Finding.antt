@@ -1,8 +1,9 @@
 -- Pairs of names by the slots and the map that they are found in.
-use Rattle.std.proofs.Common.{◌≡◌, ◌∙◌, ◌⊎◌, ◌&&◌, ◌==◌, ◌<◌, arith, cond, get_or, ℕ, zero, suc, Bool, true, false, List, [], ◌∷◌, ◌++◌, length, slice_get}
-use Rattle.std.proofs.Common.{Option, Some, None, option_map, refl, sym, ap, subst, inl, inr, ⊎_elim, String, string_bytes, if◌then◌else◌}
+use Rattle.std.proofs.Common.{◌≡◌, ◌∙◌, ◌⊎◌, ◌&&◌, ◌==◌, ◌<◌, arith, cond, get_or, ℕ, zero, suc, Bool, true, false, List, [], ◌∷◌, ◌++◌, map, length, slice_get}
+use Rattle.std.proofs.Common.{Option, Some, None, option_map, refl, sym, ap, subst, inl, inr, ⊎_elim, if◌then◌else◌}
 use Rattle.std.proofs.lemmas.Bool.{cases_Bool, cond-true, cond-false, eqb-true}
 use Rattle.std.specs.declared.alloc.Global.{Global}
+use Rattle.std.specs.Prelude.{Vec}
 use Rattle.std.specs.Option.{unwrap_or}
 use Rattle.std.specs.Cmp.{IsTotalOrder, IsEquivalence, eq_by_cmp_equiv, then_total, on_total, both_tied}
 use Rattle.std.specs.Cmp.Lexicographic.{slice_cmp, nat_list_cmp_total, texts_ties, bytes_decides}
@@ -15,17 +16,14 @@ use Rattle.wasm_module_validator_exports.specs.declared.names.pairs.Met.{Met}
 use Rattle.wasm_module_validator_exports.specs.declared.names.pairs.Met.TheVariants as met
 use Rattle.wasm_module_validator_exports.specs.declared.names.pairs.Sought.{Sought}
 use Rattle.wasm_module_validator_exports.specs.declared.names.pairs.Sought.TheVariants as sought
-use Rattle.wasm_module_validator_exports.specs.names.Exports.{IsPut, beside}
+use Rattle.wasm_module_validator_exports.specs.names.Exports.{IsPut}
 use Rattle.wasm_module_validator_exports.specs.declared.names.imports.KeptNames.{KeptNames}
-use Rattle.wasm_module_validator_exports.specs.names.Imports.{Pair, all_named, module_at, pairs_of, is_pair, index_of, slot_for, in_first, in_other, is_there, stands_at, IsSlotOf, IsFree, HasFree, StandsNowhere, HasMet, HasMetAt, compare_names, find_names, HasSought, found, Finds, IsBehind, Holds, HasSettled}
+use Rattle.wasm_module_validator_exports.specs.names.Imports.{Pair, Others, AreMarked, AreOthers, Finds, HasMet, HasMetAt, HasSettled, HasSought, Holds, IsFirstFree, IsWithin, TellsApart, all_named, compare_names, find_names, found, index_of, is_pair, looked_up, mark_of, number_of, pairs_of, slots_of, told, told_by, told_or}
 use Rattle.wasm_module_validator_exports.specs.names.Kept.{name_at}
 use Rattle.wasm_module_validator_exports.proofs.Keeping.{pair_at, read}
 
 abbrev Key : Type 0
-Key = String Global × String Global
-
-abbrev Others : Type 0
-Others = BTreeMap Key ℕ
+Key = Vec ℕ Global × Vec ℕ Global
 
 -- ---- the test of a pair
 
@@ -87,290 +85,345 @@ index_same a b m f ps other =
     index_push a b (m, f) ps ∙ ap (first_found (index_of a b ps)) (cond-false (is_pair a b (m, f)) (Some (length ps)) None other)
     ∙ none_first (index_of a b ps)
 
--- what stands at an index, with a pair more behind the others: what stood there, or it is that pair and nothing stood there
-there_still : (a b : List ℕ) (p : Pair) (ps : List Pair) (i : ℕ) → (is_there a b (slice_get (ps ++ p ∷ []) i) ≡ is_there a b (slice_get ps i))
-    ⊎ ((i ≡ length ps) × (is_there a b (slice_get (ps ++ p ∷ []) i) ≡ is_pair a b p) × (is_there a b (slice_get ps i) ≡ false))
-there_still a b p [] zero = inr (refl, refl, refl)
-there_still a b p [] (suc i) = inl refl
-there_still a b p (q ∷ ps) zero = inl refl
-there_still a b p (q ∷ ps) (suc i) = ⊎_elim (λ e. inl e) (λ e. inr (ap suc e.0, e.1, e.2)) (there_still a b p ps i)
+-- a pair that is not among more is not among fewer
+less : (a b : List ℕ) (ps : List Pair) (p : Pair) → index_of a b (ps ++ p ∷ []) ≡ None → index_of a b ps ≡ None
+less a b ps p none = go (index_of a b ps) (sym (index_push a b p ps) ∙ none)
+  where
+    go : (o : Option ℕ) → first_found o (cond (is_pair a b p) (Some (length ps)) None) ≡ None → o ≡ None
+    go None e = refl
+    go (Some i) e = absurd (let bad : Some i ≡ None = e in cc)
 
 there_last : (ps : List Pair) (p : Pair) → slice_get (ps ++ p ∷ []) (length ps) ≡ Some p
 there_last [] p = refl
-there_last (q ∷ ps) p = there_last ps p
+there_last (q ∷ qs) p = there_last qs p
 
-none_before : (ps : List Pair) (p : Pair) (x : ℕ) → slice_get (ps ++ p ∷ []) x ≡ None → slice_get ps x ≡ None
-none_before [] p x e = refl
-none_before (q ∷ ps) p zero e = absurd (let bad : Some q ≡ None = e in cc)
-none_before (q ∷ ps) p (suc x) e = none_before ps p x e
+-- a pair that stands is there
+abbrev first_if : Bool → Option ℕ → Option ℕ
+first_if t o = if t then Some 0 else o
 
--- another pair stands where it stood
-stands_still : (a b m f : List ℕ) (ps : List Pair) (o : Option ℕ) → is_pair a b (m, f) ≡ false → stands_at a b (ps ++ (m, f) ∷ []) o ≡ stands_at a b ps o
-stands_still a b m f ps None other = refl
-stands_still a b m f ps (Some i) other = ⊎_elim (λ e. e) (λ e. e.1 ∙ other ∙ sym e.2) (there_still a b (m, f) ps i)
+stands_is_there : (a b : List ℕ) (p : Pair) (ps : List Pair) (i : ℕ) → slice_get ps i ≡ Some p → is_pair a b p ≡ true → index_of a b ps ≡ None → ⊥
+stands_is_there a b p [] i at is none = let bad : None ≡ Some p = at in cc
+stands_is_there a b p (q ∷ ps) zero at is none =
+    let same : q ≡ p = ap (λ (o : Option Pair). unwrap_or o q) at in
+    let it : is_pair a b q ≡ true = ap (is_pair a b) same ∙ is in
+    let bad : Some 0 ≡ None = sym (ap (λ (t : Bool). first_if t (option_map suc (index_of a b ps))) it) ∙ none in
+    cc
+stands_is_there a b p (q ∷ ps) (suc i) at is none = stands_is_there a b p ps i at is (behind (is_pair a b q) (index_of a b ps) none)
+  where
+    behind : (t : Bool) (o : Option ℕ) → first_if t (option_map suc o) ≡ None → o ≡ None
+    behind true o e = absurd (let bad : Some 0 ≡ None = e in cc)
+    behind false None e = refl
+    behind false (Some i) e = absurd (let bad : Some (suc i) ≡ None = e in cc)
 
--- where the new pair stands and did not is behind the others
-stands_last : (m f : List ℕ) (ps : List Pair) (o : Option ℕ) → stands_at m f ps o ≡ false → stands_at m f (ps ++ (m, f) ∷ []) o ≡ true → o ≡ Some (length ps)
-stands_last m f ps None old now = absurd (let bad : false ≡ true = now in cc)
-stands_last m f ps (Some i) old now =
-    ⊎_elim (λ e. absurd (let bad : true ≡ false = sym now ∙ e ∙ old in cc)) (λ e. ap Some e.0) (there_still m f (m, f) ps i)
+-- ---- what a slot tells
 
--- ---- slots
+abbrev it_or : Bool → ℕ → Option (Option ℕ)
+it_or t i = if t then Some (Some i) else None
 
-free_for_all : (a b : List ℕ) (ps : List Pair) (o : Option ℕ) (x : ℕ) → o ≡ Some x → slice_get ps x ≡ None → stands_at a b ps o ≡ false
-free_for_all a b ps o x e none = ap (stands_at a b ps) e ∙ ap (is_there a b) none
+-- what stood at an index stands there, if a pair comes behind the others; and there comes that pair
+stands_more : (ps : List Pair) (p : Pair) (i : ℕ) → (slice_get (ps ++ p ∷ []) i ≡ slice_get ps i)
+    ⊎ ((slice_get ps i ≡ None) × (slice_get (ps ++ p ∷ []) i ≡ Some p) × (i ≡ length ps))
+stands_more [] p zero = inr (refl, refl, refl)
+stands_more [] p (suc i) = inl refl
+stands_more (q ∷ ps) p zero = inl refl
+stands_more (q ∷ ps) p (suc i) = ⊎_elim (λ e. inl e) (λ e. inr (e.0, e.1, ap suc e.2)) (stands_more ps p i)
 
-abbrev chosen : Bool → Option ℕ → Option ℕ → Option ℕ
-chosen t o p = if t then o else p
+-- of another pair a slot tells the same; or it told that the pair is nowhere, and tells nothing now
+told_more : (a b m f : List ℕ) (ps : List Pair) (o : Option ℕ) → is_pair a b (m, f) ≡ false → (told a b (ps ++ (m, f) ∷ []) o ≡ told a b ps o)
+    ⊎ ((told a b ps o ≡ Some None) × (told a b (ps ++ (m, f) ∷ []) o ≡ None))
+told_more a b m f ps None other = inl refl
+told_more a b m f ps (Some i) other =
+    ⊎_elim
+    (λ e. inl (ap (told_by a b i) e))
+    (λ e. inr (ap (told_by a b i) e.0, ap (told_by a b i) e.1 ∙ ap (λ (t : Bool). it_or t i) other))
+    (stands_more ps (m, f) i)
 
-chosen_first : (t : Bool) (o p : Option ℕ) → t ≡ true → chosen t o p ≡ o
-chosen_first true o p e = refl
-chosen_first false o p e = absurd cc
+-- a slot that tells nothing of a pair tells nothing of it if a pair comes behind the others
+nothing_still : (a b : List ℕ) (p : Pair) (ps : List Pair) (o : Option ℕ) → told a b ps o ≡ None → told a b (ps ++ p ∷ []) o ≡ None
+nothing_still a b p ps None e = refl
+nothing_still a b p ps (Some i) e =
+    ⊎_elim
+    (λ s. ap (told_by a b i) s ∙ e)
+    (λ s. absurd (let bad : Some None ≡ None = sym (ap (told_by a b i) s.0) ∙ e in cc))
+    (stands_more ps p i)
 
-chosen_second : (t : Bool) (o p : Option ℕ) → t ≡ false → chosen t o p ≡ p
-chosen_second true o p e = absurd cc
-chosen_second false o p e = refl
+told_last : (m f : List ℕ) (ps : List Pair) → told m f (ps ++ (m, f) ∷ []) (Some (length ps)) ≡ Some (Some (length ps))
+told_last m f ps = ap (told_by m f (length ps)) (there_last ps (m, f)) ∙ ap (λ (t : Bool). it_or t (length ps)) (itself m f)
 
--- a pair that stands in neither of its slots is found by the map
-nowhere_found : (slots : List ℕ) (others : Others) (ps : List Pair) (m f : List ℕ) → StandsNowhere slots ps m f → found slots others ps m f ≡ find_names others m f
-nowhere_found slots others ps m f none =
-    chosen_second (stands_at m f ps (in_first slots m f)) (in_first slots m f) (chosen (stands_at m f ps (in_other slots m f)) (in_other slots m f) (find_names others m f)) none.0
-    ∙ chosen_second (stands_at m f ps (in_other slots m f)) (in_other slots m f) (find_names others m f) none.1
+told_other : (a b m f : List ℕ) (ps : List Pair) → is_pair a b (m, f) ≡ false → told a b (ps ++ (m, f) ∷ []) (Some (length ps)) ≡ None
+told_other a b m f ps other = ap (told_by a b (length ps)) (there_last ps (m, f)) ∙ ap (λ (t : Bool). it_or t (length ps)) other
 
-module _ (slots : List ℕ) (others : Others) (ps : List Pair) (m f : List ℕ) (h : Holds slots others ps) where
-  abbrev behind_first : Option ℕ
-  behind_first = chosen (stands_at m f ps (in_other slots m f)) (in_other slots m f) (find_names others m f)
-
-  pub there_by_slot : (i : ℕ) → HasMet slots ps m f (met.Same i) → index_of m f ps ≡ Some i
-  there_by_slot i s =
-      sym (h.0 m f)
-      ∙ ⊎_elim
-      (λ y. chosen_first (stands_at m f ps (in_first slots m f)) (in_first slots m f) behind_first y.0 ∙ y.1)
-      (λ y. chosen_second (stands_at m f ps (in_first slots m f)) (in_first slots m f) behind_first y.0
-      ∙ (chosen_first (stands_at m f ps (in_other slots m f)) (in_other slots m f) (find_names others m f) y.1 ∙ y.2))
-      s
-
-  pub by_map : StandsNowhere slots ps m f → index_of m f ps ≡ find_names others m f
-  by_map none = sym (h.0 m f) ∙ nowhere_found slots others ps m f none
-
-  pub new_by_slot : (q : ℕ) → IsSlotOf slots m f q → IsFree slots ps q → StandsNowhere slots ps m f → index_of m f ps ≡ None
-  new_by_slot q at free none =
-      let has : HasFree slots ps m f = ⊎_elim (λ y. inl (subst (IsFree slots ps) y free)) (λ y. inr (subst (IsFree slots ps) y free)) at in
-      by_map none ∙ h.1 m f has
-
-module _ (old new : List ℕ) (others : Others) (ps : List Pair) (m f : List ℕ) (q i : ℕ) (at : IsSlotOf old m f q) (last : i ≡ length ps)
-    (free : IsFree old ps q) (none : StandsNowhere old ps m f) (put : IsPut q i old new) (h : Holds old others ps) where
-  abbrev more : List Pair
-  more = ps ++ (m, f) ∷ []
-
-  slot_now : (k : ℕ) → slice_get new k ≡ cond (q == k) (Some (length ps)) (slice_get old k)
-  slot_now k = put.1 k ∙ ap (λ (l : ℕ). cond (q == k) (Some l) (slice_get old k)) last
-
-  in_it : (k : ℕ) → (q == k) ≡ true → slice_get new k ≡ Some (length ps)
-  in_it k y = slot_now k ∙ cond-true (q == k) (Some (length ps)) (slice_get old k) y
-
-  elsewhere : (k : ℕ) → (q == k) ≡ false → slice_get new k ≡ slice_get old k
-  elsewhere k z = slot_now k ∙ cond-false (q == k) (Some (length ps)) (slice_get old k) z
-
-  same_slot : (a b : List ℕ) → slot_for a b (length new) ≡ slot_for a b (length old)
-  same_slot a b = ap (slot_for a b) put.0
-
-  abbrev stands_new : ℕ → Bool
-  stands_new k = stands_at m f more (slice_get new k)
-
-  standing : (k : ℕ) → q ≡ k → stands_new k ≡ true
-  standing k e = ap (stands_at m f more) (in_it k (equal q k e)) ∙ (ap (is_there m f) (there_last ps (m, f)) ∙ itself m f)
-    where
-      same : (v : ℕ) → (v == v) ≡ true
-      same v = grind arith
-
-      equal : (v w : ℕ) → v ≡ w → (v == w) ≡ true
-      equal v w e = subst (λ (u : ℕ). (v == u) ≡ true) e (same v)
-
-  -- if it stands at the index of a slot in which it did not, this is the last
-  is_last : (k : ℕ) → stands_at m f ps (slice_get old k) ≡ false → stands_new k ≡ true → slice_get new k ≡ Some (length ps)
-  is_last k was now =
-      ⊎_elim
-      (λ y. in_it k y)
-      (λ z. elsewhere k z ∙ stands_last m f ps (slice_get old k) was (sym (ap (stands_at m f more) (elsewhere k z)) ∙ now))
-      (cases_Bool (q == k))
-
-  abbrev its : ℕ
-  its = slot_for m f (length new)
-
-  at_now : (q ≡ its) ⊎ (q ≡ beside its)
-  at_now = ⊎_elim (λ y. inl (y ∙ sym (same_slot m f))) (λ y. inr (y ∙ ap beside (sym (same_slot m f)))) at
-
-  was_first : stands_at m f ps (slice_get old its) ≡ false
-  was_first = ap (λ (k : ℕ). stands_at m f ps (slice_get old k)) (same_slot m f) ∙ none.0
-
-  was_other : stands_at m f ps (slice_get old (beside its)) ≡ false
-  was_other = ap (λ (k : ℕ). stands_at m f ps (slice_get old (beside k))) (same_slot m f) ∙ none.1
-
-  finds_new : found new others more m f ≡ Some (length ps)
-  finds_new =
-      let rest = chosen (stands_new (beside its)) (slice_get new (beside its)) (find_names others m f) in
-      ⊎_elim
-      (λ y. chosen_first (stands_new its) (slice_get new its) rest y ∙ is_last its was_first y)
-      (λ z.
-      let there : stands_new (beside its) ≡ true = ⊎_elim (λ e. absurd (let bad : true ≡ false = sym (standing its e) ∙ z in cc)) (λ e. standing (beside its) e) at_now in
-      chosen_second (stands_new its) (slice_get new its) rest z
-      ∙ (chosen_first (stands_new (beside its)) (slice_get new (beside its)) (find_names others m f) there ∙ is_last (beside its) was_other there))
-      (cases_Bool (stands_new its))
-
-  none_at : index_of m f ps ≡ None
-  none_at = new_by_slot old others ps m f h q at free none
-
-  module _ (a b : List ℕ) (other : is_pair a b (m, f) ≡ false) where
-    -- another pair is found in a slot as it was
-    kept_if : (k : ℕ) (rest : Option ℕ) → chosen (stands_at a b more (slice_get new k)) (slice_get new k) rest ≡ chosen (stands_at a b ps (slice_get old k)) (slice_get old k) rest
-    kept_if k rest =
+-- of a pair that is not there no slot tells where it is
+tells_nowhere : (a b : List ℕ) (ps : List Pair) (o : Option ℕ) → index_of a b ps ≡ None → (told a b ps o ≡ None) ⊎ (told a b ps o ≡ Some None)
+tells_nowhere a b ps None none = inl refl
+tells_nowhere a b ps (Some i) none = step (slice_get ps i) refl
+  where
+    step : (r : Option Pair) → slice_get ps i ≡ r → (told_by a b i (slice_get ps i) ≡ None) ⊎ (told_by a b i (slice_get ps i) ≡ Some None)
+    step None e = inr (ap (told_by a b i) e)
+    step (Some p) e =
         ⊎_elim
-        (λ y.
-        let was : IsFree old ps k = subst (IsFree old ps) (eqb-true q k y) free in
-        chosen_second (stands_at a b more (slice_get new k)) (slice_get new k) rest
-        (ap (stands_at a b more) (in_it k y) ∙ (ap (is_there a b) (there_last ps (m, f)) ∙ other))
-        ∙ sym (chosen_second (stands_at a b ps (slice_get old k)) (slice_get old k) rest (free_for_all a b ps (slice_get old k) was.0 was.1 was.2)))
-        (λ z. ap (λ (o : Option ℕ). chosen (stands_at a b more o) o rest) (elsewhere k z)
-        ∙ ap (λ (t : Bool). chosen t (slice_get old k) rest) (stands_still a b m f ps (slice_get old k) other))
-        (cases_Bool (q == k))
+        (λ y. absurd (stands_is_there a b p ps i e y none))
+        (λ z. inl (ap (told_by a b i) e ∙ ap (λ (t : Bool). it_or t i) z))
+        (cases_Bool (is_pair a b p))
 
-    abbrev asked : ℕ
-    asked = slot_for a b (length new)
+-- so it is nowhere, if it is not behind them
+found_nowhere : (slots : List ℕ) (ps : List Pair) (a b : List ℕ) (qs : List ℕ) (rest : Option ℕ) → index_of a b ps ≡ None → rest ≡ None → looked_up slots ps a b qs rest ≡ None
+found_nowhere slots ps a b [] rest none e = e
+found_nowhere slots ps a b (q ∷ qs) rest none e =
+    ⊎_elim
+    (λ y. ap (λ (r : Option (Option ℕ)). told_or r (looked_up slots ps a b qs rest)) y ∙ found_nowhere slots ps a b qs rest none e)
+    (λ z. ap (λ (r : Option (Option ℕ)). told_or r (looked_up slots ps a b qs rest)) z)
+    (tells_nowhere a b ps (slice_get slots q) none)
 
-    finds_other : found new others more a b ≡ index_of a b more
-    finds_other =
-        kept_if asked (chosen (stands_at a b more (slice_get new (beside asked))) (slice_get new (beside asked)) (find_names others a b))
-        ∙ ap (chosen (stands_at a b ps (slice_get old asked)) (slice_get old asked)) (kept_if (beside asked) (find_names others a b))
-        ∙ ap (λ (k : ℕ). chosen (stands_at a b ps (slice_get old k)) (slice_get old k)
-        (chosen (stands_at a b ps (slice_get old (beside k))) (slice_get old (beside k)) (find_names others a b))) (same_slot a b)
-        ∙ h.0 a b ∙ sym (index_same a b m f ps other)
+-- ---- another pair, if one comes behind the others
 
-  finds_by_slot : Finds new others more
-  finds_by_slot a b =
-      ⊎_elim
-      (λ y. let n = names_are a b m f y in
-      subst (λ (c : List ℕ). found new others more c b ≡ index_of c b more) (sym n.0)
-      (subst (λ (d : List ℕ). found new others more m d ≡ index_of m d more) (sym n.1) (finds_new ∙ sym (index_new m f ps none_at))))
-      (finds_other a b) (cases_Bool (is_pair a b (m, f)))
-
-  -- a slot that is free was so
-  was_free : (k : ℕ) → IsFree new more k → IsFree old ps k
-  was_free k (x, was, gone) =
-      ⊎_elim
-      (λ y.
-      let here : Some (length ps) ≡ Some x = sym (in_it k y) ∙ was in
-      let same : length ps ≡ x = ap (λ (o : Option ℕ). unwrap_or o x) here in
-      let there : slice_get more x ≡ Some (m, f) = subst (λ (l : ℕ). slice_get more l ≡ Some (m, f)) same (there_last ps (m, f)) in
-      absurd (let bad : None ≡ Some (m, f) = sym gone ∙ there in cc))
-      (λ z. (x, sym (elsewhere k z) ∙ was, none_before ps (m, f) x gone))
-      (cases_Bool (q == k))
-
-  behind_by_slot : IsBehind new others more
-  behind_by_slot a b has =
-      let asked = slot_for a b (length new) in
-      let before : IsFree old ps asked ⊎ IsFree old ps (beside asked) = ⊎_elim (λ y. inl (was_free asked y)) (λ y. inr (was_free (beside asked) y)) has in
-      h.1 a b (subst (λ (k : ℕ). IsFree old ps k ⊎ IsFree old ps (beside k)) (same_slot a b) before)
-
-  pub settled_by_slot : (index_of m f ps ≡ None) × Holds new others more
-  settled_by_slot = (none_at, (finds_by_slot, behind_by_slot))
-
--- ---- the map
-
-module _ (slots : List ℕ) (others more : Others) (ps : List Pair) (m f : List ℕ) (h : Holds slots others ps) (elsewhere : StandsNowhere slots ps m f)
-    (full : HasFree slots ps m f → ⊥) (new : find_names others m f ≡ None)
-    (put : (a b : List ℕ) → find_names more a b ≡ cond (is_pair a b (m, f)) (Some (length ps)) (find_names others a b)) where
+module _ (old new : List ℕ) (ps : List Pair) (a b m f : List ℕ) (other : is_pair a b (m, f) ≡ false)
+    (alike : (k : ℕ) → (slice_get new k ≡ slice_get old k) ⊎ ((slice_get new k ≡ Some (length ps)) × (told a b ps (slice_get old k) ≡ Some None))) where
   abbrev longer : List Pair
   longer = ps ++ (m, f) ∷ []
 
-  nowhere : index_of m f ps ≡ None
-  nowhere = by_map slots others ps m f h elsewhere ∙ new
-
-  found_new : found slots more longer m f ≡ Some (length ps)
-  found_new =
-      let o = in_first slots m f in
-      let p = in_other slots m f in
-      let rest = chosen (stands_at m f longer p) p (find_names more m f) in
+  -- each slot tells the same of it; or it told that the pair is nowhere, and tells nothing now
+  tells_alike : (k : ℕ) → (told a b longer (slice_get new k) ≡ told a b ps (slice_get old k))
+      ⊎ ((told a b ps (slice_get old k) ≡ Some None) × (told a b longer (slice_get new k) ≡ None))
+  tells_alike k =
       ⊎_elim
-      (λ y. chosen_first (stands_at m f longer o) o rest y ∙ stands_last m f ps o elsewhere.0 y)
-      (λ z. chosen_second (stands_at m f longer o) o rest z
-      ∙ ⊎_elim
-      (λ y. chosen_first (stands_at m f longer p) p (find_names more m f) y ∙ stands_last m f ps p elsewhere.1 y)
-      (λ w. chosen_second (stands_at m f longer p) p (find_names more m f) w
-      ∙ (put m f ∙ cond-true (is_pair m f (m, f)) (Some (length ps)) (find_names others m f) (itself m f)))
-      (cases_Bool (stands_at m f longer p)))
-      (cases_Bool (stands_at m f longer o))
+      (λ y. ⊎_elim (λ e. inl (ap (told a b longer) y ∙ e)) (λ e. inr (e.0, ap (told a b longer) y ∙ e.1)) (told_more a b m f ps (slice_get old k) other))
+      (λ z. inr (z.1, ap (told a b longer) z.0 ∙ told_other a b m f ps other))
+      (alike k)
 
-  found_other : (a b : List ℕ) → is_pair a b (m, f) ≡ false → found slots more longer a b ≡ index_of a b longer
-  found_other a b other =
-      let o = in_first slots a b in
-      let p = in_other slots a b in
-      ap (λ (t : Bool). chosen t o (chosen (stands_at a b longer p) p (find_names more a b))) (stands_still a b m f ps o other)
-      ∙ ap (λ (t : Bool). chosen (stands_at a b ps o) o (chosen t p (find_names more a b))) (stands_still a b m f ps p other)
-      ∙ ap (λ (r : Option ℕ). chosen (stands_at a b ps o) o (chosen (stands_at a b ps p) p r))
-      (put a b ∙ cond-false (is_pair a b (m, f)) (Some (length ps)) (find_names others a b) other)
-      ∙ h.0 a b ∙ sym (index_same a b m f ps other)
+  -- it is found as it was
+  pub found_alike : (qs : List ℕ) (r rest : Option ℕ) → index_of a b ps ≡ r → (r ≡ None → rest ≡ None) → looked_up old ps a b qs rest ≡ r → looked_up new longer a b qs rest ≡ r
+  found_alike [] r rest i n e = e
+  found_alike (q ∷ qs) r rest i n e =
+      ⊎_elim
+      (λ y. ap (λ (t : Option (Option ℕ)). told_or t (looked_up new longer a b qs rest)) y ∙ step (told a b ps (slice_get old q)) e)
+      (λ z.
+      let gone : None ≡ r = sym (ap (λ (t : Option (Option ℕ)). told_or t (looked_up old ps a b qs rest)) z.0) ∙ e in
+      ap (λ (t : Option (Option ℕ)). told_or t (looked_up new longer a b qs rest)) z.1
+      ∙ (found_nowhere new longer a b qs rest (index_same a b m f ps other ∙ i ∙ sym gone) (n (sym gone)) ∙ gone))
+      (tells_alike q)
+    where
+      step : (t : Option (Option ℕ)) → told_or t (looked_up old ps a b qs rest) ≡ r → told_or t (looked_up new longer a b qs rest) ≡ r
+      step None e = found_alike qs r rest i n e
+      step (Some s) e = e
 
-  finds_by_map : Finds slots more longer
-  finds_by_map a b =
+-- ---- a pair more in a slot
+
+module _ (s : Bool) (old new : List ℕ) (others : Others) (ps : List Pair) (m f : List ℕ) (v q i : ℕ) (last : i ≡ length ps)
+    (first : IsFirstFree old ps m f q (slots_of v (length old))) (put : IsPut q i old new) (is : v ≡ number_of s m f) (h : Holds s old others ps) where
+  abbrev more : List Pair
+  more = ps ++ (m, f) ∷ []
+
+  in_it : (k : ℕ) → (q == k) ≡ true → slice_get new k ≡ Some (length ps)
+  in_it k y = put.1 k ∙ (cond-true (q == k) (Some i) (slice_get old k) y ∙ ap Some last)
+
+  elsewhere : (k : ℕ) → (q == k) ≡ false → slice_get new k ≡ slice_get old k
+  elsewhere k z = put.1 k ∙ cond-false (q == k) (Some i) (slice_get old k) z
+
+  equal : (x y : ℕ) → x ≡ y → (x == y) ≡ true
+  equal x y e = subst (λ (u : ℕ). (x == u) ≡ true) e (same x)
+    where
+      same : (x : ℕ) → (x == x) ≡ true
+      same x = grind arith
+
+  -- the first that told of it says where it is
+  found_first : (qs : List ℕ) (rest : Option ℕ) → IsFirstFree old ps m f q qs → looked_up new more m f qs rest ≡ Some (length ps)
+  found_first [] rest y = absurd y
+  found_first (k ∷ ks) rest y = ⊎_elim (λ e. here e.0) (λ e. ⊎_elim (λ c. here (eqb-true q k c)) (λ c. behind e.0 e.1 c) (cases_Bool (q == k))) y
+    where
+      here : q ≡ k → looked_up new more m f (k ∷ ks) rest ≡ Some (length ps)
+      here e =
+          ap (λ (t : Option (Option ℕ)). told_or t (looked_up new more m f ks rest))
+          (ap (told m f more) (in_it k (equal q k e)) ∙ told_last m f ps)
+
+      behind : told m f ps (slice_get old k) ≡ None → IsFirstFree old ps m f q ks → (q == k) ≡ false → looked_up new more m f (k ∷ ks) rest ≡ Some (length ps)
+      behind t r c =
+          ap (λ (t : Option (Option ℕ)). told_or t (looked_up new more m f ks rest))
+          (ap (told m f more) (elsewhere k c) ∙ nothing_still m f (m, f) ps (slice_get old k) t)
+          ∙ found_first ks rest r
+
+  -- it told that the pair is nowhere
+  told_free : (qs : List ℕ) → IsFirstFree old ps m f q qs → told m f ps (slice_get old q) ≡ Some None
+  told_free [] y = absurd y
+  told_free (k ∷ ks) y = ⊎_elim (λ e. subst (λ (j : ℕ). told m f ps (slice_get old j) ≡ Some None) (sym e.0) e.1) (λ e. told_free ks e.1) y
+
+  abbrev rest_of : List ℕ → List ℕ → Option ℕ
+  rest_of a b = find_names others a b
+
+  none_at : index_of m f ps ≡ None
+  none_at =
+      sym (h.0 m f)
+      ∙ subst (λ (w : ℕ). looked_up old ps m f (slots_of w (length old)) (rest_of m f) ≡ None) is (ends (slots_of v (length old)) (rest_of m f) first)
+    where
+      ends : (qs : List ℕ) (rest : Option ℕ) → IsFirstFree old ps m f q qs → looked_up old ps m f qs rest ≡ None
+      ends [] rest y = absurd y
+      ends (k ∷ ks) rest y =
+          ⊎_elim
+          (λ e. ap (λ (t : Option (Option ℕ)). told_or t (looked_up old ps m f ks rest)) e.1)
+          (λ e. ap (λ (t : Option (Option ℕ)). told_or t (looked_up old ps m f ks rest)) e.0 ∙ ends ks rest e.1)
+          y
+
+  same_slots : (a b : List ℕ) → slots_of (number_of s a b) (length new) ≡ slots_of (number_of s a b) (length old)
+  same_slots a b = ap (slots_of (number_of s a b)) put.0
+
+  finds_new : found s new others more m f ≡ index_of m f more
+  finds_new =
+      ap (λ (qs : List ℕ). looked_up new more m f qs (rest_of m f)) (same_slots m f)
+      ∙ (subst (λ (w : ℕ). looked_up new more m f (slots_of w (length old)) (rest_of m f) ≡ Some (length ps)) is
+      (found_first (slots_of v (length old)) (rest_of m f) first)
+      ∙ sym (index_new m f ps none_at))
+
+  -- what is free for one pair is free for all
+  free_for_all : (a b : List ℕ) (o : Option ℕ) → told m f ps o ≡ Some None → told a b ps o ≡ Some None
+  free_for_all a b None e = absurd (let bad : None ≡ Some None = e in cc)
+  free_for_all a b (Some x) e = step (slice_get ps x) e
+    where
+      two : (t : Bool) → it_or t x ≡ Some None → ⊥
+      two true e = let bad : Some (Some x) ≡ Some None = e in let worse : Some x ≡ None = ap (λ (o : Option (Option ℕ)). unwrap_or o None) bad in cc
+      two false e = let bad : None ≡ Some None = e in cc
+
+      step : (r : Option Pair) → told_by m f x r ≡ Some None → told_by a b x r ≡ Some None
+      step None e = refl
+      step (Some p) e = absurd (two (is_pair m f p) e)
+
+  finds_other : (a b : List ℕ) → is_pair a b (m, f) ≡ false → found s new others more a b ≡ index_of a b more
+  finds_other a b other =
+      let alike : (k : ℕ) → (slice_get new k ≡ slice_get old k) ⊎ ((slice_get new k ≡ Some (length ps)) × (told a b ps (slice_get old k) ≡ Some None)) =
+      (λ k. ⊎_elim
+      (λ y. inr (in_it k y, free_for_all a b (slice_get old k)
+      (subst (λ (j : ℕ). told m f ps (slice_get old j) ≡ Some None) (eqb-true q k y) (told_free (slots_of v (length old)) first))))
+      (λ z. inl (elsewhere k z)) (cases_Bool (q == k))) in
+      ap (λ (qs : List ℕ). looked_up new more a b qs (rest_of a b)) (same_slots a b)
+      ∙ (found_alike old new ps a b m f other alike (slots_of (number_of s a b) (length old)) (index_of a b ps) (rest_of a b) refl (h.1 a b) (h.0 a b)
+      ∙ sym (index_same a b m f ps other))
+
+  finds_by_slot : Finds s new others more
+  finds_by_slot a b =
       ⊎_elim
       (λ y. let n = names_are a b m f y in
-      subst (λ (c : List ℕ). found slots more longer c b ≡ index_of c b longer) (sym n.0)
-      (subst (λ (d : List ℕ). found slots more longer m d ≡ index_of m d longer) (sym n.1) (found_new ∙ sym (index_new m f ps nowhere))))
-      (found_other a b) (cases_Bool (is_pair a b (m, f)))
+      subst (λ (c : List ℕ). found s new others more c b ≡ index_of c b more) (sym n.0)
+      (subst (λ (d : List ℕ). found s new others more m d ≡ index_of m d more) (sym n.1) finds_new))
+      (finds_other a b) (cases_Bool (is_pair a b (m, f)))
 
-  behind_by_map : IsBehind slots more longer
-  behind_by_map a b has =
-      let shrunk : (k : ℕ) → IsFree slots longer k → IsFree slots ps k = (λ k g. (g.0, g.1, none_before ps (m, f) g.0 g.2)) in
-      let asked = slot_for a b (length slots) in
-      let before : HasFree slots ps a b = ⊎_elim (λ y. inl (shrunk asked y)) (λ y. inr (shrunk (beside asked) y)) has in
-      ⊎_elim
-      (λ y. let n = names_are a b m f y in
-      absurd (full (subst (λ (c : List ℕ). HasFree slots ps c f) n.0 (subst (λ (d : List ℕ). HasFree slots ps a d) n.1 before))))
-      (λ z. put a b ∙ cond-false (is_pair a b (m, f)) (Some (length ps)) (find_names others a b) z ∙ h.1 a b before)
-      (cases_Bool (is_pair a b (m, f)))
+  within_by_slot : IsWithin others more
+  within_by_slot a b none = h.1 a b (less a b ps (m, f) none)
 
-  settled_by_map : (index_of m f ps ≡ None) × Holds slots more longer
-  settled_by_map = (nowhere, (finds_by_map, behind_by_map))
+  pub settled_by_slot : (index_of m f ps ≡ None) × Holds s new others more
+  settled_by_slot = (none_at, (finds_by_slot, within_by_slot))
+
+-- ---- the map
+
+module _ (s : Bool) (slots : List ℕ) (others next : Others) (ps : List Pair) (m f : List ℕ) (v : ℕ) (all : AreOthers slots ps m f (slots_of v (length slots)))
+    (is : v ≡ number_of s m f) (h : Holds s slots others ps) where
+  passed : (qs : List ℕ) (rest : Option ℕ) → AreOthers slots ps m f qs → looked_up slots ps m f qs rest ≡ rest
+  passed [] rest y = refl
+  passed (k ∷ ks) rest y = ap (λ (t : Option (Option ℕ)). told_or t (looked_up slots ps m f ks rest)) y.0 ∙ passed ks rest y.1
+
+  pub by_map : index_of m f ps ≡ find_names others m f
+  by_map =
+      sym (h.0 m f)
+      ∙ subst (λ (w : ℕ). looked_up slots ps m f (slots_of w (length slots)) (find_names others m f) ≡ find_names others m f) is
+      (passed (slots_of v (length slots)) (find_names others m f) all)
+
+  module _ (new : find_names others m f ≡ None)
+      (put : (a b : List ℕ) → find_names next a b ≡ cond (is_pair a b (m, f)) (Some (length ps)) (find_names others a b)) where
+    abbrev grown : List Pair
+    grown = ps ++ (m, f) ∷ []
+
+    passed_still : (qs : List ℕ) (rest : Option ℕ) → AreOthers slots ps m f qs → looked_up slots grown m f qs rest ≡ rest
+    passed_still [] rest y = refl
+    passed_still (k ∷ ks) rest y =
+        ap (λ (t : Option (Option ℕ)). told_or t (looked_up slots grown m f ks rest)) (nothing_still m f (m, f) ps (slice_get slots k) y.0) ∙ passed_still ks rest y.1
+
+    nowhere : index_of m f ps ≡ None
+    nowhere = by_map ∙ new
+
+    found_new : found s slots next grown m f ≡ index_of m f grown
+    found_new =
+        subst (λ (w : ℕ). looked_up slots grown m f (slots_of w (length slots)) (find_names next m f) ≡ find_names next m f) is
+        (passed_still (slots_of v (length slots)) (find_names next m f) all)
+        ∙ (put m f ∙ cond-true (is_pair m f (m, f)) (Some (length ps)) (find_names others m f) (itself m f) ∙ sym (index_new m f ps nowhere))
+
+    same_rest : (a b : List ℕ) → is_pair a b (m, f) ≡ false → find_names next a b ≡ find_names others a b
+    same_rest a b other = put a b ∙ cond-false (is_pair a b (m, f)) (Some (length ps)) (find_names others a b) other
+
+    found_other : (a b : List ℕ) → is_pair a b (m, f) ≡ false → found s slots next grown a b ≡ index_of a b grown
+    found_other a b other =
+        ap (looked_up slots grown a b (slots_of (number_of s a b) (length slots))) (same_rest a b other)
+        ∙ (found_alike slots slots ps a b m f other (λ k. inl refl) (slots_of (number_of s a b) (length slots)) (index_of a b ps) (find_names others a b) refl (h.1 a b) (h.0 a b)
+        ∙ sym (index_same a b m f ps other))
+
+    finds_by_map : Finds s slots next grown
+    finds_by_map a b =
+        ⊎_elim
+        (λ y. let n = names_are a b m f y in
+        subst (λ (c : List ℕ). found s slots next grown c b ≡ index_of c b grown) (sym n.0)
+        (subst (λ (d : List ℕ). found s slots next grown m d ≡ index_of m d grown) (sym n.1) found_new))
+        (found_other a b) (cases_Bool (is_pair a b (m, f)))
+
+    within_by_map : IsWithin next grown
+    within_by_map a b none =
+        ⊎_elim
+        (λ y. let n = names_are a b m f y in
+        absurd (stands_is_there a b (m, f) grown (length ps) (there_last ps (m, f)) y none))
+        (λ z. same_rest a b z ∙ h.1 a b (less a b ps (m, f) none))
+        (cases_Bool (is_pair a b (m, f)))
+
+    settled_by_map : (index_of m f ps ≡ None) × Holds s slots next grown
+    settled_by_map = (nowhere, (finds_by_map, within_by_map))
 
 -- what is done if the slots have other pairs
-pub settled : (slots : List ℕ) (others next : Others) (ps : List Pair) (m f : List ℕ) (r : Sought) → HasMet slots ps m f met.Other → HasSought m f (length ps) others next r
-    → Holds slots others ps → HasSettled m f ps slots next r
-settled slots others next ps m f sought.New t s h = settled_by_map slots others next ps m f h t.0 t.1 s.0 s.1
-settled slots others next ps m f (sought.At i) t s h =
-    (by_map slots others ps m f h t.0 ∙ s.0, subst (λ (o : Others). Holds slots o ps) (sym s.1) h)
-settled slots others next ps m f sought.NoMemory t s h = (
-  λ a b. ap (λ (r : Option ℕ). chosen (stands_at a b ps (in_first slots a b)) (in_first slots a b) (chosen (stands_at a b ps (in_other slots a b)) (in_other slots a b) r)) (s a b)
-      ∙ h.0 a b,
-  λ a b has. s a b ∙ h.1 a b has,
+pub settled : (s : Bool) (slots : List ℕ) (others next : Others) (ps : List Pair) (m f : List ℕ) (v : ℕ) (r : Sought) → AreOthers slots ps m f (slots_of v (length slots))
+    → HasSought m f (length ps) others next r → v ≡ number_of s m f → Holds s slots others ps → HasSettled s m f ps slots next r
+settled s slots others next ps m f v sought.New t u is h = settled_by_map s slots others next ps m f v t is h u.0 u.1
+settled s slots others next ps m f v (sought.At i) t u is h =
+    (by_map s slots others next ps m f v t is h ∙ u.0, subst (λ (o : Others). Holds s slots o ps) (sym u.1) h)
+settled s slots others next ps m f v sought.NoMemory t u is h = (
+  λ a b. ap (looked_up slots ps a b (slots_of (number_of s a b) (length slots))) (u a b) ∙ h.0 a b,
+  λ a b none. u a b ∙ h.1 a b none,
 )
 
--- ---- both slots of a pair
+-- a pair that the slots have
+pub there_by_slot : (s : Bool) (slots : List ℕ) (others : Others) (ps : List Pair) (m f : List ℕ) (v i : ℕ)
+    → ((rest : Option ℕ) → looked_up slots ps m f (slots_of v (length slots)) rest ≡ Some i) → v ≡ number_of s m f → Holds s slots others ps → index_of m f ps ≡ Some i
+there_by_slot s slots others ps m f v i y is h =
+    sym (h.0 m f) ∙ subst (λ (w : ℕ). looked_up slots ps m f (slots_of w (length slots)) (find_names others m f) ≡ Some i) is (y (find_names others m f))
+
+-- ---- slots in their order
 
 module _ (slots : List ℕ) (ps : List Pair) (m f : List ℕ) where
-  abbrev first : ℕ
-  first = slot_for m f (length slots)
+  -- the first of some tells of a pair
+  pub met_first : (q : ℕ) (qs : List ℕ) (p i : ℕ) → HasMetAt slots ps m f q (met.Free p i) → HasMet slots ps m f (q ∷ qs) (met.Free p i)
+  met_first q qs p i t = (t.1, inl (t.0, t.2))
 
-  free_nowhere : (k p i : ℕ) → HasMetAt slots ps m f k (met.Free p i) → stands_at m f ps (slice_get slots k) ≡ false
-  free_nowhere k p i t = free_for_all m f ps (slice_get slots k) t.2.0 t.2.1 t.2.2
+  pub met_same : (q : ℕ) (qs : List ℕ) (i : ℕ) → HasMetAt slots ps m f q (met.Same i) → HasMet slots ps m f (q ∷ qs) (met.Same i)
+  met_same q qs i t rest = ap (λ (r : Option (Option ℕ)). told_or r (looked_up slots ps m f qs rest)) t
 
-  pub met_first : (p i : ℕ) → HasMetAt slots ps m f first (met.Free p i) → stands_at m f ps (in_other slots m f) ≡ false → HasMet slots ps m f (met.Free p i)
-  met_first p i t e = (inl t.0, t.1, subst (IsFree slots ps) (sym t.0) t.2, (free_nowhere first p i t, e))
+  -- the first tells nothing: the others decide
+  pub met_behind : (q : ℕ) (qs : List ℕ) (t : Met) → HasMetAt slots ps m f q met.Other → HasMet slots ps m f qs t → HasMet slots ps m f (q ∷ qs) t
+  met_behind q qs (met.Free p i) o t = (t.0, inr (o, t.1))
+  met_behind q qs (met.Same i) o t = λ rest. ap (λ (r : Option (Option ℕ)). told_or r (looked_up slots ps m f qs rest)) o ∙ t rest
+  met_behind q qs met.Other o t = (o, t)
 
-  pub free_beside : (p i : ℕ) → HasMetAt slots ps m f (beside first) (met.Free p i) → stands_at m f ps (in_other slots m f) ≡ false
-  free_beside p i t = free_nowhere (beside first) p i t
+  -- some that tell, before others
+  pub free_of_two : (qs rs : List ℕ) (p i : ℕ) → HasMet slots ps m f qs (met.Free p i) → HasMet slots ps m f (qs ++ rs) (met.Free p i)
+  free_of_two qs rs p i t = (t.0, go qs t.1)
+    where
+      go : (qs : List ℕ) → IsFirstFree slots ps m f p qs → IsFirstFree slots ps m f p (qs ++ rs)
+      go [] y = absurd y
+      go (k ∷ ks) y = ⊎_elim (λ e. inl e) (λ e. inr (e.0, go ks e.1)) y
 
-  pub met_same : (i : ℕ) → HasMetAt slots ps m f first (met.Same i) → HasMet slots ps m f (met.Same i)
-  met_same i t = inl (t.1, t.0)
+  joined : (qs rs : List ℕ) (rest : Option ℕ) → looked_up slots ps m f (qs ++ rs) rest ≡ looked_up slots ps m f qs (looked_up slots ps m f rs rest)
+  joined [] rs rest = refl
+  joined (k ∷ ks) rs rest = ap (told_or (told m f ps (slice_get slots k))) (joined ks rs rest)
 
-  pub met_beside : (p i j : ℕ) → HasMetAt slots ps m f first (met.Free p i) → HasMetAt slots ps m f (beside first) (met.Same j) → HasMet slots ps m f (met.Same j)
-  met_beside p i j s t = inr (free_nowhere first p i s, t.1, t.0)
+  pub same_of_two : (qs rs : List ℕ) (i : ℕ) → HasMet slots ps m f qs (met.Same i) → HasMet slots ps m f (qs ++ rs) (met.Same i)
+  same_of_two qs rs i t rest = joined qs rs rest ∙ t (looked_up slots ps m f rs rest)
 
-  -- the first has another pair: what is in the other decides
-  pub met_other : (t : Met) → HasMetAt slots ps m f first met.Other → HasMetAt slots ps m f (beside first) t → HasMet slots ps m f t
-  met_other (met.Free p i) s t = (inr t.0, t.1, subst (IsFree slots ps) (sym t.0) t.2, (s.0, free_nowhere (beside first) p i t))
-  met_other (met.Same i) s t = inr (s.0, t.1, t.0)
-  met_other met.Other s t = ((s.0, t.0), λ has. ⊎_elim s.1 t.1 has)
+  -- some that tell nothing, before others
+  pub second_of_two : (qs rs : List ℕ) (t : Met) → HasMet slots ps m f qs met.Other → HasMet slots ps m f rs t → HasMet slots ps m f (qs ++ rs) t
+  second_of_two [] rs t o h = h
+  second_of_two (k ∷ ks) rs t o h = met_behind k (ks ++ rs) t o.0 (second_of_two ks rs t o.1 h)
 
 -- ---- a pair more in the map
 
@@ -391,7 +444,7 @@ tested : (m f a b : List ℕ) → (bytes_eq m a && bytes_eq f b) ≡ eq_by_cmp c
 tested m f a b = both_tied (bytes_eq m a) (bytes_eq f b) (slice_cmp nat_cmp m a) (slice_cmp nat_cmp f b) (texts_ties m a) (texts_ties f b)
 
 abbrev bytes_of : Key → Bytes
-bytes_of k = (string_bytes k.0, string_bytes k.1)
+bytes_of k = (k.0.items, k.1.items)
 
 abbrev compare_keys : Key → Key → Ordering
 compare_keys x y = compare (bytes_of x) (bytes_of y)
@@ -421,42 +474,42 @@ module _ (m f : List ℕ) where
 
 -- ---- no pairs
 
-stands_nowhere : (a b : List ℕ) (o : Option ℕ) → stands_at a b [] o ≡ false
-stands_nowhere a b None = refl
-stands_nowhere a b (Some i) = refl
-
 -- without pairs none is found
-pub holds_nothing : (slots : List ℕ) (others : Others) → others.entries ≡ [] → Holds slots others []
-holds_nothing slots others e =
+pub holds_nothing : (s : Bool) (slots : List ℕ) (others : Others) → others.entries ≡ [] → Holds s slots others []
+holds_nothing s slots others e =
     let none : (a b : List ℕ) → find_names others a b ≡ None = (λ a b. ap (λ (es : List (Key × ℕ)). lookup (is_at (compare_names a b)) es) e) in (
-      λ a b. nowhere_found slots others [] a b (stands_nowhere a b (in_first slots a b), stands_nowhere a b (in_other slots a b)) ∙ none a b,
-      λ a b free. none a b,
+      λ a b. found_nowhere slots [] a b (slots_of (number_of s a b) (length slots)) (find_names others a b) refl (none a b),
+      λ a b r. none a b,
     )
+
+-- ---- what is kept of numbers
+
+-- pairs whose numbers have other upper halves are others
+pub tells_apart : (s : Bool) (marks : List ℕ) (ps : List Pair) (m f : List ℕ) (v : ℕ) → AreMarked s marks ps → v ≡ number_of s m f → TellsApart marks ps m f (mark_of v)
+tells_apart s marks ps m f v all is i y (a, b) at there same =
+    let n = names_are m f a b same in
+    let it : Some y ≡ Some (mark_of (number_of s a b)) =
+    sym at ∙ (ap (λ (xs : List ℕ). slice_get xs i) all ∙ (mapped ps i ∙ ap (option_map (λ (p : Pair). mark_of (number_of s p.0 p.1))) there)) in
+    ap (λ (o : Option ℕ). unwrap_or o y) it ∙ ((λ j. mark_of (number_of s (sym n.0 j) (sym n.1 j))) ∙ ap mark_of (sym is))
+  where
+    mapped : (ps : List Pair) (i : ℕ) → slice_get (map (λ (p : Pair). mark_of (number_of s p.0 p.1)) ps) i
+        ≡ option_map (λ (p : Pair). mark_of (number_of s p.0 p.1)) (slice_get ps i)
+    mapped [] i = refl
+    mapped (p ∷ ps) zero = refl
+    mapped (p ∷ ps) (suc i) = mapped ps i
 
 -- ---- what an index in a slot leads to
 
-module _ (slots : List ℕ) (ms : List (String Global)) (t : List ℕ) (ks : List KeptNames) (m f : List ℕ) (q x : ℕ) (k : KeptNames)
-    (inside : q < length slots) (was : x ≡ get_or slots q x) (beyond : x < length ks) (there : k ≡ get_or ks x k) where
+module _ (slots marks : List ℕ) (t : List ℕ) (ks : List KeptNames) (m f : List ℕ) (q x : ℕ) (inside : q < length slots) (was : x ≡ get_or slots q x) where
   abbrev all : List Pair
-  all = pairs_of (all_named ms t ks)
+  all = pairs_of (all_named t ks)
 
   leads : slice_get slots q ≡ Some x
   leads = read slots q x inside was
 
-  stands_here : slice_get all x ≡ Some (module_at ms k.«module», name_at t k.name)
-  stands_here = pair_at ms t ks x ∙ ap (option_map (λ (j : KeptNames). (module_at ms j.«module», name_at t j.name))) (read ks x k beyond there)
+  module _ (k : KeptNames) (beyond : x < length ks) (there : k ≡ get_or ks x k) where
+    stands_here : slice_get all x ≡ Some (name_at t k.«module», name_at t k.name)
+    stands_here = pair_at t ks x ∙ ap (option_map (λ (j : KeptNames). (name_at t j.«module», name_at t j.name))) (read ks x k beyond there)
 
-  pub leads_to : (b : Bool) → b ≡ is_pair m f (module_at ms k.«module», name_at t k.name) → (slice_get slots q ≡ Some x) × (stands_at m f all (slice_get slots q) ≡ b)
-  leads_to b same = (leads, ap (stands_at m f all) leads ∙ ap (is_there m f) stands_here ∙ sym same)
-
-  pub not_led : false ≡ is_pair m f (module_at ms k.«module», name_at t k.name) → stands_at m f all (slice_get slots q) ≡ false
-  not_led same = ap (stands_at m f all) leads ∙ ap (is_there m f) stands_here ∙ sym same
-
-  -- where a pair stands its slot is not free
-  pub not_free : IsFree slots all q → ⊥
-  not_free (y, is, free) =
-      let same : x ≡ y = ap (λ (o : Option ℕ). unwrap_or o x) (sym leads ∙ is) in
-      let some : slice_get all y ≡ Some (module_at ms k.«module», name_at t k.name)
-      = subst (λ (w : ℕ). slice_get all w ≡ Some (module_at ms k.«module», name_at t k.name)) same stands_here in
-      let bad : None ≡ Some (module_at ms k.«module», name_at t k.name) = sym free ∙ some in
-      cc
+    pub leads_to : (b : Bool) → b ≡ is_pair m f (name_at t k.«module», name_at t k.name) → told m f all (slice_get slots q) ≡ it_or b x
+    leads_to b same = ap (told m f all) leads ∙ (ap (told_by m f x) stands_here ∙ ap (λ (c : Bool). it_or c x) (sym same))

@@ -1,11 +1,12 @@
 -- What is kept of a module's imports, by their names (WebAssembly 3.0, structure, modules, imports). Each pair of names stands once, where
 -- it came first; what is imported by it stands there in the order of the imports.
-use Rattle.std.specs.Prelude.{◌≡◌, ◌<◌, ◌⊎◌, ℕ, suc, Bool, true, false, cond, ◌&&◌, List, [], ◌∷◌, ◌++◌, map, length, set, slice_get, Option, Some, None, option_map, String, string_bytes, if◌then◌else◌}
+use Rattle.std.specs.Prelude.{◌≡◌, ◌<◌, ◌/◌, ◌^◌, ◌⊎◌, ℕ, zero, suc, Bool, true, false, cond, ◌&&◌, List, [], ◌∷◌, ◌++◌, map, length, set, slice_get, bit_xor, Option, Some, None, option_map, Vec, if◌then◌else◌}
 use Rattle.std.specs.Str.{bytes_eq}
 use Rattle.std.specs.BTreeMap.{BTreeMap, get_by}
 use Rattle.std.specs.Ordering.{ordering_then, nat_cmp}
 use Rattle.std.specs.Cmp.Lexicographic.{slice_cmp}
-use Rattle.std.specs.Hash.FoldHasher.{initial, write}
+use Rattle.std.specs.Hash.FoldHasher as quick
+use Rattle.std.specs.Hash.DefaultHasher as slow
 use Rattle.std.specs.declared.alloc.Global.{Global}
 use Rattle.std.specs.declared.cmp.Ordering.{Ordering}
 use Rattle.wasm_module_validator_exports.specs.declared.names.imports.Place.{Place}
@@ -15,7 +16,7 @@ use Rattle.wasm_module_validator_exports.specs.declared.names.pairs.Met.{Met}
 use Rattle.wasm_module_validator_exports.specs.declared.names.pairs.Met.TheVariants as met
 use Rattle.wasm_module_validator_exports.specs.declared.names.pairs.Sought.{Sought}
 use Rattle.wasm_module_validator_exports.specs.declared.names.pairs.Sought.TheVariants as sought
-use Rattle.wasm_module_validator_exports.specs.names.Exports.{beside, slot_of}
+use Rattle.wasm_module_validator_exports.specs.names.Exports.{slot_of}
 use Rattle.wasm_module_validator_exports.specs.names.Kept.{IsNamed, name_at}
 
 -- the bytes of the name of a module and of the name of what is imported from it, and what is imported by these names
@@ -35,41 +36,22 @@ with_import m f p (n ∷ ns) = if has_names m f n then record n { places = n.pla
 
 -- ---- names that are kept
 
--- the bytes of a name, where there is one
-abbrev pub module_name_of : Option (String Global) → List ℕ
-module_name_of None = []
-module_name_of (Some t) = string_bytes t
-
--- the name of a module that is kept
-abbrev pub module_at : List (String Global) → ℕ → List ℕ
-module_at ms x = module_name_of (slice_get ms x)
-
 -- what is kept of a pair of names, and of all
-abbrev pub named_at : List (String Global) → List ℕ → KeptNames → ImportedName
-named_at ms names k = record { module_name = module_at ms k.«module»; field_name = name_at names k.name; places = k.first ∷ k.others.items }
+abbrev pub named_at : List ℕ → KeptNames → ImportedName
+named_at t k = record { module_name = name_at t k.«module»; field_name = name_at t k.name; places = k.first ∷ k.others.items }
 
-abbrev pub all_named : List (String Global) → List ℕ → List KeptNames → List ImportedName
-all_named ms names ks = map (named_at ms names) ks
+abbrev pub all_named : List ℕ → List KeptNames → List ImportedName
+all_named t ks = map (named_at t) ks
 
--- the name of each import is kept, and that of its module
-abbrev pub AreKept : List (String Global) → List ℕ → List KeptNames → Type 0
-AreKept ms names [] = Unit {0}
-AreKept ms names (k ∷ ks) = (k.«module» < length ms) × IsNamed names k.name × AreKept ms names ks
+-- both names of each import are kept
+abbrev pub AreKept : List ℕ → List KeptNames → Type 0
+AreKept t [] = Unit {0}
+AreKept t (k ∷ ks) = IsNamed t k.«module» × IsNamed t k.name × AreKept t ks
 
--- the name of a module stands at the index that is told, and behind those before it where it is kept anew
-abbrev pub HasKept : List ℕ → List (String Global) → List (String Global) → Option ℕ → Type 0
-HasKept m old new None = new ≡ old
-HasKept m old new (Some x) = (x < length new) × (module_at new x ≡ m) × ((new ≡ old) ⊎ ((t : String Global) × (new ≡ old ++ t ∷ [])))
-
--- the pairs that were kept are as they were
-abbrev pub StaysKept : List (String Global) → List (String Global) → List ℕ → List ℕ → Type 0
-StaysKept old new t u = (ks : List KeptNames) → AreKept old t ks → (all_named new u ks ≡ all_named old t ks) × AreKept new u ks
-
--- the names of a pair of one import are kept behind those before, where there was memory
-abbrev pub HasKeptNames : List ℕ → List ℕ → Place → List (String Global) → List (String Global) → List ℕ → List ℕ → Option KeptNames → Type 0
-HasKeptNames m f p old new t u None = StaysKept old new t u
-HasKeptNames m f p old new t u (Some k) = StaysKept old new t u × (k.«module» < length new) × IsNamed u k.name
-    × (named_at new u k ≡ record { module_name = m; field_name = f; places = p ∷ [] })
+-- the names of a pair of one import are kept, and what was not there yet is behind the others
+abbrev pub HasKeptNames : List ℕ → List ℕ → Place → List ℕ → List ℕ → KeptNames → Type 0
+HasKeptNames m f p t u k = ((more : List ℕ) × (u ≡ t ++ more)) × IsNamed u k.«module» × IsNamed u k.name
+    × (named_at u k ≡ record { module_name = m; field_name = f; places = p ∷ [] })
 
 -- one more is imported by the pair at an index, where there was memory; else it is as it was
 abbrev pub HasPushed : ℕ → Place → List KeptNames → List KeptNames → Bool → Type 0
@@ -103,95 +85,110 @@ abbrev pub index_of : List ℕ → List ℕ → List Pair → Option ℕ
 index_of m f [] = None
 index_of m f (p ∷ ps) = if is_pair m f p then Some 0 else option_map suc (index_of m f ps)
 
--- the number of a pair of names
-abbrev pub number_of : List ℕ → List ℕ → ℕ
-number_of m f = (write (write initial m) f).state
+-- the number of a pair of names: a slow one, or a quick one
+abbrev pub number_of : Bool → List ℕ → List ℕ → ℕ
+number_of true m f = slow.finish (slow.write (slow.write (slow.write slow.initial m) (255 ∷ [])) f)
+number_of false m f = (quick.write (quick.write quick.initial m) f).state
 
--- the first of a pair's two slots, among so many; the other is beside it
-abbrev pub slot_for : List ℕ → List ℕ → ℕ → ℕ
-slot_for m f slots = slot_of (number_of m f) slots
+-- its upper half
+abbrev pub mark_of : ℕ → ℕ
+mark_of v = v / 2 ^ 32
 
--- a slot is one of a pair's
-abbrev pub IsSlotOf : List ℕ → List ℕ → List ℕ → ℕ → Type 0
-IsSlotOf slots m f q = (q ≡ slot_for m f (length slots)) ⊎ (q ≡ beside (slot_for m f (length slots)))
+-- slots side by side, so many from the one that is so far from the first
+abbrev pub group : ℕ → ℕ → ℕ → List ℕ
+group first k zero = []
+group first k (suc n) = bit_xor first k ∷ group first (suc k) n
 
--- what is in both: an index, where there are slots
-abbrev pub in_first : List ℕ → List ℕ → List ℕ → Option ℕ
-in_first slots m f = slice_get slots (slot_for m f (length slots))
+-- the slots of a number among so many, in the order in which a pair is looked for: eight by each half of it
+abbrev pub slots_of : ℕ → ℕ → List ℕ
+slots_of v slots = group (slot_of v slots) 0 8 ++ group (slot_of (mark_of v) slots) 0 8
 
-abbrev pub in_other : List ℕ → List ℕ → List ℕ → Option ℕ
-in_other slots m f = slice_get slots (beside (slot_for m f (length slots)))
+-- the upper halves of the numbers of pairs
+abbrev pub AreMarked : Bool → List ℕ → List Pair → Type 0
+AreMarked s marks ps = marks ≡ map (λ (p : Pair). mark_of (number_of s p.0 p.1)) ps
 
--- whether what stands at an index is this pair
-abbrev pub is_there : List ℕ → List ℕ → Option Pair → Bool
-is_there m f None = false
-is_there m f (Some p) = is_pair m f p
+-- where one of these is kept, only a pair of the same may be this one
+abbrev pub TellsApart : List ℕ → List Pair → List ℕ → List ℕ → ℕ → Type 0
+TellsApart marks ps m f x = (i y : ℕ) (p : Pair) → slice_get marks i ≡ Some y → slice_get ps i ≡ Some p → is_pair m f p ≡ true → y ≡ x
 
--- whether it stands at the index that is in a slot
-abbrev pub stands_at : List ℕ → List ℕ → List Pair → Option ℕ → Bool
-stands_at m f ps None = false
-stands_at m f ps (Some i) = is_there m f (slice_get ps i)
+-- what a slot tells of a pair by what stands at its index: nothing does, so the pair is nowhere; the pair does; or another, which tells
+-- nothing
+abbrev pub told_by : List ℕ → List ℕ → ℕ → Option Pair → Option (Option ℕ)
+told_by m f i None = Some None
+told_by m f i (Some p) = if is_pair m f p then Some (Some i) else None
 
--- no pair stands at the index in a slot
-abbrev pub IsFree : List ℕ → List Pair → ℕ → Type 0
-IsFree slots ps q = (x : ℕ) × (slice_get slots q ≡ Some x) × (slice_get ps x ≡ None)
+abbrev pub told : List ℕ → List ℕ → List Pair → Option ℕ → Option (Option ℕ)
+told m f ps None = None
+told m f ps (Some i) = told_by m f i (slice_get ps i)
 
--- one of a pair's slots is free
-abbrev pub HasFree : List ℕ → List Pair → List ℕ → List ℕ → Type 0
-HasFree slots ps m f = IsFree slots ps (slot_for m f (length slots)) ⊎ IsFree slots ps (beside (slot_for m f (length slots)))
+-- what is told, and else what comes behind
+abbrev pub told_or : Option (Option ℕ) → Option ℕ → Option ℕ
+told_or None rest = rest
+told_or (Some r) rest = r
 
--- it stands at the index of neither
-abbrev pub StandsNowhere : List ℕ → List Pair → List ℕ → List ℕ → Type 0
-StandsNowhere slots ps m f = (stands_at m f ps (in_first slots m f) ≡ false) × (stands_at m f ps (in_other slots m f) ≡ false)
+-- where a pair is: as the first of these slots says that tells of it, and else what comes behind them
+abbrev pub looked_up : List ℕ → List Pair → List ℕ → List ℕ → List ℕ → Option ℕ → Option ℕ
+looked_up slots ps m f [] rest = rest
+looked_up slots ps m f (q ∷ qs) rest = told_or (told m f ps (slice_get slots q)) (looked_up slots ps m f qs rest)
 
--- what was found in a slot: nothing, so the index after all pairs may go there; the pair itself, which stands at this index; or not the pair,
--- and the slot is not free
+-- this slot is the first of these that tells of a pair, and no pair stands at its index
+abbrev pub IsFirstFree : List ℕ → List Pair → List ℕ → List ℕ → ℕ → List ℕ → Type 0
+IsFirstFree slots ps m f p [] = ⊥
+IsFirstFree slots ps m f p (q ∷ qs) = ((p ≡ q) × (told m f ps (slice_get slots q) ≡ Some None))
+    ⊎ ((told m f ps (slice_get slots q) ≡ None) × IsFirstFree slots ps m f p qs)
+
+-- none of these tells of a pair
+abbrev pub AreOthers : List ℕ → List Pair → List ℕ → List ℕ → List ℕ → Type 0
+AreOthers slots ps m f [] = Unit {0}
+AreOthers slots ps m f (q ∷ qs) = (told m f ps (slice_get slots q) ≡ None) × AreOthers slots ps m f qs
+
+-- what was found in a slot: nothing, so the index after all pairs may go there; the pair itself, which stands at this index; or another
 abbrev pub HasMetAt : List ℕ → List Pair → List ℕ → List ℕ → ℕ → Met → Type 0
-HasMetAt slots ps m f q (met.Free p i) = (p ≡ q) × (i ≡ length ps) × IsFree slots ps q
-HasMetAt slots ps m f q (met.Same i) = (slice_get slots q ≡ Some i) × (stands_at m f ps (slice_get slots q) ≡ true)
-HasMetAt slots ps m f q met.Other = (stands_at m f ps (slice_get slots q) ≡ false) × (IsFree slots ps q → ⊥)
+HasMetAt slots ps m f q (met.Free p i) = (p ≡ q) × (i ≡ length ps) × (told m f ps (slice_get slots q) ≡ Some None)
+HasMetAt slots ps m f q (met.Same i) = told m f ps (slice_get slots q) ≡ Some (Some i)
+HasMetAt slots ps m f q met.Other = told m f ps (slice_get slots q) ≡ None
 
--- what was found in the slots of a pair: not the pair, and nothing in one of them; the pair itself in the first of them that has it; or not
--- the pair, and none is free
-abbrev pub HasMet : List ℕ → List Pair → List ℕ → List ℕ → Met → Type 0
-HasMet slots ps m f (met.Free q i) = IsSlotOf slots m f q × (i ≡ length ps) × IsFree slots ps q × StandsNowhere slots ps m f
-HasMet slots ps m f (met.Same i) = ((stands_at m f ps (in_first slots m f) ≡ true) × (in_first slots m f ≡ Some i))
-    ⊎ ((stands_at m f ps (in_first slots m f) ≡ false) × (stands_at m f ps (in_other slots m f) ≡ true) × (in_other slots m f ≡ Some i))
-HasMet slots ps m f met.Other = StandsNowhere slots ps m f × (HasFree slots ps m f → ⊥)
+-- the same of slots in their order
+abbrev pub HasMet : List ℕ → List Pair → List ℕ → List ℕ → List ℕ → Met → Type 0
+HasMet slots ps m f qs (met.Free p i) = (i ≡ length ps) × IsFirstFree slots ps m f p qs
+HasMet slots ps m f qs (met.Same i) = (rest : Option ℕ) → looked_up slots ps m f qs rest ≡ Some i
+HasMet slots ps m f qs met.Other = AreOthers slots ps m f qs
+
+-- the pairs in the map, and where they stand
+abbrev pub Others : Type 0
+Others = BTreeMap (Vec ℕ Global × Vec ℕ Global) ℕ
 
 -- the order of pairs of names
-abbrev pub compare_names : List ℕ → List ℕ → String Global × String Global → Ordering
-compare_names m f k = ordering_then (slice_cmp nat_cmp m (string_bytes k.0)) (slice_cmp nat_cmp f (string_bytes k.1))
+abbrev pub compare_names : List ℕ → List ℕ → Vec ℕ Global × Vec ℕ Global → Ordering
+compare_names m f k = ordering_then (slice_cmp nat_cmp m k.0.items) (slice_cmp nat_cmp f k.1.items)
 
-abbrev pub find_names : BTreeMap (String Global × String Global) ℕ → List ℕ → List ℕ → Option ℕ
+abbrev pub find_names : Others → List ℕ → List ℕ → Option ℕ
 find_names others m f = get_by (compare_names m f) others
 
 -- a pair that was sought in the map: it came with this index, where it was new; it has this one; or there was no memory
-abbrev pub HasSought : List ℕ → List ℕ → ℕ → BTreeMap (String Global × String Global) ℕ → BTreeMap (String Global × String Global) ℕ → Sought → Type 0
+abbrev pub HasSought : List ℕ → List ℕ → ℕ → Others → Others → Sought → Type 0
 HasSought m f n old new sought.New = (find_names old m f ≡ None)
     × ((a b : List ℕ) → find_names new a b ≡ cond (is_pair a b (m, f)) (Some n) (find_names old a b))
 HasSought m f n old new (sought.At i) = (find_names old m f ≡ Some i) × (new ≡ old)
 HasSought m f n old new sought.NoMemory = (a b : List ℕ) → find_names new a b ≡ find_names old a b
 
--- where a pair is found: at the index in one of its slots, if it stands there; else where the map has it
-abbrev pub found : List ℕ → BTreeMap (String Global × String Global) ℕ → List Pair → List ℕ → List ℕ → Option ℕ
-found slots others ps m f =
-    if stands_at m f ps (in_first slots m f) then in_first slots m f
-    else (if stands_at m f ps (in_other slots m f) then in_other slots m f else find_names others m f)
+-- where a pair is found: by the slots of its number, and else where the map has it
+abbrev pub found : Bool → List ℕ → Others → List Pair → List ℕ → List ℕ → Option ℕ
+found s slots others ps m f = looked_up slots ps m f (slots_of (number_of s m f) (length slots)) (find_names others m f)
 
 -- exactly these pairs are found, where they stand
-abbrev pub Finds : List ℕ → BTreeMap (String Global × String Global) ℕ → List Pair → Type 0
-Finds slots others ps = (m f : List ℕ) → found slots others ps m f ≡ index_of m f ps
+abbrev pub Finds : Bool → List ℕ → Others → List Pair → Type 0
+Finds s slots others ps = (m f : List ℕ) → found s slots others ps m f ≡ index_of m f ps
 
--- the map has no pair that has a free slot
-abbrev pub IsBehind : List ℕ → BTreeMap (String Global × String Global) ℕ → List Pair → Type 0
-IsBehind slots others ps = (m f : List ℕ) → HasFree slots ps m f → find_names others m f ≡ None
+-- the map has none but these
+abbrev pub IsWithin : Others → List Pair → Type 0
+IsWithin others ps = (m f : List ℕ) → index_of m f ps ≡ None → find_names others m f ≡ None
 
-abbrev pub Holds : List ℕ → BTreeMap (String Global × String Global) ℕ → List Pair → Type 0
-Holds slots others ps = Finds slots others ps × IsBehind slots others ps
+abbrev pub Holds : Bool → List ℕ → Others → List Pair → Type 0
+Holds s slots others ps = Finds s slots others ps × IsWithin others ps
 
 -- a pair was added where it was new; it stands at an index; or there was no memory, and the pairs are found as before
-abbrev pub HasSettled : List ℕ → List ℕ → List Pair → List ℕ → BTreeMap (String Global × String Global) ℕ → Sought → Type 0
-HasSettled m f ps slots others sought.New = (index_of m f ps ≡ None) × Holds slots others (ps ++ (m, f) ∷ [])
-HasSettled m f ps slots others (sought.At i) = (index_of m f ps ≡ Some i) × Holds slots others ps
-HasSettled m f ps slots others sought.NoMemory = Holds slots others ps
+abbrev pub HasSettled : Bool → List ℕ → List ℕ → List Pair → List ℕ → Others → Sought → Type 0
+HasSettled s m f ps slots others sought.New = (index_of m f ps ≡ None) × Holds s slots others (ps ++ (m, f) ∷ [])
+HasSettled s m f ps slots others (sought.At i) = (index_of m f ps ≡ Some i) × Holds s slots others ps
+HasSettled s m f ps slots others sought.NoMemory = Holds s slots others ps

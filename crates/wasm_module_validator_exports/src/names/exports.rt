@@ -5,7 +5,7 @@ ghost use Rattle.wasm_types.specs.decoding.Denials.{Tells, UnlessMemory};
 ghost use Rattle.wasm_types.specs.decoding.declared.error.ErrorKind.TheVariants.{Other};
 ghost use Rattle.wasm_module_validator_exports.specs.names.Exports.{HasTried, IsNew, names_of};
 
-use crate::names::kept::{KeptName, name_of, push_name_in_room};
+use crate::names::kept::{KeptName, make_room, name_of, push_name_in_room};
 use crate::names::slots::{Tried, after, rebuilt, settle};
 use std::alloc::Global;
 use std::collections::BTreeSet;
@@ -160,9 +160,9 @@ impl Exports {
     pub fn add(&mut self, name: &str, kind: ExternalKind, index: u32) -> Tried
         ensures { HasTried (record { name = name.now; kind = kind; index = index }) self.old self.new result }
     {
-        let Ok(()) = self.names.reserve(name.len()) else {
+        if !make_room(&mut self.names, name.len()) {
             return Tried::NoMemory;
-        };
+        }
         let Ok(()) = self.exports.reserve(1) else {
             return Tried::NoMemory;
         };

@@ -1,12 +1,12 @@
 //! Imports, by their names.
 
-ghost use Rattle.std.specs.Prelude.{◌≡◌, ◌++◌, ◌∷◌, ◌-◌, ◌<◌, ◌^◌, [], length, vec_len, vec_capacity, IfSome, option_map, slice_get, IfErr, OnErr, OnOk};
+ghost use Rattle.std.specs.Prelude.{◌≡◌, ◌++◌, ◌∷◌, ◌+◌, ◌-◌, ◌<◌, ◌≤◌, ◌^◌, [], length, vec_len, vec_capacity, IfSome, option_map, slice_get, IfErr, OnErr, OnOk};
 ghost use Rattle.wasm_types.specs.decoding.declared.error.ErrorKind.TheVariants.{OutOfMemory};
-ghost use Rattle.wasm_module_validator_exports.specs.names.Imports.{AreKept, HasAdded, HasKept, HasKeptNames, HasPushed, Holds, all_named, module_at, named_of, pairs_of, with_import};
+ghost use Rattle.wasm_module_validator_exports.specs.names.Imports.{AreKept, HasAdded, HasKeptNames, HasPushed, named_of, with_import};
+ghost use Rattle.wasm_module_validator_exports.specs.names.Kept.{IsNamed, name_at};
 
-use crate::names::kept::{KeptName, name_of, push_name_in_room};
-use crate::names::pairs::{Others, Sought, rebuilt, settle};
-use crate::names::slots::after;
+use crate::names::kept::{KeptName, bytes_of, make_room, name_of, push_name_in_room};
+use crate::names::pairs::{Others, Sought, mark, number, rebuilt, settle};
 use std::alloc::Global;
 use std::collections::BTreeMap;
 use std::marker::Model;
@@ -25,8 +25,8 @@ pub struct Place {
 // A pair of names, where it came first, and what is imported by it.
 #[derive(Drop)]
 pub(crate) struct KeptNames {
-    // Where the name of the module stands, among those that are kept.
-    pub(crate) module: usize,
+    // The name of the module: of pairs of one module that come one after the other it is kept once.
+    pub(crate) module: KeptName,
     // The name of what is imported from it.
     pub(crate) name: KeptName,
     // What is imported first. Nearly every pair is of one import: that takes no memory of its own.
@@ -50,73 +50,37 @@ pub struct NamedImports<'a> {
 /// The imports of a module by their names: each pair of names once, in the order in which they came first. A contract sees them so.
 ///
 /// Which pair an import belongs to is found when it comes, by a number that is computed from its names, so that no one needs memory who asks
-/// for them ([`Imports::get`]). The name of a module is looked for among the last few alone, so it is mostly kept once. The names of what is
-/// imported stand one after the other, so that none takes memory by itself.
+/// for them ([`Imports::get`]). The names stand one after the other, so that none takes memory by itself.
 #[derive(Drop)]
 pub struct Imports {
     alloc: Global,
-    modules: Vec<String>,
     names: Vec<u8>,
     pairs: Vec<KeptNames>,
-    // The index of a pair, in one of the two slots of the number of its names; a slot without one has an index where no pair stands.
+    // Half of the number of each pair.
+    marks: Vec<u32>,
+    // The index of a pair, in one of the slots of its number; a slot without one has an index where no pair stands.
     slots: Vec<u32>,
     // The pairs whose slots others have.
     others: Others,
+    // Whether numbers are of the slow kind.
+    is_slow: bool,
 }
 
 impl Model for Imports {
     ghost use Rattle.std.specs.Prelude.{List};
-    ghost use Rattle.wasm_module_validator_exports.specs.names.Imports.{AreKept, Holds, ImportedName, all_named, pairs_of};
+    ghost use Rattle.wasm_module_validator_exports.specs.names.Imports.{AreKept, AreMarked, Holds, ImportedName, all_named, pairs_of};
 
     ghost Value = { List ImportedName };
 
-    ghost view = { λ i. all_named i.modules.items i.names.items i.pairs.items };
+    ghost view = { λ i. all_named i.names.items i.pairs.items };
 
-    ghost invariant = { λ i. AreKept i.modules.items i.names.items i.pairs.items
-        × Holds i.slots.items i.others (pairs_of (all_named i.modules.items i.names.items i.pairs.items)) };
-}
-
-// The name of a module.
-pub(crate) fn module_of<'a>(modules: &'a [String], kept: &KeptNames) -> &'a str
-    ensures { result.now ≡ module_at modules.now kept.now.«module» }
-{
-    match modules.get(kept.module) {
-        Some(module) => module.as_str(),
-        None => "",
-    }
-}
-
-// Where the name of a module stands among the last few that are kept.
-fn find_module(modules: &[String], module: &str) -> Option<usize>
-    ensures { IfSome result (λ at. at < length modules.now × module_at modules.now at ≡ «module».now) }
-{
-    let count = modules.len();
-    for at in count.saturating_sub(8)..count {
-        if module == modules[at].as_str() {
-            return Some(at);
-        }
-    }
-    None
-}
-
-// Where the name of a module stands, which is kept where it was not found.
-fn keep_module(alloc: Global, modules: &mut Vec<String>, module: &str) -> Option<usize>
-    ensures { HasKept «module».now modules.old.items modules.new.items result }
-{
-    if let Some(at) = find_module(modules.as_slice(), module) {
-        return Some(at);
-    }
-    let at = modules.as_slice().len();
-    let Ok(text) = String::from_str(alloc, module) else {
-        return None;
-    };
-    let Ok(()) = modules.push(text) else {
-        return None;
-    };
-    Some(at)
+    ghost invariant = { λ i. AreKept i.names.items i.pairs.items
+        × AreMarked i.is_slow i.marks.items (pairs_of (all_named i.names.items i.pairs.items))
+        × Holds i.is_slow i.slots.items i.others (pairs_of (all_named i.names.items i.pairs.items)) };
 }
 
 // A pair of names behind the others, in room that is there.
+#[inline(always)]
 fn push_in_room(pairs: &mut Vec<KeptNames>, kept: KeptNames)
     requires { vec_len pairs.old < vec_capacity pairs.old }
     ensures { pairs.new.items ≡ pairs.old.items ++ kept ∷ [] }
@@ -124,34 +88,60 @@ fn push_in_room(pairs: &mut Vec<KeptNames>, kept: KeptNames)
     let _ = pairs.push(kept);
 }
 
-// The names of a pair of one import, kept behind the others.
+// What is kept of its number, in room that is there.
+#[inline(always)]
+fn push_mark(marks: &mut Vec<u32>, mark: u32)
+    requires { vec_len marks.old < vec_capacity marks.old }
+    ensures { marks.new.items ≡ marks.old.items ++ mark ∷ [] }
+{
+    let _ = marks.push(mark);
+}
+
+// The name of a module as the last pair has it, if that is of this module.
+#[inline(always)]
+fn last_module(names: &[u8], pairs: &[KeptNames], module: &str) -> Option<KeptName>
+    requires { AreKept names.now pairs.now }
+    ensures { IfSome result (λ k. IsNamed names.now k × (name_at names.now k ≡ «module».now)) }
+{
+    let Some(last) = pairs.last() else {
+        return None;
+    };
+    if module.as_bytes() == bytes_of(names, last.module) {
+        return Some(last.module);
+    }
+    None
+}
+
+// The names of a pair of one import, kept behind the others in room that is there.
+#[inline(always)]
 fn keep_names(
     alloc: Global,
-    modules: &mut Vec<String>,
     names: &mut Vec<u8>,
+    pairs: &[KeptNames],
     module: &str,
     name: &str,
     place: Place,
-) -> Option<KeptNames>
-    ensures { HasKeptNames «module».now name.now place modules.old.items modules.new.items names.old.items
-        names.new.items result }
+) -> KeptNames
+    requires kept { AreKept names.old.items pairs.now }
+    requires room { vec_len names.old + (length «module».now + length name.now) ≤ vec_capacity names.old }
+    requires short { vec_len names.old + (length «module».now + length name.now) < 2 ^ 32 }
+    ensures { HasKeptNames «module».now name.now place names.old.items names.new.items result }
 {
-    let Some(module) = keep_module(alloc, modules, module) else {
-        return None;
-    };
-    let Ok(()) = names.reserve(name.len()) else {
-        return None;
+    let module = match last_module(names.as_slice(), pairs, module) {
+        Some(module) => module,
+        None => push_name_in_room(names, module),
     };
     let name = push_name_in_room(names, name);
-    Some(KeptNames {
+    KeptNames {
         module,
         name,
         first: place,
         others: Vec::new(alloc),
-    })
+    }
 }
 
 // One import more by names that are there: whether there is memory.
+#[inline(never)]
 fn push_at(pairs: &mut Vec<KeptNames>, at: usize, place: Place) -> bool
     requires { at < length pairs.old.items }
     ensures { HasPushed at place pairs.old.items pairs.new.items result }
@@ -163,29 +153,12 @@ fn push_at(pairs: &mut Vec<KeptNames>, at: usize, place: Place) -> bool
     }
 }
 
-// Slots for one pair more: whether there is memory.
-fn make_room(
-    alloc: Global,
-    slots: &mut Vec<u32>,
-    others: &mut Others,
-    modules: &[String],
-    names: &[u8],
-    pairs: &[KeptNames],
-) -> bool
-    requires kept { AreKept modules.now names.now pairs.now }
-    requires holds { Holds slots.old.items others.old (pairs_of (all_named modules.now names.now pairs.now)) }
-    ensures { Holds slots.new.items others.new (pairs_of (all_named modules.now names.now pairs.now)) }
-{
-    let count = slots.as_slice().len();
-    if count / 4 > pairs.len() {
-        return true;
+// How many slots come after so many, a power of two too.
+fn after(slots: usize) -> usize {
+    if slots < 16 {
+        return 16;
     }
-    let Some((more, found)) = rebuilt(alloc, after(count), modules, names, pairs) else {
-        return false;
-    };
-    *slots = more;
-    *others = found;
-    true
+    slots.saturating_mul(4)
 }
 
 impl<'a> NamedImports<'a> {
@@ -208,11 +181,12 @@ impl Imports {
     {
         Imports {
             alloc,
-            modules: Vec::new(alloc),
             names: Vec::new(alloc),
             pairs: Vec::new(alloc),
+            marks: Vec::new(alloc),
             slots: Vec::new(alloc),
             others: BTreeMap::new(alloc),
+            is_slow: false,
         }
     }
 
@@ -230,57 +204,94 @@ impl Imports {
     {
         let kept = self.pairs.as_slice().get(at)?;
         Some(NamedImports {
-            module: module_of(self.modules.as_slice(), kept),
+            module: name_of(self.names.as_slice(), kept.module),
             name: name_of(self.names.as_slice(), kept.name),
             first: kept.first,
             others: kept.others.as_slice(),
         })
     }
 
+    // Slots for the pairs, in so many slots and by numbers of one kind: whether there is memory.
+    #[cold]
+    #[inline(never)]
+    fn rebuild(&mut self, is_slow: bool, slots: usize) -> bool
+        ensures { self.new ≡ self.old }
+    {
+        let Some((slots, others, marks)) = rebuilt(
+            self.alloc,
+            is_slow,
+            slots,
+            self.names.as_slice(),
+            self.pairs.as_slice(),
+        ) else {
+            return false;
+        };
+        self.slots = slots;
+        self.others = others;
+        self.marks = marks;
+        self.is_slow = is_slow;
+        true
+    }
+
+    // Slots for one pair more, of which few are in the map: whether there is memory.
+    #[inline(always)]
+    fn make_slots(&mut self) -> bool
+        ensures { self.new ≡ self.old }
+    {
+        let slots = self.slots.as_slice().len();
+        let pairs = self.pairs.as_slice().len();
+        if slots / 2 <= pairs {
+            return self.rebuild(self.is_slow, after(slots));
+        }
+        if !self.is_slow && self.others.len() / 2 > 32 + pairs / 512 {
+            return self.rebuild(true, slots);
+        }
+        true
+    }
+
     /// One import more, where there is memory: whether it was. Else they stay.
     pub fn add(&mut self, module: &str, name: &str, place: Place) -> bool
         ensures { HasAdded «module».now name.now place self.old self.new result }
     {
+        if !self.make_slots() {
+            return false;
+        }
         let Ok(()) = self.pairs.reserve(1) else {
             return false;
         };
-        if !make_room(
-            self.alloc,
-            &mut self.slots,
-            &mut self.others,
-            self.modules.as_slice(),
-            self.names.as_slice(),
-            self.pairs.as_slice(),
-        ) {
-            return false;
-        }
-        let Some(kept) = keep_names(
-            self.alloc,
-            &mut self.modules,
-            &mut self.names,
-            module,
-            name,
-            place,
-        ) else {
+        let Ok(()) = self.marks.reserve(1) else {
             return false;
         };
+        if !make_room(&mut self.names, module.len().saturating_add(name.len())) {
+            return false;
+        }
+        let number = number(self.is_slow, module.as_bytes(), name.as_bytes());
         match settle(
             self.alloc,
             &mut self.slots,
             &mut self.others,
-            self.modules.as_slice(),
             self.names.as_slice(),
+            self.pairs.as_slice(),
+            self.marks.as_slice(),
+            number,
+            module.as_bytes(),
+            name.as_bytes(),
+        ) {
+            Sought::New => (),
+            Sought::At(at) => return push_at(&mut self.pairs, at, place),
+            Sought::NoMemory => return false,
+        }
+        let kept = keep_names(
+            self.alloc,
+            &mut self.names,
             self.pairs.as_slice(),
             module,
             name,
-        ) {
-            Sought::New => {
-                push_in_room(&mut self.pairs, kept);
-                true
-            }
-            Sought::At(at) => push_at(&mut self.pairs, at, place),
-            Sought::NoMemory => false,
-        }
+            place,
+        );
+        push_in_room(&mut self.pairs, kept);
+        push_mark(&mut self.marks, mark(number));
+        true
     }
 
     /// One import more: behind those of its names, or with names of its own behind all. Where memory is refused they stay.

@@ -1,7 +1,0 @@
-use Rattle.std.proofs.Common.{take}
-use Rattle.wasm_module_validator_exports.specs.names.Imports.{Holds, all_named, pairs_of}
-use Rattle.wasm_module_validator_exports.proofs.names.pairs.rebuilt.Given as goal
-
--- the pairs so far are found
-abbrev pub invariant-loop-i : goal.invariant-loop-i
-invariant-loop-i l = Holds l.slots.items l.others (pairs_of (all_named l.modules l.names (take l.i l.pairs)))
