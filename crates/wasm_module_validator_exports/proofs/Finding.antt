@@ -1,9 +1,9 @@
 -- Pairs of names by the slots and the map that they are found in.
-use Rattle.std.proofs.Common.{◌≡◌, ◌∙◌, ◌⊎◌, ◌&&◌, ◌==◌, ◌<◌, arith, cond, get_or, ℕ, zero, suc, Bool, true, false, List, [], ◌∷◌, ◌++◌, map, length, slice_get}
+use Rattle.std.proofs.Common.{◌≡◌, ◌∙◌, ◌⊎◌, ◌&&◌, ◌==◌, ◌<◌, ◌+◌, ◌-◌, arith, cond, get_or, ℕ, zero, suc, Bool, true, false, List, [], ◌∷◌, ◌++◌, map, length, slice_get}
 use Rattle.std.proofs.Common.{Option, Some, None, option_map, refl, sym, ap, subst, inl, inr, ⊎_elim, if◌then◌else◌}
 use Rattle.std.proofs.lemmas.Bool.{cases_Bool, cond-true, cond-false, eqb-true}
 use Rattle.std.specs.declared.alloc.Global.{Global}
-use Rattle.std.specs.Prelude.{Vec}
+use Rattle.std.specs.Prelude.{Vec, bit_xor}
 use Rattle.std.specs.Option.{unwrap_or}
 use Rattle.std.specs.Cmp.{IsTotalOrder, IsEquivalence, eq_by_cmp_equiv, then_total, on_total, both_tied}
 use Rattle.std.specs.Cmp.Lexicographic.{slice_cmp, nat_list_cmp_total, texts_ties, bytes_decides}
@@ -18,9 +18,10 @@ use Rattle.wasm_module_validator_exports.specs.declared.names.pairs.Sought.{Soug
 use Rattle.wasm_module_validator_exports.specs.declared.names.pairs.Sought.TheVariants as sought
 use Rattle.wasm_module_validator_exports.specs.names.Exports.{IsPut}
 use Rattle.wasm_module_validator_exports.specs.declared.names.imports.KeptNames.{KeptNames}
-use Rattle.wasm_module_validator_exports.specs.names.Imports.{Pair, Others, AreMarked, AreOthers, Finds, HasMet, HasMetAt, HasSettled, HasSought, Holds, IsFirstFree, IsWithin, TellsApart, all_named, compare_names, find_names, found, index_of, is_pair, looked_up, mark_of, number_of, pairs_of, slots_of, told, told_by, told_or}
+use Rattle.wasm_module_validator_exports.specs.names.Imports.{Pair, Others, AreMarked, AreOthers, Finds, HasMet, HasMetAt, HasSettled, HasSought, Holds, IsFirstFree, IsWithin, TellsApart, all_named, compare_names, find_names, found, group, index_of, is_pair, looked_up, mark_of, number_of, pairs_of, slots_of, told, told_by, told_or}
 use Rattle.wasm_module_validator_exports.specs.names.Kept.{name_at}
 use Rattle.wasm_module_validator_exports.proofs.Keeping.{pair_at, read}
+use Rattle.wasm_module_validator_exports.proofs.Taking.{within}
 
 abbrev Key : Type 0
 Key = Vec ℕ Global × Vec ℕ Global
@@ -207,6 +208,15 @@ module _ (old new : List ℕ) (ps : List Pair) (a b m f : List ℕ) (other : is_
       step None e = found_alike qs r rest i n e
       step (Some s) e = e
 
+-- the first slot that tells of a pair, if that is nowhere, is there
+pub free_inside : (slots : List ℕ) (ps : List Pair) (m f : List ℕ) (p : ℕ) (qs : List ℕ) → IsFirstFree slots ps m f p qs → p < length slots
+free_inside slots ps m f p [] y = absurd y
+free_inside slots ps m f p (k ∷ ks) y = ⊎_elim (λ e. step (slice_get slots k) refl e.0 e.1) (λ e. free_inside slots ps m f p ks e.1) y
+  where
+    step : (o : Option ℕ) → slice_get slots k ≡ o → p ≡ k → told m f ps (slice_get slots k) ≡ Some None → p < length slots
+    step None e same t = absurd (let bad : None ≡ Some None = sym (ap (told m f ps) e) ∙ t in cc)
+    step (Some x) e same t = let l = within slots k x e in omega (arith, l, same)
+
 -- ---- a pair more in a slot
 
 module _ (s : Bool) (old new : List ℕ) (others : Others) (ps : List Pair) (m f : List ℕ) (v q i : ℕ) (last : i ≡ length ps)
@@ -290,8 +300,11 @@ module _ (s : Bool) (old new : List ℕ) (others : Others) (ps : List Pair) (m f
   finds_other a b other =
       let alike : (k : ℕ) → (slice_get new k ≡ slice_get old k) ⊎ ((slice_get new k ≡ Some (length ps)) × (told a b ps (slice_get old k) ≡ Some None)) =
       (λ k. ⊎_elim
-      (λ y. inr (in_it k y, free_for_all a b (slice_get old k)
-      (subst (λ (j : ℕ). told m f ps (slice_get old j) ≡ Some None) (eqb-true q k y) (told_free (slots_of v (length old)) first))))
+      (λ y. inr (
+        in_it k y,
+        free_for_all a b (slice_get old k)
+            (subst (λ (j : ℕ). told m f ps (slice_get old j) ≡ Some None) (eqb-true q k y) (told_free (slots_of v (length old)) first)),
+      ))
       (λ z. inl (elsewhere k z)) (cases_Bool (q == k))) in
       ap (λ (qs : List ℕ). looked_up new more a b qs (rest_of a b)) (same_slots a b)
       ∙ (found_alike old new ps a b m f other alike (slots_of (number_of s a b) (length old)) (index_of a b ps) (rest_of a b) refl (h.1 a b) (h.0 a b)
@@ -405,6 +418,26 @@ module _ (slots : List ℕ) (ps : List Pair) (m f : List ℕ) where
   met_behind q qs (met.Same i) o t = λ rest. ap (λ (r : Option (Option ℕ)). told_or r (looked_up slots ps m f qs rest)) o ∙ t rest
   met_behind q qs met.Other o t = (o, t)
 
+  -- slots side by side
+  further : (first k : ℕ) → k < 8 → group first k (8 - k) ≡ bit_xor first k ∷ group first (k + 1) (8 - (k + 1))
+  further first k below =
+      let e : 8 - k ≡ suc (8 - (k + 1)) = omega (arith, below) in
+      let n : suc k ≡ k + 1 = omega arith in
+      ap (group first k) e ∙ ap (λ (j : ℕ). bit_xor first k ∷ group first j (8 - (k + 1))) n
+
+  pub free_here : (first k p i : ℕ) → k < 8 → HasMetAt slots ps m f (bit_xor first k) (met.Free p i) → HasMet slots ps m f (group first k (8 - k)) (met.Free p i)
+  free_here first k p i below h =
+      subst (λ (qs : List ℕ). HasMet slots ps m f qs (met.Free p i)) (sym (further first k below)) (met_first (bit_xor first k) (group first (k + 1) (8 - (k + 1))) p i h)
+
+  pub same_here : (first k i : ℕ) → k < 8 → HasMetAt slots ps m f (bit_xor first k) (met.Same i) → HasMet slots ps m f (group first k (8 - k)) (met.Same i)
+  same_here first k i below h =
+      subst (λ (qs : List ℕ). HasMet slots ps m f qs (met.Same i)) (sym (further first k below)) (met_same (bit_xor first k) (group first (k + 1) (8 - (k + 1))) i h)
+
+  pub behind_here : (first k : ℕ) (t : Met) → k < 8 → HasMetAt slots ps m f (bit_xor first k) met.Other → HasMet slots ps m f (group first (k + 1) (8 - (k + 1))) t
+      → HasMet slots ps m f (group first k (8 - k)) t
+  behind_here first k t below o h =
+      subst (λ (qs : List ℕ). HasMet slots ps m f qs t) (sym (further first k below)) (met_behind (bit_xor first k) (group first (k + 1) (8 - (k + 1))) t o h)
+
   -- some that tell, before others
   pub free_of_two : (qs rs : List ℕ) (p i : ℕ) → HasMet slots ps m f qs (met.Free p i) → HasMet slots ps m f (qs ++ rs) (met.Free p i)
   free_of_two qs rs p i t = (t.0, go qs t.1)
@@ -500,7 +533,7 @@ tells_apart s marks ps m f v all is i y (a, b) at there same =
 
 -- ---- what an index in a slot leads to
 
-module _ (slots marks : List ℕ) (t : List ℕ) (ks : List KeptNames) (m f : List ℕ) (q x : ℕ) (inside : q < length slots) (was : x ≡ get_or slots q x) where
+module _ (slots t : List ℕ) (ks : List KeptNames) (m f : List ℕ) (q x : ℕ) (inside : q < length slots) (was : x ≡ get_or slots q x) where
   abbrev all : List Pair
   all = pairs_of (all_named t ks)
 

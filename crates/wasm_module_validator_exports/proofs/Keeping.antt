@@ -2,10 +2,11 @@
 use Rattle.std.specs.Prelude.{IsUtf8}
 use Rattle.std.proofs.Common.{◌≡◌, ◌∙◌, ◌<◌, ◌+◌, take, arith, get_or, set, true, false, Bool, ℕ, zero, suc, pred, List, [], ◌∷◌, ◌++◌, map, length, slice_get, Option, Some, None, option_map, refl, sym, ap, subst, if◌then◌else◌}
 use Rattle.std.specs.Option.{unwrap_or}
-use Rattle.std.proofs.lemmas.List.{append_assoc, length-map, map-append, take_more}
+use Rattle.std.proofs.lemmas.List.{append-nil, append_assoc, length-map, map-append, take_more}
 use Rattle.wasm_module_validator_exports.specs.declared.names.imports.Place.{Place}
 use Rattle.wasm_module_validator_exports.specs.declared.names.imports.KeptNames.{KeptNames}
-use Rattle.wasm_module_validator_exports.specs.names.Imports.{AreKept, AreMarked, HasAdded, HasKeptNames, HasPushed, ImportedName, Pair, all_named, has_names, index_of, is_pair, mark_of, named_at, number_of, pairs_of, with_import}
+use Rattle.wasm_module_validator_exports.specs.names.Imports.{AreKept, AreMarked, HasAdded, HasKept, HasKeptNames, HasPushed, ImportedName, Pair, all_named, has_names, index_of, is_pair, mark_of, named_at, number_of, pairs_of, with_import}
+use Rattle.wasm_module_validator_exports.specs.declared.names.kept.KeptName.{KeptName}
 use Rattle.wasm_module_validator_exports.specs.names.Kept.{IsNamed, name_at}
 use Rattle.wasm_module_validator_exports.proofs.Kept.{last_name, last_named, name_still, named_still}
 
@@ -32,33 +33,28 @@ module _ (t more : List ℕ) where
 
 -- ---- names of a pair, kept
 
-module _ (m f : List ℕ) (p : Place) (t u : List ℕ) (k : KeptNames) (n : k.name.end ≡ length u) (utf8 : IsUtf8 f) (first : k.first ≡ p) (others : k.others.items ≡ []) where
-  -- the name of the module was there
-  pub keeps_field : u ≡ t ++ f → k.name.start ≡ length t → IsNamed t k.«module» → name_at t k.«module» ≡ m → HasKeptNames m f p t u k
-  keeps_field long start named same =
-      let last : k.name.end ≡ length (t ++ f) = n ∙ ap length long in
-      let field : name_at u k.name ≡ f = ap (λ (v : List ℕ). name_at v k.name) long ∙ last_name t f k.name start last in
-      let above : name_at u k.«module» ≡ m = ap (λ (v : List ℕ). name_at v k.«module») long ∙ (name_still t f k.«module» named ∙ same) in (
-        (f, long),
-        subst (λ (v : List ℕ). IsNamed v k.«module») (sym long) (named_still t f k.«module» named),
-        subst (λ (v : List ℕ). IsNamed v k.name) (sym long) (last_named t f k.name start last utf8),
-        λ i. record { module_name = above i; field_name = field i; places = first i ∷ others i },
-      )
+-- the name of a module that was there
+pub keeps_old : (m t v : List ℕ) (k : KeptName) → v ≡ t → IsNamed v k × (name_at v k ≡ m) → HasKept m t t k
+keeps_old m t v k same h =
+    (([], sym (append-nil t)), subst (λ (w : List ℕ). IsNamed w k) same h.0, ap (λ (w : List ℕ). name_at w k) (sym same) ∙ h.1)
 
-  -- or it was put behind the others first
-  pub keeps_both : (s : List ℕ) → s ≡ t ++ m → k.«module».start ≡ length t → k.«module».end ≡ length s → IsUtf8 m → u ≡ s ++ f → k.name.start ≡ length s → HasKeptNames m f p t u k
-  keeps_both s put begin end well long start =
-      let last : k.«module».end ≡ length (t ++ m) = end ∙ ap length put in
-      let named : IsNamed s k.«module» = subst (λ (v : List ℕ). IsNamed v k.«module») (sym put) (last_named t m k.«module» begin last well) in
-      let same : name_at s k.«module» ≡ m = ap (λ (v : List ℕ). name_at v k.«module») put ∙ last_name t m k.«module» begin last in
-      let field_last : k.name.end ≡ length (s ++ f) = n ∙ ap length long in
-      let field : name_at u k.name ≡ f = ap (λ (v : List ℕ). name_at v k.name) long ∙ last_name s f k.name start field_last in
-      let above : name_at u k.«module» ≡ m = ap (λ (v : List ℕ). name_at v k.«module») long ∙ (name_still s f k.«module» named ∙ same) in (
-        (m ++ f, long ∙ (ap (λ (v : List ℕ). v ++ f) put ∙ append-assoc t m f)),
-        subst (λ (v : List ℕ). IsNamed v k.«module») (sym long) (named_still s f k.«module» named),
-        subst (λ (v : List ℕ). IsNamed v k.name) (sym long) (last_named s f k.name start field_last utf8),
-        λ i. record { module_name = above i; field_name = field i; places = first i ∷ others i },
-      )
+-- and one that was put behind the others
+pub keeps_new : (m t u : List ℕ) (k : KeptName) → u ≡ t ++ m → k.start ≡ length t → k.end ≡ length u → IsUtf8 m → HasKept m t u k
+keeps_new m t u k put start end utf8 =
+    let last : k.end ≡ length (t ++ m) = end ∙ ap length put in
+    ((m, put), subst (λ (w : List ℕ). IsNamed w k) (sym put) (last_named t m k start last utf8), ap (λ (w : List ℕ). name_at w k) put ∙ last_name t m k start last)
+
+pub keeps_names : (m f : List ℕ) (p : Place) (t s u : List ℕ) (k : KeptNames) → HasKept m t s k.«module» → u ≡ s ++ f → k.name.start ≡ length s → k.name.end ≡ length u → IsUtf8 f
+    → k.first ≡ p → k.others.items ≡ [] → HasKeptNames m f p t u k
+keeps_names m f p t s u k ((more, put), named, same) long start end utf8 first others =
+    let last : k.name.end ≡ length (s ++ f) = end ∙ ap length long in
+    let field : name_at u k.name ≡ f = ap (λ (v : List ℕ). name_at v k.name) long ∙ last_name s f k.name start last in
+    let above : name_at u k.«module» ≡ m = ap (λ (v : List ℕ). name_at v k.«module») long ∙ (name_still s f k.«module» named ∙ same) in (
+      (more ++ f, long ∙ (ap (λ (v : List ℕ). v ++ f) put ∙ append_assoc t more f)),
+      subst (λ (v : List ℕ). IsNamed v k.«module») (sym long) (named_still s f k.«module» named),
+      subst (λ (v : List ℕ). IsNamed v k.name) (sym long) (last_named s f k.name start last utf8),
+      λ i. record { module_name = above i; field_name = field i; places = first i ∷ others i },
+    )
 
 -- ---- an import more, by the pairs
 

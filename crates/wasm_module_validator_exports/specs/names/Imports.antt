@@ -12,6 +12,7 @@ use Rattle.std.specs.declared.cmp.Ordering.{Ordering}
 use Rattle.wasm_module_validator_exports.specs.declared.names.imports.Place.{Place}
 use Rattle.wasm_module_validator_exports.specs.declared.names.imports.KeptNames.{KeptNames}
 use Rattle.wasm_module_validator_exports.specs.declared.names.imports.NamedImports.{NamedImports}
+use Rattle.wasm_module_validator_exports.specs.declared.names.kept.KeptName.{KeptName}
 use Rattle.wasm_module_validator_exports.specs.declared.names.pairs.Met.{Met}
 use Rattle.wasm_module_validator_exports.specs.declared.names.pairs.Met.TheVariants as met
 use Rattle.wasm_module_validator_exports.specs.declared.names.pairs.Sought.{Sought}
@@ -47,6 +48,10 @@ all_named t ks = map (named_at t) ks
 abbrev pub AreKept : List ℕ → List KeptNames → Type 0
 AreKept t [] = Unit {0}
 AreKept t (k ∷ ks) = IsNamed t k.«module» × IsNamed t k.name × AreKept t ks
+
+-- the name of a module is kept, and what was not there yet is behind the others
+abbrev pub HasKept : List ℕ → List ℕ → List ℕ → KeptName → Type 0
+HasKept m t u k = ((more : List ℕ) × (u ≡ t ++ more)) × IsNamed u k × (name_at u k ≡ m)
 
 -- the names of a pair of one import are kept, and what was not there yet is behind the others
 abbrev pub HasKeptNames : List ℕ → List ℕ → Place → List ℕ → List ℕ → KeptNames → Type 0

@@ -2,7 +2,7 @@
 
 ghost use Rattle.std.specs.Prelude.{◌≡◌, ◌++◌, ◌∷◌, ◌+◌, ◌-◌, ◌<◌, ◌≤◌, ◌^◌, [], length, vec_len, vec_capacity, IfSome, option_map, slice_get, IfErr, OnErr, OnOk};
 ghost use Rattle.wasm_types.specs.decoding.declared.error.ErrorKind.TheVariants.{OutOfMemory};
-ghost use Rattle.wasm_module_validator_exports.specs.names.Imports.{AreKept, HasAdded, HasKeptNames, HasPushed, named_of, with_import};
+ghost use Rattle.wasm_module_validator_exports.specs.names.Imports.{AreKept, HasAdded, HasKept, HasKeptNames, HasPushed, named_of, with_import};
 ghost use Rattle.wasm_module_validator_exports.specs.names.Kept.{IsNamed, name_at};
 
 use crate::names::kept::{KeptName, bytes_of, make_room, name_of, push_name_in_room};
@@ -112,6 +112,22 @@ fn last_module(names: &[u8], pairs: &[KeptNames], module: &str) -> Option<KeptNa
     None
 }
 
+// The name of a module: as the last pair has it, or kept behind the others in room that is there.
+#[inline(always)]
+fn keep_module(names: &mut Vec<u8>, pairs: &[KeptNames], module: &str) -> KeptName
+    requires kept { AreKept names.old.items pairs.now }
+    requires room { vec_len names.old + length «module».now ≤ vec_capacity names.old }
+    requires short { vec_len names.old + length «module».now < 2 ^ 32 }
+    ensures kept { HasKept «module».now names.old.items names.new.items result }
+    ensures len { vec_len names.new ≤ vec_len names.old + length «module».now }
+    ensures capacity { vec_capacity names.old ≤ vec_capacity names.new }
+{
+    match last_module(names.as_slice(), pairs, module) {
+        Some(kept) => kept,
+        None => push_name_in_room(names, module),
+    }
+}
+
 // The names of a pair of one import, kept behind the others in room that is there.
 #[inline(always)]
 fn keep_names(
@@ -127,10 +143,7 @@ fn keep_names(
     requires short { vec_len names.old + (length «module».now + length name.now) < 2 ^ 32 }
     ensures { HasKeptNames «module».now name.now place names.old.items names.new.items result }
 {
-    let module = match last_module(names.as_slice(), pairs, module) {
-        Some(module) => module,
-        None => push_name_in_room(names, module),
-    };
+    let module = keep_module(names, pairs, module);
     let name = push_name_in_room(names, name);
     KeptNames {
         module,
