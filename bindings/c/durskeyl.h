@@ -1,4 +1,5 @@
-/* durskeyl.h: a validator of WebAssembly core modules that is proved right. Version 0.2.0. The library needs the C library alone.
+/* durskeyl.h: a validator of WebAssembly core modules that is proved right. Version 0.2.0. The library needs the C library alone. Operators on
+ * vectors (SIMD) are judged only if you ask for them: settings.features |= DURSKEYL_VECTORS.
  *
  * PROVED, of the library's source: durskeyl_validate answers DURSKEYL_VALID only if the bytes spell a module that is valid by the written
  * rules under the settings (docs/RULES.md names them), and a kind that is a verdict only if they do not; fault->kind is that
@@ -15,7 +16,7 @@
  * calls end on all bytes, read only what they are given, and write only the fault, the rows or the handle. Except for the four calls on a handle
  * no call depends on an earlier one, keeps anything, or leaves anything to free.
  * NOT PROVED: which of several faults is told, its kind, offset, text and limit; time, memory and stack; that the system refused, if the answer is
- *   DURSKEYL_OUT_OF_MEMORY; this header; the kit's functions of memory; the C library. The file PROVED, which is installed beside LICENSE, says whether the archive was built by the
+ *   DURSKEYL_OUT_OF_MEMORY; this header; the calls on words, and those that give text; the kit's functions of memory; the C library. The file PROVED, which is installed beside LICENSE, says whether the archive was built by the
  *   toolchain from what it proved; if it was not, durskeyl_version has the bit DURSKEYL_NOT_PROVED.
  *
  * THE CALLER PROMISES, and nothing checks it:
@@ -40,6 +41,10 @@ extern "C" {
 /* The version, 8 bits a number: 0.2.0. Before 1.0.0 a new second number may change what there is, a new third one changes no call;
  * from then on a new second number only adds functions, features or limits. */
 #define DURSKEYL_VERSION UINT32_C(0x000200)
+
+/* The version, and in parentheses whether the library was built by the toolchain from what it proved, by which logic and from which commit: a text
+ * for people in one line, as "0.2.0 (proved, logic dac8208d650f15bf, commit 919306..)", that ends in a 0 and stays. */
+const char *durskeyl_version_text(void);
 
 /* The bit of durskeyl_version by which a library says that it was built without its proof (install-library --unproved). */
 #define DURSKEYL_NOT_PROVED UINT32_C(0x80000000)
@@ -154,6 +159,9 @@ enum durskeyl_set {
     DURSKEYL_DEFAULT = 6          /* WebAssembly 3.0 with threads, and the component model's */
 };
 
+/* What browsers' engines take by default today: WebAssembly 3.0 with threads, and operators on vectors. A later version may have more. */
+#define DURSKEYL_ENGINES (durskeyl_features(DURSKEYL_WASM3) | DURSKEYL_VECTORS)
+
 typedef struct {
     uint64_t features;            /* bits of enum durskeyl_feature, and DURSKEYL_VECTORS */
     uint32_t limits[DURSKEYL_LIMITS]; /* by enum durskeyl_limit */
@@ -257,6 +265,33 @@ void durskeyl_drop(durskeyl_pieces *pieces);
  * capacity. With capacity 0 it only counts. Of other bytes the answer and the rows mean nothing. */
 uint64_t durskeyl_imports(const uint8_t *bytes, size_t length, durskeyl_import *rows, size_t capacity);
 uint64_t durskeyl_exports(const uint8_t *bytes, size_t length, durskeyl_export *rows, size_t capacity);
+
+/* Words. They are those of wasm-check, and `vectors` for DURSKEYL_VECTORS. Texts end in a 0; those that are answered stay. */
+
+/* The word of a feature, as "custom-page-sizes"; NULL if these are not the bits of one. */
+const char *durskeyl_feature_name(uint64_t feature);
+
+/* The bits of the feature with this word; 0 if there is none. */
+uint64_t durskeyl_feature_named(const char *name);
+
+/* The word of a limit, as "body-bytes", by its place (enum durskeyl_limit); NULL if there is none. */
+const char *durskeyl_limit_name(uint32_t limit);
+
+/* The place of the limit with this word; DURSKEYL_LIMITS if there is none. */
+uint32_t durskeyl_limit_named(const char *name);
+
+/* Reads a list as `wasm-check --features` does: words with a comma between them, applied in order to the set by default. A word is a set (mvp, wasm1,
+ * wasm2, wasm3, lime1, default, all, or -all for none), a feature, or "no-" or "-" and a feature. Two more words are "vectors", which a set leaves as it was, and
+ * the set "engines", which is DURSKEYL_ENGINES. Answers NULL, and writes the set; or the first unknown word, in the list, and writes nothing. */
+const char *durskeyl_read_features(const char *list, uint64_t *features);
+
+/* Reads a list as `wasm-check --limits` does: words NAME=N with a comma between them, where N has one to ten digits and is not above the limit's
+ * ceiling. Answers NULL, and sets these of the DURSKEYL_LIMITS limits; or the first wrong word, in the list, and writes nothing. */
+const char *durskeyl_read_limits(const char *list, uint32_t *limits);
+
+/* What a caller can do about a fault, for people, if something is known: that DURSKEYL_VECTORS judges operators on vectors, of a module that
+ * was refused because it has one; else NULL. */
+const char *durskeyl_hint(const durskeyl_fault *fault);
 
 #ifdef __cplusplus
 }

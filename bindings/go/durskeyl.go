@@ -9,13 +9,15 @@
 //
 // A module that comes in pieces is written into a Validator, which is an io.Writer.
 //
-// It calls the library that ./install-library of the repository installs, which pkg-config finds (PKG_CONFIG_PATH). What is proved is that
-// library, and only if IsProved. Calls may come from any number of goroutines; nobody may write the bytes meanwhile. A program that is started
-// with a library of another version than that of this package panics at its start: structures may have another size there.
+// Operators on vectors (SIMD) are judged only if you ask for them: settings.Features |= durskeyl.Vectors.
+//
+// It calls the library that link.go names: in a release the one that lies in this folder, in the repository the one that ./install-library
+// installs, which pkg-config finds (PKG_CONFIG_PATH). What is proved is that library, and only if IsProved. Calls may come from any number of
+// goroutines; nobody may write the bytes meanwhile. A program that is started with a library of another version than that of this package
+// panics at its start: structures may have another size there.
 package durskeyl
 
 /*
-#cgo pkg-config: durskeyl
 #include <durskeyl.h>
 #if DURSKEYL_VERSION >> 8 != 2
 #error "the package durskeyl needs durskeyl.h of its own version, 0.2"
@@ -51,6 +53,27 @@ const (
 	TooLong        Kind = 7 // no verdict: more bytes would have to be held than a module in pieces may hold
 )
 
+// String is the kind in words.
+func (kind Kind) String() string {
+	switch kind {
+	case 0:
+		return "valid"
+	case EndOfData:
+		return "end of data"
+	case MissingFeature:
+		return "missing feature"
+	case OutOfMemory:
+		return "out of memory"
+	case Invalid:
+		return "invalid"
+	case BadSettings:
+		return "bad settings"
+	case TooLong:
+		return "too long"
+	}
+	return fmt.Sprintf("kind %d", uint32(kind))
+}
+
 // Error is why there is no valid module.
 type Error struct {
 	Kind   Kind
@@ -78,21 +101,44 @@ func (err *Error) IsVerdict() bool {
 func (err *Error) Error() string {
 	switch {
 	case err.IsVerdict():
-		return fmt.Sprintf("invalid at %#x: %s", err.Offset, Shown(err.Message))
+		if hint := err.Hint(); hint != "" {
+			return fmt.Sprintf("%s (%s)", err.Line(), hint)
+		}
+		return err.Line()
 	case err.Kind == OutOfMemory:
 		return "out of memory"
+	case err.Kind == BadSettings && err.Message != "":
+		return "bad settings: " + err.Message
 	case err.Kind == BadSettings:
 		return "bad settings"
 	case err.Kind == TooLong:
 		return "an item is longer than may be held"
 	}
-	return fmt.Sprintf("no verdict: unknown kind %d", err.Kind)
+	return fmt.Sprintf("no verdict: unknown kind %d", uint32(err.Kind))
+}
+
+// Line is a refusal as wasm-check writes it behind the name of a file.
+func (err *Error) Line() string {
+	return fmt.Sprintf("invalid at %#x: %s", err.Offset, Shown(err.Message))
+}
+
+// Hint is what a caller can do about it, if something is known: an operator on vectors is refused unless Vectors is set.
+func (err *Error) Hint() string {
+	if err.Kind == Invalid && err.Message == "unexpected SIMD opcode: 0xfd" {
+		return "durskeyl.Vectors judges operators on vectors"
+	}
+	return ""
 }
 
 // LibraryVersion is that of the library: three numbers.
 func LibraryVersion() (first, second, third uint8) {
 	version := uint32(C.durskeyl_version())
 	return uint8(version >> 16), uint8(version >> 8), uint8(version)
+}
+
+// VersionText is the library's version, whether it is proved, by which logic and from which commit: a line for people.
+func VersionText() string {
+	return C.GoString(C.durskeyl_version_text())
 }
 
 // IsProved says whether the library says of itself that it was built by the toolchain from what it proved. The file PROVED, installed beside
@@ -123,7 +169,34 @@ func IsValid(module []byte) bool {
 func (settings *Settings) Validate(module []byte) error {
 	var fault C.durskeyl_fault
 	kind := C.durskeyl_validate(settings.held(), first(module), C.size_t(len(module)), &fault)
-	return errorOf(kind, &fault)
+	return settings.told(errorOf(kind, &fault))
+}
+
+// told is the error of a call by these settings; of bad ones its message tells what is bad: features that the library does not know, or the
+// first limit that it refuses alone.
+func (settings *Settings) told(err error) error {
+	bad, is := err.(*Error)
+	if !is || bad.Kind != BadSettings || bad.Message != "" {
+		return err
+	}
+	if unknown := settings.Features &^ (All.Features() | Vectors); unknown != 0 {
+		bad.Message = fmt.Sprintf("unknown features %#x", uint64(unknown))
+		return bad
+	}
+	for place, most := range settings.Limits {
+		one := DefaultSettings()
+		one.Limits[place] = most
+		var fault C.durskeyl_fault
+		module := []byte("\x00asm\x01\x00\x00\x00")
+		if C.durskeyl_validate(one.held(), first(module), C.size_t(len(module)), &fault) == C.DURSKEYL_BAD_SETTINGS {
+			bad.Message = fmt.Sprintf("%v=%d is above its ceiling", Limit(place), most)
+			if place > int(LimitTypeSize) {
+				bad.Message = fmt.Sprintf("the limit %d is not known", place)
+			}
+			return bad
+		}
+	}
+	return bad
 }
 
 // errorOf is what a call answered, and nil if that is a yes.

@@ -246,3 +246,71 @@ func TestGoroutines(t *testing.T) {
 	}
 	all.Wait()
 }
+
+func TestWords(t *testing.T) {
+	for got, want := range map[string]string{
+		(FeatureReferenceTypes | FeatureSIMD | Vectors).String(): "reference-types,simd,vectors",
+		(Features(1) | 1<<40).String():                           "mutable-global,0x10000000000",
+		LimitStringBytes.String():                                "string-bytes",
+		EndOfData.String():                                       "end of data",
+	} {
+		if got != want {
+			t.Errorf("%s in the place of %s", got, want)
+		}
+	}
+	if isProved := strings.Contains(VersionText(), " (proved, "); isProved != IsProved() {
+		t.Error(VersionText())
+	}
+}
+
+// Operators on vectors are refused until they are asked for, and the error says how.
+func TestVectors(t *testing.T) {
+	module := append([]byte("\x00asm\x01\x00\x00\x00\x01\x04\x01\x60\x00\x00\x03\x02\x01\x00\x0a\x17\x01\x15\x00\xfd\x0c"), make([]byte, 16)...)
+	module = append(module, 0x1a, 0x0b)
+	err := Validate(module)
+	if err == nil || err.Error() != "invalid at 0x17: unexpected SIMD opcode: 0xfd (durskeyl.Vectors judges operators on vectors)" {
+		t.Error(err)
+	}
+	for _, set := range []Features{Engines.Features(), Default.Features() | Vectors} {
+		settings := DefaultSettings()
+		settings.Features = set
+		if err := settings.Validate(module); err != nil {
+			t.Error(err)
+		}
+	}
+}
+
+func TestLists(t *testing.T) {
+	for list, want := range map[string]Features{
+		"wasm2":                           Wasm2.Features(),
+		"wasm1,threads,vectors,no-floats": Wasm1.Features()&^FeatureFloats | FeatureThreads | Vectors,
+		"vectors,wasm1":                   Wasm1.Features() | Vectors,
+		"engines":                         Wasm3.Features() | Vectors,
+	} {
+		if got, err := ParseFeatures(list); err != nil || got != want {
+			t.Errorf("%s is %v, %v in the place of %v", list, got, err, want)
+		}
+	}
+	for list, said := range map[string]string{"": `""`, "wasm2,,threads": `""`, "gc,SIMD,x": `"SIMD"`, "simd\x00": `"simd\x00"`} {
+		if _, err := ParseFeatures(list); err == nil || !strings.HasSuffix(err.Error(), ": "+said) {
+			t.Errorf("%q: %v", list, err)
+		}
+	}
+}
+
+func TestBadSettingsAreNamed(t *testing.T) {
+	high, unknown := DefaultSettings(), DefaultSettings()
+	high.Limits[LimitStringBytes] = 1<<32 - 1
+	unknown.Features |= 1 << 40
+	for settings, said := range map[*Settings]string{
+		high:    "bad settings: string-bytes=4294967295 is above its ceiling",
+		unknown: "bad settings: unknown features 0x10000000000",
+	} {
+		_, err := NewValidator(settings, MostHeld)
+		for _, err := range []error{err, settings.Validate(header), settings.ValidateOn(3, header)} {
+			if err == nil || err.Error() != said {
+				t.Errorf("%v in the place of %s", err, said)
+			}
+		}
+	}
+}

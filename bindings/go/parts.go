@@ -46,5 +46,5 @@ func (err *Error) before(other *Error) bool {
 func (settings *Settings) validatePart(module []byte, part, parts int) error {
 	var fault C.durskeyl_fault
 	kind := C.durskeyl_validate_part(settings.held(), first(module), C.size_t(len(module)), C.uint32_t(part), C.uint32_t(parts), &fault)
-	return errorOf(kind, &fault)
+	return settings.told(errorOf(kind, &fault))
 }

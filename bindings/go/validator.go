@@ -43,7 +43,7 @@ func NewValidator(settings *Settings, most uint64) (*Validator, error) {
 	validator := &Validator{}
 	var fault C.durskeyl_fault
 	kind := C.durskeyl_begin(settings.held(), C.uint64_t(most), &validator.pieces, &fault)
-	if err := errorOf(kind, &fault); err != nil {
+	if err := settings.told(errorOf(kind, &fault)); err != nil {
 		return nil, err
 	}
 	runtime.SetFinalizer(validator, (*Validator).Close)

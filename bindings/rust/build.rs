@@ -1,5 +1,6 @@
-//! Finds the library: in the folder `DURSKEYL_LIB_DIR`, or as the program `pkg-config` says. Its archive is linked if it is there, so that the
-//! program needs no shared library when it starts; with `DURSKEYL_STATIC=0` the shared library is.
+//! Finds the library: in the folder `DURSKEYL_LIB_DIR`; or in `lib` beside this file, where a release has it; or as the program `pkg-config`
+//! says. Its archive is linked if it is there, so that the program needs no shared library when it starts; with `DURSKEYL_STATIC=0` the shared
+//! library is, which no release of this crate has.
 //!
 //! A build script of a crate that depends on this one finds the folder in `DEP_DURSKEYL_LIBDIR`.
 
@@ -16,7 +17,7 @@ fn main() {
     }
     let folder = match env::var("DURSKEYL_LIB_DIR") {
         Ok(folder) => folder,
-        Err(_) => folder_told(),
+        Err(_) => own_folder().unwrap_or_else(folder_told),
     };
     let has_archive = Path::new(&folder).join("libdurskeyl.a").is_file();
     let is_static = env::var("DURSKEYL_STATIC").map_or(has_archive, |it| it != "0");
@@ -30,6 +31,20 @@ fn main() {
         // reaches the tests and examples here; Cargo hands no such word on to a program that depends on this crate
         println!("cargo:rustc-link-arg=-Wl,-rpath,{folder}");
     }
+}
+
+/// The folder of the archive that was released with this crate, if it is there and can be linked for the processor and system that are asked for.
+fn own_folder() -> Option<String> {
+    let folder = format!("{}/lib", env::var("CARGO_MANIFEST_DIR").ok()?);
+    let asked = |name: &str| env::var(format!("CARGO_CFG_TARGET_{name}")).unwrap_or_default();
+    let is_there = Path::new(&folder).join("libdurskeyl.a").is_file();
+    if !is_there || env::var("DURSKEYL_STATIC").is_ok_and(|it| it == "0") {
+        return None;
+    }
+    if (asked("ARCH"), asked("OS")) != ("x86_64".to_string(), "linux".to_string()) {
+        stop("this release of the crate has the library for x86_64 Linux alone");
+    }
+    Some(folder)
 }
 
 /// The folder in which `pkg-config` says that the library is.

@@ -242,6 +242,85 @@ static void pieces(const durskeyl_settings *settings) {
     want("not taken", durskeyl_end(&it, &fault), DURSKEYL_VALID);
 }
 
+// A list that is read, and its first wrong word, from its place in the list on; NULL if there is none.
+static void reads_features(const char *list, const char *wanted, uint64_t bits) {
+    uint64_t set = 12345;
+    const char *found = durskeyl_read_features(list, &set);
+    want(list, found && wanted ? (uint64_t)strcmp(found, wanted) : (uint64_t)(found != wanted), 0);
+    want(list, set, found ? 12345 : bits);
+}
+
+static void reads_limits(const durskeyl_settings *settings, const char *list, const char *wanted, int place, uint32_t most) {
+    durskeyl_settings set = *settings, other = *settings;
+    const char *found = durskeyl_read_limits(list, set.limits);
+    want(list, found && wanted ? (uint64_t)strcmp(found, wanted) : (uint64_t)(found != wanted), 0);
+    if (!found) other.limits[place] = most;
+    want(list, memcmp(&set, &other, sizeof set), 0);
+}
+
+// The words of features and limits. The rows are as `wasm-check --features` and `--limits` say, and refuse, in docs/USAGE.md.
+static void words(const durskeyl_settings *settings) {
+#define ROW(name, by_default, ceiling) {DURSKEYL_##name, #name, ceiling},
+    const struct { uint32_t limit; const char *name; uint32_t ceiling; } table[] = {DURSKEYL_LIMIT_TABLE(ROW)};
+#undef ROW
+    const uint64_t wasm1 = durskeyl_features(DURSKEYL_WASM1), usual = durskeyl_features(DURSKEYL_DEFAULT);
+    char list[100];
+    for (uint64_t bit = 0; bit < 29; bit++) {
+        const uint64_t of_two = bit == 3 ? DURSKEYL_REFERENCE_TYPES : bit == 5 ? DURSKEYL_BULK_MEMORY : UINT64_C(1) << bit;
+        const char *name = durskeyl_feature_name(of_two);
+        want("a feature has a word", name != NULL, 1);
+        want(name, durskeyl_feature_named(name), of_two);
+        snprintf(list, sizeof list, "mvp,%s", name);
+        reads_features(list, NULL, durskeyl_features(DURSKEYL_MVP) | of_two);
+        snprintf(list, sizeof list, "all,vectors,no-%s", name);
+        reads_features(list, NULL, (durskeyl_features(DURSKEYL_ALL) | DURSKEYL_VECTORS) & ~of_two);
+    }
+    want("no word for two", durskeyl_feature_name(DURSKEYL_SIMD | DURSKEYL_GC) == NULL, 1);
+    want("no word for none", durskeyl_feature_name(0) == NULL && durskeyl_feature_name(UINT64_C(1) << 29) == NULL, 1);
+    want("the word of a feature", strcmp(durskeyl_feature_name(DURSKEYL_CUSTOM_PAGE_SIZES), "custom-page-sizes"), 0);
+    want("no such feature", durskeyl_feature_named("SIMD") | durskeyl_feature_named("") | durskeyl_feature_named("wasm2") | durskeyl_feature_named("gc "), 0);
+    reads_features("wasm1", NULL, wasm1);
+    reads_features("wasm2,threads,no-simd", NULL, (durskeyl_features(DURSKEYL_WASM2) | DURSKEYL_THREADS) & ~(uint64_t)DURSKEYL_SIMD);
+    reads_features("lime1,default", NULL, usual);
+    reads_features("vectors,wasm1", NULL, wasm1 | DURSKEYL_VECTORS);
+    reads_features("engines,no-vectors", NULL, durskeyl_features(DURSKEYL_WASM3));
+    reads_features("no-gc", NULL, usual & ~(uint64_t)DURSKEYL_GC);
+    reads_features("", "", usual);
+    reads_features("gc,", "", usual);
+    reads_features(",gc", ",gc", usual);
+    reads_features("gc,GC,simd", "GC,simd", usual);
+    reads_features("gc,simd ", "simd ", usual);
+    reads_features("no-wasm2", "no-wasm2", usual);
+    reads_features("no-", "no-", usual);
+    reads_features("no-no-gc", "no-no-gc", usual);
+    reads_features("-gc", NULL, usual & ~(uint64_t)DURSKEYL_GC);
+    reads_features("vectors,-all,floats", NULL, DURSKEYL_FLOATS | DURSKEYL_VECTORS);
+    reads_features("-", "-", usual);
+    reads_features("--gc", "--gc", usual);
+    reads_features("-wasm2", "-wasm2", usual);
+    for (size_t i = 0; i < sizeof table / sizeof *table; i++) {
+        const char *name = durskeyl_limit_name(table[i].limit);
+        want("a limit has a word", name != NULL, 1);
+        want(name, strlen(name), strlen(table[i].name));
+        for (size_t k = 0; name[k]; k++) want(name, (uint64_t)(name[k] == '-' ? '_' : name[k] - 32), (uint64_t)table[i].name[k]);
+        want(name, durskeyl_limit_named(name), table[i].limit);
+        snprintf(list, sizeof list, "%s=%u", name, (unsigned)table[i].ceiling);
+        reads_limits(settings, list, NULL, (int)table[i].limit, table[i].ceiling);
+        snprintf(list, sizeof list, "%s=%u", name, (unsigned)table[i].ceiling + 1);
+        reads_limits(settings, list, list, 0, 0);
+    }
+    want("no such limit", durskeyl_limit_name(DURSKEYL_TYPE_SIZE + 1) == NULL && durskeyl_limit_name(UINT32_MAX) == NULL, 1);
+    want("no such limit", durskeyl_limit_named("local") + durskeyl_limit_named("") + durskeyl_limit_named("Locals"), 3 * DURSKEYL_LIMITS);
+    reads_limits(settings, "locals=1,locals=7", NULL, DURSKEYL_LOCALS, 7);
+    reads_limits(settings, "locals=0000000007", NULL, DURSKEYL_LOCALS, 7);
+    const char *const wrong_limits[] = {"locals", "locals=", "locals=-1", "locals=+1", "locals=1x", "locals=00000000007", "locals=4294967297", "none=1", "", "=1"};
+    for (size_t i = 0; i < sizeof wrong_limits / sizeof *wrong_limits; i++) {
+        reads_limits(settings, wrong_limits[i], wrong_limits[i], 0, 0);
+        snprintf(list, sizeof list, "types=1,%s", wrong_limits[i]);
+        reads_limits(settings, list, list + 8, 0, 0);
+    }
+}
+
 static void calls(void) {
     durskeyl_settings settings, other;
     durskeyl_fault fault;
@@ -290,15 +369,24 @@ static void calls(void) {
     uint8_t vectors[48] = {0, 'a', 's', 'm', 1, 0, 0, 0, 1, 4, 1, 0x60, 0, 0, 3, 2, 1, 0, 0x0a, 23, 1, 21, 0, 0xfd, 12, [41] = 0x1a, 0x0b};
     want("vectors", durskeyl_validate(&settings, vectors, 43, &fault), DURSKEYL_INVALID);
     want("no limit refused vectors", fault.limit, 0);
+    want("what allows vectors", strcmp(durskeyl_hint(&fault), "DURSKEYL_VECTORS judges operators on vectors"), 0);
     other = settings;
     other.features |= DURSKEYL_VECTORS;
     want("vectors, judged", durskeyl_validate(&other, vectors, 43, &fault), DURSKEYL_VALID);
+    want("nothing to allow", durskeyl_hint(&fault) == NULL, 1);
+    other.features = DURSKEYL_ENGINES;
+    want("vectors, as engines do", durskeyl_validate(&other, vectors, 43, &fault), DURSKEYL_VALID);
+    want("what engines take", DURSKEYL_ENGINES, durskeyl_features(DURSKEYL_WASM3) | DURSKEYL_VECTORS);
     vectors[41] = 0x45; // i32.eqz of a vector
     want("vectors, judged invalid", durskeyl_validate(&other, vectors, 43, &fault), DURSKEYL_INVALID);
     vectors[41] = 0x1a;
     other.features = durskeyl_features(DURSKEYL_WASM1) | DURSKEYL_VECTORS;
     want("vectors without their feature", durskeyl_validate(&other, vectors, 43, &fault), DURSKEYL_MISSING_FEATURE);
+    want("the feature's word", strcmp(durskeyl_feature_name(fault.detail), "simd"), 0);
+    want("nothing to allow", durskeyl_hint(&fault) == NULL, 1);
     want("version", durskeyl_version() & ~DURSKEYL_NOT_PROVED, DURSKEYL_VERSION);
+    want("version's text tells what its bit tells", strstr(durskeyl_version_text(), " (NOT PROVED, ") != NULL, durskeyl_version() >> 31);
+    want("version's text, proved", strstr(durskeyl_version_text(), " (proved, ") != NULL, !(durskeyl_version() >> 31));
     want("features of an unknown set", durskeyl_features(7), UINT64_MAX);
     other = settings;
     other.features = durskeyl_features(99);
@@ -311,6 +399,7 @@ static void calls(void) {
     limits(&settings);
     features(&settings);
     pieces(&settings);
+    words(&settings);
     want("header is valid", durskeyl_is_valid(header, 8), 1);
     want("cut off is valid", durskeyl_is_valid(header, 7), 0);
     want("nothing is valid", durskeyl_is_valid(NULL, 0), 0);

@@ -51,17 +51,17 @@ row("throw-ref-of-nothing", fn(AT, "0a", E), none("exnref"))
 row("try-table-catches", thrower(try_table(catch(0)), i32(7), "0800", E, i32(0), E, r=["i32"]))
 row("try-table-catches-outwards", thrower("0240", try_table(catch(1)), E, E, i32(0), E, r=["i32"]))
 row("try-table-label-too-far", thrower(AT, try_table(catch(1)), i32(7), "0800", E, i32(0), E, r=["i32"]), BLOCK)
-row("try-table-catches-another-type", thrower(AT, try_table(catch(0)), E, i64(0), E, r=["i64"]), CAUGHT)
-row("try-table-catches-to-nothing", thrower(AT, try_table(catch(0)), E, E), CAUGHT)
+row("try-table-catches-another-type", thrower(AT, try_table(catch(0)), E, i64(0), E, r=["i64"]), "type mismatch: expected i64, found i32")
+row("try-table-catches-to-nothing", thrower(AT, try_table(catch(0)), E, E), "type mismatch: catch label must have same number of types as tag")
 row("try-table-catches-unknown-tag", thrower(AT, try_table(["0001", leb(0)]), E, i32(0), E, r=["i32"]), "unknown tag 1: tag index out of bounds")
 row("try-table-catches-with-reference", thrower(try_table(catch_ref(0)), E, "00", E, r=["i32", SOME_EXN]))
 row("try-table-catches-with-null", thrower(try_table(catch_ref(0)), E, "00", E, r=["i32", EXN]))
-row("try-table-catches-reference-alone", thrower(AT, try_table(catch_ref(0)), E, "00", E, r=[EXN]), CAUGHT)
-row("try-table-catches-without-reference", thrower(AT, try_table(catch_ref(0)), E, "00", E, r=["i32"]), CAUGHT)
+row("try-table-catches-reference-alone", thrower(AT, try_table(catch_ref(0)), E, "00", E, r=[EXN]), "type mismatch: catch_ref label must have one more type than tag types")
+row("try-table-catches-without-reference", thrower(AT, try_table(catch_ref(0)), E, "00", E, r=["i32"]), "type mismatch: catch_ref label must have one more type than tag types")
 row("try-table-catches-all", thrower(try_table(catch_all(0)), E, E))
-row("try-table-catches-all-to-number", thrower(AT, try_table(catch_all(0)), E, i32(0), E, r=["i32"]), CAUGHT)
+row("try-table-catches-all-to-number", thrower(AT, try_table(catch_all(0)), E, i32(0), E, r=["i32"]), "type mismatch: catch_all label must have no result types")
 row("try-table-catches-all-references", thrower(try_table(catch_all_ref(0)), E, "00", E, r=[SOME_EXN]))
-row("try-table-catches-all-as-function", thrower(AT, try_table(catch_all_ref(0)), E, "00", E, r=["funcref"]), CAUGHT)
+row("try-table-catches-all-as-function", thrower(AT, try_table(catch_all_ref(0)), E, "00", E, r=["funcref"]), "type mismatch: catch_all_ref label must a subtype of (ref exn)")
 row("try-table-second-clause-too-far", thrower(AT, try_table(catch_all(0), catch_all(1)), E, E), BLOCK)
 
 # ---- the frame
@@ -74,5 +74,5 @@ row("try-table-branch-to-itself", thrower(try_table(ty="7f"), i32(1), "0c00", E,
 
 # ---- the older form is a feature of its own
 
-row("older-try-off", thrower(AT, "0640", E, E), "legacy exceptions support is not enabled")
+row("older-try-off", thrower(AT, "0640", E, E), "legacy_exceptions feature required for try instruction")
 row("rethrow-off", thrower(AT, "0900", E), "legacy exceptions support is not enabled")

@@ -37,12 +37,12 @@ told("too-many-types", HEADER + "01 03 c1 84 3d", 0xa, "types count exceeds limi
 told("struct-type", HEADER + "01 03 01 5f 00")
 told("vector-parameter", HEADER + "01 05 01 60 01 7b 00")
 told("unknown-type", HEADER + "01 04 01 60 00 00 03 02 01 01 0a 04 01 02 00 0b", 0x11, "unknown type 1: type index out of bounds")
-told("missing-code", HEADER + "01 04 01 60 00 00 03 02 01 00", 0x12, "sections have inconsistent lengths")
+told("missing-code", HEADER + "01 04 01 60 00 00 03 02 01 00", 0x12, "function section has non-zero count but code section is absent")
 told(
     "two-bodies-for-one",
     HEADER + "01 04 01 60 00 00 03 02 01 00 0a 07 02 02 00 0b 02 00 0b",
-    0x19,
-    "code section entry exceeds number of functions",
+    0x14,
+    "function and code section have inconsistent lengths",
 )
 told("two-functions", HEADER + "01 04 01 60 00 00 03 03 02 00 00 0a 08 02 02 00 0b 03 00 01 0b")
 told(
@@ -133,7 +133,7 @@ told(
     "too many locals: locals exceed maximum",
 )
 told("block", HEADER + "01 04 01 60 00 00 03 02 01 00 0a 07 01 05 00 02 40 0b 0b")
-told("vector-operator", HEADER + "01 04 01 60 00 00 03 02 01 00 0a 06 01 04 00 fd 0c 0b", 0x19, "unexpected end-of-file")
+told("vector-operator", HEADER + "01 04 01 60 00 00 03 02 01 00 0a 06 01 04 00 fd 0c 0b", 0x17, "unexpected SIMD opcode: 0xfd")
 told("no-operator", HEADER + "01 04 01 60 00 00 03 02 01 00 0a 05 01 03 00 16 0b", 0x17, "illegal opcode: 0x16")
 
 # order, globals, types, memories
@@ -194,7 +194,7 @@ told(
     "wrong-data-count",
     HEADER + "01 04 01 60 00 00 03 02 01 00 0c 01 02 0a 07 01 05 00 fc 09 00 0b 0b 03 01 01 00",
     0x23,
-    "sections have inconsistent lengths",
+    "data count and data section have inconsistent lengths",
 )
 told("start", HEADER + "01 04 01 60 00 00 03 02 01 00 08 01 00 0a 04 01 02 00 0b")
 told(
@@ -204,7 +204,7 @@ told(
     "invalid start function type",
 )
 told("global-of-earlier-global", HEADER + "06 0b 02 7f 00 41 2a 0b 7f 00 23 00 0b")
-told("global-of-itself", HEADER + "06 0b 02 7f 00 41 2a 0b 7f 00 23 01 0b", 0x12, "unknown global: global index out of bounds")
+told("global-of-itself", HEADER + "06 0b 02 7f 00 41 2a 0b 7f 00 23 01 0b", 0x12, "unknown global 1: global index out of bounds")
 told("table-not-defaultable", HEADER + "04 05 01 64 70 00 00", 0xb, "type mismatch: non-defaultable element type")
 told(
     "ref-func-as-data-offset",
@@ -228,5 +228,5 @@ told(
     "legacy-try-off",
     HEADER + "01 09 02 60 00 01 7f 60 01 7f 00 03 02 01 00 0d 03 01 00 01 0a 0d 01 0b 00 06 7f 41 07 08 00 07 00 0b 0b",
     0x21,
-    "legacy exceptions support is not enabled",
+    "legacy_exceptions feature required for try instruction",
 )

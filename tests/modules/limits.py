@@ -45,7 +45,11 @@ row("too-many-fields", mod(types=[["5f", AT, leb(10001)]]), "struct fields size 
 row("too-many-types-of-group", mod(types=[["4e", AT, leb(1000001)]]), "rec group types size is out of bounds")
 row("name-too-long", mod(imports=[["a18d", AT, "06"]]), "string size out of bounds")
 row("size-of-five-bytes", [H, "018480808000", "01600000"])
-row("export-of-exact-kind", mod(types=[ft([], [])], funcs=[0], exports=[exp("a", "20", 0)], code=[body(E)]))
+row(
+    "export-of-exact-kind",
+    mod(types=[ft([], [])], funcs=[0], exports=[[name("a"), "20", AT, leb(0)]], code=[body(E)]),
+    "Exact type is not allowed in the exports",
+)
 row("types-alone", mod(types=[ft(["i32", "i64"], ["i32"])]))
 row("sub-final", mod(types=["50005f00", "4f01005f00", [AT, "5001015f00"]]), "sub type cannot have a final super type")
 row("field-dropped-by-subtype", mod(types=["50005f017f00", [AT, "5001005f00"]]), "sub type must match super type")
@@ -65,7 +69,7 @@ row("call-indirect-of-typed-table", fn(i32(0), "110000", E, tables=["63000001"])
 row(
     "call-indirect-of-struct-table",
     mod(types=[ft([], []), "5f00"], funcs=[0], tables=["63010001"], code=[body(i32(0), AT, "110000", E)]),
-    "indirect calls must go through a table with type <= funcref",
+    "type mismatch: indirect calls must go through a table with type <= funcref",
 )
 
 # ---- what is deep, or large

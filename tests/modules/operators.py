@@ -80,9 +80,9 @@ row("unknown-type-of-block-result", fn(AT, "026304", "00", E, "1a", E), "unknown
 ALIGN = "malformed memop alignment: alignment must not be larger than natural"
 OFF = "offset out of range: must be <= 2**32"
 ATOM = "atomic instructions must always specify maximum alignment"
-row("load-alignment-too-large", fn(i32(0), AT, "280300", "1a", E, mems=[MEM]), ALIGN)
-row("load-byte-alignment-too-large", fn(i32(0), AT, "2c0100", "1a", E, mems=[MEM]), ALIGN)
-row("store-alignment-too-large", fn(i32(0), F64, AT, "390400", E, mems=[MEM]), ALIGN)
+row("load-alignment-too-large", fn(i32(0), AT, "280300", "1a", E, mems=[MEM]), "invalid memop alignment: alignment must not be larger than natural")
+row("load-byte-alignment-too-large", fn(i32(0), AT, "2c0100", "1a", E, mems=[MEM]), "invalid memop alignment: alignment must not be larger than natural")
+row("store-alignment-too-large", fn(i32(0), F64, AT, "390400", E, mems=[MEM]), "invalid memop alignment: alignment must not be larger than natural")
 row("alignment-natural-or-less", fn(i32(0), "280200", "1a", i32(0), "280000", "1a", i32(0), "2b0300", "1a", E, mems=[MEM]))
 row("alignment-flag-too-large", fn(i32(0), "28", AT, "1000", "1a", E, mems=[MEM]), "malformed memop alignment: alignment too large")
 row("atomic-alignment-too-small", fn(i32(0), AT, "fe100100", "1a", E, mems=["030101"]), ATOM)
@@ -163,9 +163,9 @@ row(
 row("br-table-types-differ", fn("027e", "027f", i64(0), i32(0), AT, "0e01", "0001", E, "1a", i64(0), E, "1a", E), mis("i32", "i64"))
 row("br-table-by-i64", fn(i64(0), AT, "0e0000", E), mis("i32", "i64"))
 ELSE = "`else` found outside `if` block"
-row("else-without-if", fn("0240", "05", AT, E, E), ELSE)
-row("else-in-function", fn("05", AT, E), ELSE)
-row("second-else", fn(i32(0), "0440", "05", "05", AT, E, E), ELSE)
+row("else-without-if", fn("0240", "05", AT, E, E), "`else` found outside `If` block")
+row("else-in-function", fn("05", AT, E), "`else` found outside `If` block")
+row("second-else", fn(i32(0), "0440", "05", "05", AT, E, E), "`else` found outside `If` block")
 row("if-without-else-with-result", fn(i32(0), "047f", i32(0), AT, E, "1a", E), none("i32"))
 row(
     "if-without-else-types-differ",
@@ -232,7 +232,7 @@ row(
 row(
     "call-indirect-of-externref",
     fn(i32(0), AT, "110000", E, tables=[TABX]),
-    "indirect calls must go through a table with type <= funcref",
+    "type mismatch: indirect calls must go through a table with type <= funcref",
 )
 row("call-indirect-by-i64", fn(i64(0), AT, "110000", E, tables=[TAB]), mis("i32", "i64"))
 row("call-indirect-64-by-i32", fn(i32(0), AT, "110000", E, tables=[TAB64]), mis("i64", "i32"))
@@ -372,5 +372,5 @@ row(
     "invalid var_u32: integer representation too long",
 )
 row("i64-constant-too-large", fn("42", "80808080808080808080"[:18], AT, "01", "1a", E), "invalid var_i64: integer too large")
-row("block-type-unknown", fn("02", "60", AT, E, E), "invalid function type")
+row("block-type-unknown", fn("02", AT, "60", E, E), "invalid value type")
 row("local-type-unknown", mod(types=[ft([], [])], funcs=[0], code=[["01", "01", AT, "40", E]]), "invalid value type")

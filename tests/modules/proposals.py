@@ -53,7 +53,7 @@ desc("ref.get_desc of a type without one", "2000", AT, "fb2204", "1a", E, messag
 desc("ref.cast_desc_eq", "2005", "2001", "fb2300", "1a", "2005", "2002", "fb246200", "1a", E)
 desc("ref.cast_desc_eq to a type without one", "2005", "2001", AT, "fb2304", "1a", E, message="expected a type with a descriptor")
 desc("br_on_cast_desc_eq", "026400", "2005", "2001", "fb2501006e00", "00", E, "1a", E)
-desc("br_on_cast_desc_eq to another label", "0240", "2005", "2001", AT, "fb2501006e00", "1a", E, E, message="type mismatch: br_on_cast target has no label types")
+desc("br_on_cast_desc_eq to another label", "0240", "2005", "2001", AT, "fb2501006e00", "1a", E, E, message="type mismatch: br_on_cast to label with empty types, must have a reference type")
 desc("br_on_cast_desc_eq_fail", "026e", "2005", "2001", "fb2601006e00", "1a", "00", E, "1a", E)
 
 # ---- shared everything: globals of a number, of references, of references of the host, and one that may not be written; tables of

@@ -50,13 +50,13 @@ EXPLAINED = [
     ("late.wasm", [], "0x18: operators remaining after end of function body or expression", [
         "in the code section, function 0", "of type (func)", "operator 1 of the body, at 0x18, is misspelt or out of place", SPELLING],
         {**PLAIN, "operator_number": 1, "operator_offset": 0x18}),
-    ("less.wasm", [], "0x19: sections have inconsistent lengths", [
-        "after the code section", "rules: WebAssembly 3.0, binary format, modules"],
-        {"after": "code"}),
-    ("more.wasm", [], "0x19: code section entry exceeds number of functions", [
-        "in the code section, function 1", "rules: WebAssembly 3.0, binary format, modules, code section"],
-        {"section": "code", "function": 1}),
-    ("short.wasm", [], "0x19: unexpected end of the code section", [
+    ("less.wasm", [], "0x15: function and code section have inconsistent lengths", [
+        "after the function section", "rules: WebAssembly 3.0, binary format, modules"],
+        {"after": "function"}),
+    ("more.wasm", [], "0x14: function and code section have inconsistent lengths", [
+        "after the function section", "rules: WebAssembly 3.0, binary format, modules"],
+        {"after": "function"}),
+    ("short.wasm", [], "0x19: unexpected end-of-file", [
         "in the code section (0x15 to 0x19)", "rules: WebAssembly 3.0, binary format, modules, code section"],
         {"section": "code", "section_offset": 0x15, "section_end": 0x19}),
     ("kind.wasm", [], "0x10: invalid value type", [
@@ -165,5 +165,5 @@ def explain_more(it):
         "  in the header", "  rules: WebAssembly 3.0, binary format, modules", "--", "1"])
     it.want("no explanation in pieces", ["--explain", "--pieces=1", "stack.wasm"], [mismatch, "--", "1"])
     it.want("no section", ["--explain", "cut.wasm"], [
-        "cut.wasm: invalid at 0xa: unexpected end of the section", "  after the header", "  rules: WebAssembly 3.0, binary format, modules", "--", "1"])
+        "cut.wasm: invalid at 0xa: unexpected end-of-file", "  after the header", "  rules: WebAssembly 3.0, binary format, modules", "--", "1"])
     it.want("quiet and explained", ["--quiet", "--explain", "stack.wasm"], ["--", "1"])

@@ -47,6 +47,11 @@ def name_by_list(room, want):
     want("names in a list", listed(b"0.wasm\0001.wasm\000"), ["0.wasm: valid", "1.wasm: valid", "--", "0"], cwd=room)
     want("the last name without the byte 0", listed(b"1.wasm\0000.wasm"), ["1.wasm: valid", "0.wasm: valid", "--", "0"], cwd=room)
     want("names from standard input", ["--files0-from", "-"], ["2.wasm: valid", "--", "0"], given=b"2.wasm\000", cwd=room)
+    given = "wasm-check: -: cannot open"
+    want("a list that names the input that it comes from", ["--files0-from=-"], ["--", given, "2"], given=b"0.wasm\000-\0002.wasm", cwd=room)
+    want("the same, as JSON", ["--json", "--keep-going", "--files0-from=-"],
+         ["--", given, '{"fault":"cannot open","file":"-","hint":"the list comes from standard input"}', "2"], given=b"-", cwd=room)
+    want("a file whose list names standard input", listed(b"-\0002.wasm"), ["-: valid", "2.wasm: valid", "--", "0"], given=b"\0asm\1\0\0\0", cwd=room)
     want("an empty list", listed(b""), ["--", "0"], cwd=room)
     want("the list for a file", listed(b"names"), ["names: invalid at 0x0: magic header not detected: bad magic number", "--", "1"], cwd=room)
     want("an empty name", listed(b"0.wasm\000\0001.wasm\000"), ["--", "wasm-check: : cannot open", "2"], cwd=room)

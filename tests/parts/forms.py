@@ -62,8 +62,13 @@ def tell_json(it):
         '{"file":"memories.wasm","valid":false,"offset":10,"kind":"limit","message":"multiple memories",'
         '"limit":"memories","hint":"--limits memories=N sets this limit"}', "--", "1"])
     it.want("JSON, a component", ["--json", "--features=no-component-model", "component.wasm"], [
-        '{"file":"component.wasm","valid":false,"offset":0,"kind":"missing-feature",'
+        '{"file":"component.wasm","valid":false,"offset":0,"kind":"other",'
         '"message":"encoded as a component but the WebAssembly component model feature is not enabled"}', "--", "1"])
+    it.want("JSON, a padded zero", ["--json", "--features=no-multi-memory", "padded.wasm"], [
+        '{"file":"padded.wasm","valid":false,"offset":29,"kind":"missing-feature","message":"zero byte expected"}', "--", "1"])
+    it.want("JSON, a type that names its own group", ["--json", "--features=no-gc", "group.wasm"], [
+        '{"file":"group.wasm","valid":false,"offset":11,"kind":"missing-feature",'
+        '"message":"unknown type 0: type index out of bounds because the GC proposal is disabled","feature":"gc","hint":"--features gc allows it"}', "--", "1"])
     it.want("JSON, a file gone", ["--json", "good.wasm", "gone\n"], [
         "--", "wasm-check: gone\\u{a}: cannot open", '{"fault":"cannot open","file":"gone\\u000a","hint":"no such file"}', "2"])
     it.want("JSON, a limit past its ceiling", ["--json", "--limits=locals=1000001", "good.wasm"], [

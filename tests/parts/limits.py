@@ -22,6 +22,11 @@ LIMITED = {
 }
 
 
+# More parameters and more results than a limit may allow: no option helps. A function type of 1,001 numbers, in a section of 1,007 bytes.
+NUMBERS = b"\xe9\x07" + b"\x7f" * 1001
+PAST = {"params": b"\x60" + NUMBERS + b"\x00", "results": b"\x60\x00" + NUMBERS}
+
+
 def run(program):
     """Each limit is named by the refusal of a module that is past it."""
     differ = 0
@@ -36,4 +41,10 @@ def run(program):
             told_of = json.loads(answered(program, ["--json", "--explain", f"--limits={limit}={number}", path])[0])
             differ += compare(f"the limit {limit}", [str(told_of.get(it)) for it in ("kind", "limit", "hint")], ["limit", limit, f"--limits {limit}=N sets this limit"])
             differ += compare(f"the chapter of {limit}", [told_of["explanation"]["rules"]], ["WebAssembly 3.0, appendix, implementation limitations"])
+        for limit, function in PAST.items():
+            with open(f"{room}/past.wasm", "wb") as it:
+                it.write(b"\0asm\1\0\0\0\1\xee\x07\1" + function)
+            told_of = json.loads(answered(program, ["--json", f"{room}/past.wasm"])[0])
+            wanted = ["limit", limit, "no option raises this limit"]
+            differ += compare(f"{limit} past their ceiling", [str(told_of.get(it)) for it in ("kind", "limit", "hint")], wanted)
     return differ

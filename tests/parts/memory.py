@@ -32,7 +32,7 @@ TAKING = ["m42", "struct-get-of-subtype", "module-information", "array-new-fixed
 
 def refuse_to_program(program, refused):
     """The same of the program, on a header, on modules whole and in pieces, and on two files of which the second is invalid: no file of which
-    memory ran out has a line, and the status is 2."""
+    memory ran out has a line, and the status is 2. No growth is refused without this answer; only a list that shrinks may stay as it is."""
     # 101 is this program's own status, if there is no memory for its words
     is_told = lambda line, status, told, fault: status in (2, 101) and told in ("", "m42.wasm: valid\n") and "out of memory" in fault
     ways = [[], ["--pieces=1"], ["--pieces=4"]]
@@ -41,12 +41,12 @@ def refuse_to_program(program, refused):
             it.write(bytes.fromhex("0061736d01000000"))
         files = [f"{room}/a.wasm", *(f"{CHECK}/data/{name}.wasm" for name in TAKING)]
         runs = [([program, "run", *way, file], "") for way in ways for file in files]
-        differ = not refused.sweep_all("modules whole and in pieces", runs, is_told)
+        differ = not refused.sweep_all("modules whole and in pieces", runs, is_told, must_tell=True)
     here = os.getcwd()
     os.chdir(f"{CHECK}/data")
     try:
         runs = [([program, "run", *way, "m42.wasm", "bad.wasm"], "") for way in ways]
-        return differ + (not refused.sweep_all("two files", runs, is_told))
+        return differ + (not refused.sweep_all("two files", runs, is_told, must_tell=True))
     finally:
         os.chdir(here)
 

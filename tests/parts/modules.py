@@ -3,11 +3,15 @@ from common import CHECK, compare, told, words_of, worked_names
 
 # By `expression` nothing tells at which offset an operator was refused.
 WAYS = ["expression", "offsets", "operators", "lent", "owned", "bytes"]
+# A caller that reads each operator before it visits it is told what its reading met.
+READ_FIRST = {"vector-operator.wasm": "invalid at 0x19: unexpected end-of-file"}
 
 
 def verdict(line, way):
     """The verdict as it is told where operators are visited in this way."""
-    text = line.split(": ", 1)[1]
+    name, text = line.split(": ", 1)
+    if way in ("lent", "owned"):
+        text = READ_FIRST.get(name, text)
     if way == "expression" and text.startswith("invalid"):
         return "invalid: " + text.split(": ", 1)[1]
     return text

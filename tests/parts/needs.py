@@ -13,9 +13,9 @@ MODULES = {
 }
 
 
-def is_valid(it, name, listed):
-    """Whether a worked module is valid by a list of features."""
-    words = [it.program, "run", "--quiet", "--vectors", "--features", listed, name]
+def is_valid(it, name, listed, switch=("--vectors",)):
+    """Whether a worked module is valid by a list of features, with operators on vectors or without."""
+    words = [it.program, "run", "--quiet", *switch, "--features", listed, name]
     return subprocess.run(words, capture_output=True, cwd=f"{CHECK}/data").returncode == 0
 
 
@@ -25,8 +25,10 @@ def tell_worked(it):
     ran = subprocess.run([it.program, "run", "--needs", "--keep-going", *names], capture_output=True, text=True, cwd=f"{CHECK}/data")
     lists = [line.split(": needs ") for line in ran.stdout.splitlines() if ": needs " in line]
     it.differ += compare("some are valid", [len(lists) > 100], [True])
-    for name, listed in lists:
+    for name, needed in lists:
+        listed, *switch = needed.split(" ")
         words = listed.split(",")
+        it.differ += compare(f"{name} needs {needed}", [str(is_valid(it, name, listed, given)) for given in (switch, [])], ["True", str(not switch)])
         tried = [listed] + [",".join(words[:k] + words[k + 1:]) for k in range(1, len(words))]
         wanted = [words[0] == "mvp"] + [True] + [False] * (len(words) - 1)
         it.differ += compare(f"{name} needs {listed}", [words[0] == "mvp"] + [is_valid(it, name, each) for each in tried], wanted)
@@ -38,15 +40,15 @@ def run(program):
             with open(f"{it.folder}/{name}", "wb") as out:
                 out.write(bytes.fromhex(module))
         it.want("needs", ["--needs", "good.wasm", "bad.wasm", "vector.wasm", "memories.wasm"], [
-            "good.wasm: needs mvp", f"bad.wasm: invalid at 0x18: {BAD}", "vector.wasm: needs mvp,simd", "memories.wasm: needs mvp,multi-memory", "--", "1"])
+            "good.wasm: needs mvp", f"bad.wasm: invalid at 0x18: {BAD}", "vector.wasm: needs mvp,simd --vectors", "memories.wasm: needs mvp,multi-memory", "--", "1"])
         it.want("needs of single features", ["--needs", *MODULES], [
             "sign.wasm: needs mvp,sign-extension", "copy.wasm: needs mvp,bulk-memory-opt", "padded.wasm: needs mvp,call-indirect-overlong",
             "global.wasm: needs mvp,mutable-global", "--", "0"])
         it.want("needs, as JSON", ["--needs", "--json", "vector.wasm", "bad.wasm"], [
-            '{"file":"vector.wasm","valid":true,"needs":"mvp,simd"}',
+            '{"file":"vector.wasm","valid":true,"needs":"mvp,simd","vectors":true}',
             f'{{"file":"bad.wasm","valid":false,"offset":24,"kind":"types","message":"{BAD}"}}', "--", "1"])
         it.want("needs, quiet", ["--needs", "--quiet", "vector.wasm"], ["--", "0"])
-        it.want("needs, explained", ["--needs", "--explain", "vector.wasm"], ["vector.wasm: needs mvp,simd", "--", "0"])
+        it.want("needs, explained", ["--needs", "--explain", "vector.wasm"], ["vector.wasm: needs mvp,simd --vectors", "--", "0"])
         it.want("needs under a limit", ["--needs", "--limits=locals=1", "locals.wasm"], [
             "locals.wasm: invalid at 0x17: too many locals: locals exceed maximum", "--", "1"])
         for other, told in (("--features=gc", "--features <LIST>"), ("--pieces=3", "--pieces <N>")):

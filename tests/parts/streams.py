@@ -22,9 +22,20 @@ def full(program, words, cwd):
     return [*ran.stderr.decode().splitlines(), str(ran.returncode)]
 
 
+def written_input(program, closed, words, cwd):
+    """What `wasm-check` answers if its standard input is a file that is open to be written, and these descriptors are closed."""
+    def before():
+        os.dup2(os.open("written", os.O_WRONLY | os.O_CREAT), 0)
+        for descriptor in closed:
+            os.close(descriptor)
+
+    ran = subprocess.run([program, "run", *words], capture_output=True, cwd=cwd, preexec_fn=before)
+    return [*ran.stdout.decode().splitlines(), "--", *ran.stderr.decode().splitlines(), str(ran.returncode)]
+
+
 def run(program):
     """Standard streams that are closed: no file is read or written in their place."""
-    header, empty = bytes.fromhex("0061736d01000000"), "invalid at 0x0: unexpected end-of-file"
+    header = bytes.fromhex("0061736d01000000")
     unwritten = ["--", "wasm-check: cannot write", "2"]
     differ = 0
 
@@ -36,12 +47,18 @@ def run(program):
         for name, contents in (("a.wasm", header), ("wrong.wasm", header + b"\x63")):
             with open(f"{room}/{name}", "wb") as it:
                 it.write(contents)
-        want("standard input closed", [0], ["-"], [f"-: {empty}", "--", "1"])
-        want("standard input closed, a file after it", [0], ["-", "a.wasm"], [f"-: {empty}", "a.wasm: valid", "--", "1"])
-        want("standard input closed, a file before it", [0], ["a.wasm", "-", "-"], ["a.wasm: valid", f"-: {empty}", f"-: {empty}", "--", "1"])
-        want("standard input and error closed", [0, 2], ["-", "a.wasm"], [f"-: {empty}", "a.wasm: valid", "--", "1"])
+        shut = "wasm-check: -: cannot open"
+        for words in (["-"], ["-", "a.wasm"], ["a.wasm", "-", "-"], ["--quiet", "a.wasm", "-"], ["--pieces=4", "-"], ["--needs", "-"]):
+            want(f"standard input closed, {words}", [0], words, ["--", shut, "2"])
+        got = kinds(answered(program, ["--keep-going", "wrong.wasm", "-", "a.wasm"], cwd=room, closed=[0]))
+        differ += compare("standard input closed, going on", got, ["wrong.wasm: invalid", "a.wasm: valid", "--", shut, "2"])
+        want("standard input closed, as JSON", [0], ["--json", "-"], ["--", shut, '{"fault":"cannot open","file":"-"}', "2"])
+        want("standard input closed, and no input is read", [0], ["a.wasm"], ["a.wasm: valid", "--", "0"])
+        want("standard input closed, for a list", [0], ["--files0-from=-"], ["--", shut, "2"])
+        want("standard input and error closed", [0, 2], ["-", "a.wasm"], ["--", "2"])
         want("standard output closed", [1], ["a.wasm"], unwritten)
-        want("standard input and output closed", [0, 1], ["a.wasm", "-"], unwritten)
+        want("standard input and output closed", [0, 1], ["a.wasm", "-"], ["--", shut, "2"])
+        want("standard input and output closed, and no input is read", [0, 1], ["a.wasm"], unwritten)
         want("standard error closed", [2], ["a.wasm"], ["a.wasm: valid", "--", "0"])
         want("standard error closed, a file gone", [2], ["a.wasm", "gone.wasm"], ["--", "2"])
         for words in (["a.wasm"], ["--json", "a.wasm"], ["--keep-going", "a.wasm"], ["--pieces=4", "a.wasm"], ["--needs", "a.wasm"], ["--help"]):
@@ -54,6 +71,8 @@ def run(program):
         for words in (["-"], ["--keep-going", "-"], ["--quiet", "-"]):
             got = answered(program, words, given=header, most_open=5)
             differ += compare(f"streams that cannot be held, {words}", got, ["--", "wasm-check: /dev/null: cannot open", "2"])
-        got = answered(program, ["--pieces=4", "-", "wrong.wasm", "a.wasm"], cwd=room, closed=[0])
-        differ += compare("standard input closed, in pieces", kinds(got), ["-: invalid", "wrong.wasm: invalid", "a.wasm: valid", "--", "1"])
+        # A stream that is open to be written and not to be read is no input either; and what is written goes nowhere else.
+        for closed, lines in (([], ["--", shut, "2"]), ([1], ["--", shut, "2"])):
+            differ += compare("standard input that is written", written_input(program, closed, ["-", "a.wasm"], room), lines)
+        differ += compare("standard input that is written, and no output", written_input(program, [1], ["a.wasm"], room), unwritten)
     return differ

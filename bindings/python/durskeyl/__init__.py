@@ -9,8 +9,11 @@
         for piece in pieces: validator.feed(piece)
         validator.finish()                        # None, or raises InvalidModule
 
-The calls are those of the library that `./install-library` installs; DURSKEYL_LIBRARY names its file if the system does not find it. What
-is proved is that library, and only if is_proved(). Calls may come from any number of threads, and let other threads run.
+Operators on vectors (SIMD) are judged only if you ask for them: features="vectors".
+
+The calls are those of the library: the one that lies beside this file, if the package was released with it; else the one that
+`./install-library` installs. DURSKEYL_LIBRARY names another file. What is proved is the library, and only if is_proved(). Calls may come from any
+number of threads, and let other threads run.
 """
 from __future__ import annotations
 
@@ -26,8 +29,8 @@ from typing import Any, NamedTuple, Optional, Union
 
 __version__ = "0.2.0"
 __all__ = [
-    "Export", "External", "Features", "Import", "InvalidModule", "Kind", "LIMITS", "MOST_HELD", "TooLong", "Validator", "exports", "imports", "is_proved",
-    "is_valid", "named_features", "shown", "validate", "version",
+    "ENGINES", "Export", "External", "Features", "Import", "InvalidModule", "Kind", "LIMITS", "MOST_HELD", "TooLong", "Validator", "exports",
+    "imports", "is_proved", "is_valid", "named_features", "parse_features", "shown", "validate", "version", "version_text",
 ]
 #: how many bytes a Validator holds at most between two pieces, unless it is told otherwise: more than a function's body may have
 MOST_HELD = 16 << 20
@@ -35,6 +38,8 @@ LIMITS = """types params results fields string_bytes imports exports functions g
     segment_items body_bytes select_types locals catches subtyping_depth type_size""".split()
 _SETS = {"all": 0, "mvp": 1, "wasm1": 2, "wasm2": 3, "wasm3": 4, "lime1": 5, "default": 6}
 _PLACES, _NO_MODULE, _NOT_PROVED = 24, 2**64 - 1, 1 << 31
+# what the library says of an operator on vectors if they are not judged
+_VECTORS_MESSAGE = "unexpected SIMD opcode: 0xfd"
 # Any object with a buffer: bytes, bytearray, memoryview, mmap, array ..
 Buffer = Any
 
@@ -78,7 +83,7 @@ class Features(enum.IntFlag):
     CALL_INDIRECT_OVERLONG = 1 << 25
     BULK_MEMORY_OPT = 1 << 26
     CUSTOM_DESCRIPTORS = 1 << 27
-    #: no feature, and in no named set: operators on vectors are judged like all others
+    #: no feature, and in no named set but `engines`: operators on vectors are judged like all others; without it each of them is refused
     VECTORS = 1 << 28
 
 
@@ -98,7 +103,7 @@ class Import(NamedTuple):
     module: str
     name: str
     kind: External
-    index: int
+    index: int  # type: ignore[assignment]
 
 
 class Export(NamedTuple):
@@ -106,7 +111,7 @@ class Export(NamedTuple):
 
     name: str
     kind: External
-    index: int
+    index: int  # type: ignore[assignment]
 
 
 def _is_unshown(code: int) -> bool:
@@ -120,7 +125,7 @@ def shown(text: str) -> str:
     return "".join(f"\\u{{{ord(c):x}}}" if _is_unshown(ord(c)) or 0xD800 <= ord(c) < 0xE000 else c for c in text)
 
 
-# A set of features, its bits, the name of a set, or None for those by default.
+# A set of features, its bits, a list of words as parse_features reads it, or None for those by default.
 Chosen = Union[Features, int, str, None]
 
 
@@ -139,8 +144,19 @@ class InvalidModule(Exception):
         #: the name in LIMITS of the limit that refused the bytes, if one did; in pieces a limit of one table or one memory is not told
         self.limit = limit
 
-    def __str__(self) -> str:
+    @property
+    def hint(self) -> Optional[str]:
+        """What a caller can do about it, if something is known: an operator on vectors is refused unless they are asked for."""
+        is_vector = self.kind == Kind.INVALID and self.message == _VECTORS_MESSAGE
+        return 'features="vectors" judges operators on vectors' if is_vector else None
+
+    @property
+    def line(self) -> str:
+        """The refusal as wasm-check writes it behind the name of a file."""
         return f"invalid at {self.offset:#x}: {shown(self.message)}"
+
+    def __str__(self) -> str:
+        return f"{self.line} ({self.hint})" if self.hint else self.line
 
 
 class TooLong(Exception):
@@ -151,9 +167,12 @@ class _Settings(ctypes.Structure):
     _fields_ = [("features", ctypes.c_uint64), ("limits", ctypes.c_uint32 * _PLACES)]
 
 
+_Text: Any = ctypes.c_char * 260
+
+
 class _Fault(ctypes.Structure):
     _fields_ = [("kind", ctypes.c_uint32), ("text_length", ctypes.c_uint32), ("offset", ctypes.c_uint64), ("detail", ctypes.c_uint64)]
-    _fields_ += [("text", ctypes.c_char * 260), ("limit", ctypes.c_uint32)]
+    _fields_ += [("text", _Text), ("limit", ctypes.c_uint32)]
 
 
 class _Pieces(ctypes.Structure):
@@ -170,9 +189,10 @@ class _ExportRow(ctypes.Structure):
 
 
 def _open() -> ctypes.CDLL:
-    """The library that DURSKEYL_LIBRARY names, or that the system finds, or where ./install-library puts it."""
-    named = os.environ.get("DURSKEYL_LIBRARY")
-    names = [named] if named else ["libdurskeyl.so.0", "/usr/local/lib/libdurskeyl.so.0"]
+    """The library that DURSKEYL_LIBRARY names; else the one beside this file, if the package was released with it; else the one that the system
+    finds, or where ./install-library puts it."""
+    named, own = os.environ.get("DURSKEYL_LIBRARY"), os.path.join(os.path.dirname(os.path.abspath(__file__)), "libdurskeyl.so.0")
+    names = [named] if named else [own] if os.path.exists(own) else ["libdurskeyl.so.0", "/usr/local/lib/libdurskeyl.so.0"]
     errors = []
     for name in names:
         try:
@@ -184,8 +204,9 @@ def _open() -> ctypes.CDLL:
 
 def _load() -> ctypes.CDLL:
     library, number, count = _open(), ctypes.c_uint32, ctypes.c_size_t
-    settings, fault, pieces = map(ctypes.POINTER, (_Settings, _Fault, _Pieces))
+    settings, fault, pieces = ctypes.POINTER(_Settings), ctypes.POINTER(_Fault), ctypes.POINTER(_Pieces)
     library.durskeyl_version.argtypes, library.durskeyl_version.restype = [], number
+    library.durskeyl_version_text.argtypes, library.durskeyl_version_text.restype = [], ctypes.c_char_p
     found = library.durskeyl_version()
     # structures of another version may have another size
     if [found >> 16 & 0xFF, found >> 8 & 0xFF] != [int(it) for it in __version__.split(".")[:2]]:
@@ -234,6 +255,12 @@ def version() -> tuple[int, int, int]:
     return number >> 16 & 0xFF, number >> 8 & 0xFF, number & 0xFF
 
 
+def version_text() -> str:
+    """The library's version, whether it is proved, by which logic and from which commit: a line for people."""
+    text: bytes = _library.durskeyl_version_text()
+    return text.decode()
+
+
 def is_proved() -> bool:
     """Whether the library says of itself that it was built by the toolchain from what it proved. The file PROVED, installed beside it, says
     from which commit, or why not."""
@@ -241,10 +268,43 @@ def is_proved() -> bool:
 
 
 def named_features(name: str) -> Features:
-    """The features of a set: all, mvp, wasm1, wasm2, wasm3, lime1 or default."""
+    """The features of a set: all, mvp, wasm1, wasm2, wasm3, lime1, default, or engines, which is what browsers' engines take by default today:
+    wasm3, which has threads, and operators on vectors."""
+    if name == "engines":
+        return named_features("wasm3") | Features.VECTORS
     if name not in _SETS:
         raise ValueError(f"unknown set of features: {name!r}")
     return Features(_library.durskeyl_features(_SETS[name]))
+
+
+# Each feature by its word, as `custom-page-sizes`.
+_WORDS = {name.lower().replace("_", "-"): feature for name, feature in Features.__members__.items()}
+
+
+def parse_features(text: str) -> Features:
+    """The features of a list, read as `wasm-check --features` reads it: words with a comma between them, which are applied in order to the set by
+    default. A word is a set (`wasm2`), a feature (`threads`), or `no-` or `-` and a feature; `-all` is no feature. There are two more here: `vectors`,
+    as `--vectors`, which a set leaves as it was; and the set `engines`, which has them."""
+    found = named_features("default")
+    for word in text.split(","):
+        removed = word.removeprefix("no-") if word.startswith("no-") else word.removeprefix("-")
+        if word in _SETS or word == "engines":
+            found = named_features(word) | (found & Features.VECTORS)
+        elif word in _WORDS:
+            found |= _WORDS[word]
+        elif word == "-all":
+            found &= Features.VECTORS
+        elif removed != word and removed in _WORDS:
+            found &= ~_WORDS[removed]
+        else:
+            meant = word.strip().lower().replace("_", "-")
+            told = f"; did you mean {meant!r}?" if meant != word and meant in {*_SETS, *_WORDS, "engines"} else ""
+            raise ValueError(f"unknown feature or set of features: {word!r}{told}")
+    return found
+
+
+#: what browsers' engines take by default today: WebAssembly 3.0 with threads, and operators on vectors; a later version may have more
+ENGINES = named_features("engines")
 
 
 def _bytes(data: Buffer) -> bytes:
@@ -256,13 +316,14 @@ def _settings(features: Chosen, limits: Optional[Mapping[str, int]]) -> _Setting
     settings = _Settings()
     _library.durskeyl_settings_default(settings)
     if isinstance(features, str):
-        features = named_features(features)
+        features = parse_features(features)
     if features is not None:
         bits = operator.index(features)
         if not 0 <= bits < 2**64:
             raise ValueError(f"not a set of features: {features}")
         settings.features = bits
     for name, most in (limits or {}).items():
+        name = name.replace("-", "_")
         if name not in LIMITS:
             raise ValueError(f"unknown limit: {name!r}")
         most = operator.index(most)
@@ -272,14 +333,28 @@ def _settings(features: Chosen, limits: Optional[Mapping[str, int]]) -> _Setting
     return settings
 
 
-def _answer(kind: int, fault: _Fault) -> Optional[InvalidModule]:
-    """What a call answered: None for a yes, or why the bytes are invalid. Raises what is no verdict."""
+def _refused(settings: Optional[_Settings]) -> str:
+    """What the library refuses of these settings: features that it does not know, or the first limit that it refuses alone."""
+    if settings is None:
+        return "a feature or a limit that the library does not know, or a limit above its ceiling"
+    unknown = settings.features & ~(int(named_features("all")) | int(Features.VECTORS))
+    if unknown:
+        return f"unknown features {unknown:#x}"
+    for place, name in enumerate(LIMITS):
+        one = _settings(None, {name: settings.limits[place]})
+        if _library.durskeyl_validate(one, b"\0asm\1\0\0\0", 8, _Fault()) == 6:
+            return f"{name} = {settings.limits[place]} is above its ceiling"
+    return "a limit that the library does not know"
+
+
+def _answer(kind: int, fault: _Fault, settings: Optional[_Settings] = None) -> Optional[InvalidModule]:
+    """What a call by these settings answered: None for a yes, or why the bytes are invalid. Raises what is no verdict."""
     if kind == 0:
         return None
     if kind == 3:
         raise MemoryError("durskeyl: out of memory")
     if kind == 6:
-        raise ValueError("bad settings: a feature or a limit that the library does not know, or a limit above its ceiling")
+        raise ValueError(f"bad settings: {_refused(settings)}")
     if kind == 7:
         raise TooLong("no verdict: more bytes would have to be held than the validator may hold")
     if kind not in (1, 2, 5):
@@ -292,8 +367,8 @@ def _answer(kind: int, fault: _Fault) -> Optional[InvalidModule]:
 def _judge_part(settings: _Settings, data: bytes, part: int, parts: int) -> Optional[InvalidModule]:
     fault = _Fault()
     if parts == 1:
-        return _answer(_library.durskeyl_validate(settings, data, len(data), fault), fault)
-    return _answer(_library.durskeyl_validate_part(settings, data, len(data), part, parts, fault), fault)
+        return _answer(_library.durskeyl_validate(settings, data, len(data), fault), fault, settings)
+    return _answer(_library.durskeyl_validate_part(settings, data, len(data), part, parts, fault), fault, settings)
 
 
 def _judge(data: bytes, features: Chosen, limits: Optional[Mapping[str, int]], threads: int = 1) -> Optional[InvalidModule]:
@@ -340,17 +415,19 @@ class Validator:
 
     def __init__(self, *, features: Chosen = None, limits: Optional[Mapping[str, int]] = None, most: int = MOST_HELD) -> None:
         # first what close() needs, which comes in any case
-        self._pieces, self._lock, self._error = _Pieces(), threading.Lock(), None
+        self._pieces, self._lock = _Pieces(), threading.Lock()
+        self._error: Optional[Exception] = None
         most = operator.index(most)
         if not 0 <= most < 2**64:
             raise ValueError(f"most out of range: {most}")
         fault = _Fault()
-        self._told(_library.durskeyl_begin(_settings(features, limits), most, self._pieces, fault), fault)
+        settings = _settings(features, limits)
+        self._told(_library.durskeyl_begin(settings, most, self._pieces, fault), fault, settings)
 
-    def _told(self, kind: int, fault: _Fault) -> None:
+    def _told(self, kind: int, fault: _Fault, settings: Optional[_Settings] = None) -> None:
         """Raises what a call answered that is no yes, and keeps it."""
         try:
-            error: Optional[Exception] = _answer(kind, fault)
+            error: Optional[Exception] = _answer(kind, fault, settings)
         except Exception as other:
             error = other
         if error is not None:

@@ -84,7 +84,48 @@ class Calls(unittest.TestCase):
             with self.assertRaises(ValueError):
                 durskeyl.is_valid(HEADER, features=wrong)
 
+    def test_lists_of_features(self):
+        features = durskeyl.Features
+        self.assertEqual(durskeyl.parse_features("wasm2"), durskeyl.named_features("wasm2"))
+        self.assertEqual(durskeyl.parse_features("wasm1,vectors,-all,floats"), features.FLOATS | features.VECTORS)
+        self.assertEqual(durskeyl.parse_features("-simd"), durskeyl.parse_features("no-simd"))
+        self.assertEqual(durskeyl.parse_features("wasm1,threads,vectors,no-floats"), durskeyl.named_features("wasm1") & ~features.FLOATS | features.THREADS | features.VECTORS)
+        self.assertEqual(durskeyl.parse_features("saturating-float-to-int"), durskeyl.named_features("default"))
+        self.assertEqual(durskeyl.parse_features("engines"), durskeyl.ENGINES)
+        self.assertEqual(durskeyl.ENGINES, durskeyl.named_features("wasm3") | features.VECTORS)
+        self.assertEqual(durskeyl.parse_features("vectors,wasm1"), durskeyl.named_features("wasm1") | features.VECTORS)
+        # the program takes none of these either
+        for it in ("", "wasm2,,threads", "simdd", "no-wasm2", "SIMD", "relaxed_simd", "simd ", " simd", "simd,", "no-", "no-no-simd", "-", "--simd", "-wasm2"):
+            self.assertRaises(ValueError, durskeyl.parse_features, it)
+        self.assertRaisesRegex(ValueError, "did you mean 'relaxed-simd'", durskeyl.parse_features, "RELAXED_SIMD")
+        durskeyl.validate(b"\0asm\1\0\0\0", features="wasm2,threads", limits={"string-bytes": 1})
+
+    def test_vectors(self):
+        # a function with `v128.const` and `drop`: refused until vectors are asked for, and the error says how
+        data = HEADER + b"\1\4\1\x60\0\0\3\2\1\0\x0a\x17\1\x15\0\xfd\x0c" + bytes(16) + b"\x1a\x0b"
+        for call in durskeyl.validate, lambda data: self.in_pieces(data, 7), lambda data: durskeyl.validate(data, features="all"):
+            with self.assertRaises(InvalidModule) as caught:
+                call(data)
+            plain = "invalid at 0x17: unexpected SIMD opcode: 0xfd"
+            self.assertEqual(caught.exception.line, plain)
+            self.assertEqual(str(caught.exception), plain + ' (features="vectors" judges operators on vectors)')
+        for asked in "vectors", "engines", durskeyl.ENGINES, Features.SIMD | Features.VECTORS:
+            durskeyl.validate(data, features=asked)
+            self.in_pieces(data, 7, features=asked)
+        with self.assertRaises(InvalidModule) as caught:
+            durskeyl.validate(data, features="engines,no-simd")
+        self.assertEqual((caught.exception.kind, caught.exception.hint), (Kind.MISSING_FEATURE, None))
+
+    def test_bad_settings_are_named(self):
+        module = b"\0asm\1\0\0\0"
+        for call in durskeyl.validate, lambda data, **how: durskeyl.Validator(**how), lambda data, **how: durskeyl.validate(data, threads=3, **how):
+            with self.assertRaisesRegex(ValueError, "^bad settings: string_bytes = 4294967295 is above its ceiling$"):
+                call(module, limits={"string_bytes": 2**32 - 1})
+            with self.assertRaisesRegex(ValueError, "^bad settings: unknown features 0x10000000000$"):
+                call(module, features=1 << 40 | 1)
+
     def test_version(self):
+        self.assertIn(" (proved, " if durskeyl.is_proved() else " (NOT PROVED, ", durskeyl.version_text())
         self.assertEqual(".".join(map(str, durskeyl.version())), durskeyl.__version__)
         self.assertIsInstance(durskeyl.is_proved(), bool)
         self.assertEqual(durskeyl.named_features("all"), 2**28 - 1)

@@ -1,8 +1,11 @@
 //! Why there is no valid module.
 
-use crate::settings::{Features, Limit};
+use crate::settings::{Features, Limit, refused};
 use crate::sys;
 use std::{fmt, io};
+
+// What the library says of an operator on vectors if they are not judged.
+const VECTORS_MESSAGE: &str = "unexpected SIMD opcode: 0xfd";
 
 /// What kind of fault was found.
 #[derive(Clone, Copy, Debug, PartialEq, Eq, Hash)]
@@ -37,7 +40,7 @@ impl Error {
     pub(crate) fn new(fault: &sys::Fault) -> Error {
         let kind = match fault.kind {
             1 => ErrorKind::EndOfData { needed: fault.detail },
-            2 => ErrorKind::MissingFeature(Features::from_bits(fault.detail)),
+            2 => ErrorKind::MissingFeature(Features::from_bits_retain(fault.detail)),
             3 => ErrorKind::OutOfMemory,
             5 => ErrorKind::Invalid,
             6 => ErrorKind::BadSettings,
@@ -48,6 +51,15 @@ impl Error {
         let message = if Error::tells(kind) { String::from_utf8_lossy(text).into() } else { "".into() };
         let limit = fault.limit.checked_sub(1).and_then(Limit::at);
         Error { kind, offset: fault.offset, limit, message }
+    }
+
+    /// What a call by these settings answered; of bad ones the message tells what is bad.
+    pub(crate) fn by(kind: u32, fault: sys::Fault, settings: &sys::Settings) -> Error {
+        let mut error = Error::new(&sys::Fault { kind, ..fault });
+        if error.kind == ErrorKind::BadSettings {
+            error.message = refused(settings).into();
+        }
+        error
     }
 
     fn tells(kind: ErrorKind) -> bool {
@@ -75,21 +87,29 @@ impl Error {
         &self.message
     }
 
+    /// What a caller can do about it, if something is known: an operator on vectors is refused unless `Features::VECTORS` is set.
+    pub fn hint(&self) -> Option<&'static str> {
+        (self.kind == ErrorKind::Invalid && &*self.message == VECTORS_MESSAGE).then_some("Features::VECTORS judges operators on vectors")
+    }
+
     /// Whether the bytes were found invalid. If not, nothing is known of them.
     pub fn is_verdict(&self) -> bool {
         Error::tells(self.kind)
     }
 }
 
+/// `invalid at 0x17: MESSAGE`, and in parentheses what a caller can do, if that is known; or why there is no verdict.
 impl fmt::Display for Error {
     fn fmt(&self, f: &mut fmt::Formatter<'_>) -> fmt::Result {
         match self.kind {
             ErrorKind::OutOfMemory => f.write_str("out of memory"),
-            ErrorKind::BadSettings => f.write_str("bad settings"),
+            ErrorKind::BadSettings if self.message.is_empty() => f.write_str("bad settings"),
+            ErrorKind::BadSettings => write!(f, "bad settings: {}", self.message),
             ErrorKind::TooLong => f.write_str("an item is longer than may be held"),
             ErrorKind::Unknown(kind) => write!(f, "no verdict: unknown kind {kind}"),
             _ => write!(f, "invalid at {:#x}: {}", self.offset, Shown(&self.message)),
-        }
+        }?;
+        self.hint().map_or(Ok(()), |hint| write!(f, " ({hint})"))
     }
 }
 

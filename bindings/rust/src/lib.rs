@@ -9,6 +9,8 @@
 //! # Ok::<(), Box<dyn std::error::Error>>(())
 //! ```
 //!
+//! Operators on vectors (SIMD) are judged only if you ask for them: [`Features::VECTORS`].
+//!
 //! A module that comes in pieces is written into a [`Validator`], which also has the calls of wasmparser's by which a module is validated.
 //!
 //! What is proved is the library that this crate links, and only if [`is_proved`]; this crate is neither proved nor part of the proof.
@@ -23,7 +25,7 @@ mod validator;
 
 pub use error::{BinaryReaderError, Error, ErrorKind, Result, Shown};
 pub use module::{Export, Exports, External, Import, Imports, Module};
-pub use settings::{Features, Limit, Settings, WasmFeatures};
+pub use settings::{Features, Limit, Settings, UnknownWord, WasmFeatures};
 pub use validator::{MOST_HELD, Validator};
 
 /// The module that these bytes are, if they are a valid one by the settings by default.
@@ -47,6 +49,12 @@ pub fn is_proved() -> bool {
     sys::durskeyl_version() >> 31 == 0
 }
 
+/// The library's version, whether it is proved, by which logic and from which commit: a line for people.
+pub fn version_text() -> &'static str {
+    // SAFETY: the text ends in a 0, and stays.
+    unsafe { std::ffi::CStr::from_ptr(sys::durskeyl_version_text()) }.to_str().unwrap_or_default()
+}
+
 /// The version of the library: three numbers.
 pub fn version() -> (u8, u8, u8) {
     let [_, first, second, third] = sys::durskeyl_version().to_be_bytes();
@@ -64,7 +72,7 @@ impl Settings {
         // SAFETY: a slice is never null, has the length that it says, and is lent for the call; the fault is apart from it.
         match unsafe { sys::durskeyl_validate(&self.0, bytes.as_ptr(), bytes.len(), &mut fault) } {
             0 => Ok(Module::new(bytes)),
-            kind => Err(Error::new(&sys::Fault { kind, ..fault })),
+            kind => Err(Error::by(kind, fault, &self.0)),
         }
     }
 }

@@ -34,7 +34,7 @@ impl Settings {
         // SAFETY: as in `validate`.
         match unsafe { sys::durskeyl_validate_part(&self.0, bytes.as_ptr(), bytes.len(), part, parts, &mut fault) } {
             0 => None,
-            kind => Some(Error::new(&sys::Fault { kind, ..fault })),
+            kind => Some(Error::by(kind, fault, &self.0)),
         }
     }
 }

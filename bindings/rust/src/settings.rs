@@ -1,7 +1,10 @@
 //! What a module is judged by.
 
 use crate::sys;
-use std::ops::{BitAnd, BitAndAssign, BitOr, BitOrAssign, Sub, SubAssign};
+use std::ffi::{CStr, CString};
+use std::fmt;
+use std::ops::{BitAnd, BitAndAssign, BitOr, BitOrAssign, BitXor, BitXorAssign, Not, Sub, SubAssign};
+use std::str::FromStr;
 use std::sync::OnceLock;
 
 // The first two numbers of the version, 8 bits each.
@@ -11,7 +14,7 @@ const WANTED: u32 = 2;
 pub type WasmFeatures = Features;
 
 /// A set of features, with the names of wasmparser's `WasmFeatures`. The order of the bits is ours.
-#[derive(Clone, Copy, Debug, PartialEq, Eq, Hash)]
+#[derive(Clone, Copy, PartialEq, Eq, PartialOrd, Ord, Hash)]
 pub struct Features(u64);
 
 impl Features {
@@ -46,7 +49,7 @@ impl Features {
     pub const BULK_MEMORY_OPT: Features = Features(1 << 26);
     pub const CUSTOM_DESCRIPTORS: Features = Features(1 << 27);
 
-    /// No feature, and in no named set: operators on vectors are judged like all others.
+    /// No feature, and in no named set but `ENGINES`: operators on vectors are judged like all others. Without it each of them is refused.
     pub const VECTORS: Features = Features(1 << 28);
 
     /// The first release of WebAssembly, without mutable globals in imports and exports.
@@ -87,6 +90,9 @@ impl Features {
             | Features::BULK_MEMORY_OPT.0,
     );
 
+    /// What browsers' engines take by default today: WebAssembly 3.0 with threads, and operators on vectors. A later version may have more.
+    pub const ENGINES: Features = Features(Features::WASM3.0 | Features::VECTORS.0);
+
     /// No features.
     pub const NONE: Features = Features(0);
 
@@ -125,9 +131,97 @@ impl Features {
         Features(sys::durskeyl_features(5))
     }
 
-    /// The features of these bits, whether or not the library knows them.
-    pub const fn from_bits(bits: u64) -> Features {
+    /// Each feature by its name, in the order of the bits. A name that stands for two bits comes where both are there.
+    const NAMES: [(&'static str, Features); 29] = [
+        ("MUTABLE_GLOBAL", Features::MUTABLE_GLOBAL),
+        ("SATURATING_FLOAT_TO_INT", Features::SATURATING_FLOAT_TO_INT),
+        ("SIGN_EXTENSION", Features::SIGN_EXTENSION),
+        ("REFERENCE_TYPES", Features::REFERENCE_TYPES),
+        ("MULTI_VALUE", Features::MULTI_VALUE),
+        ("BULK_MEMORY", Features::BULK_MEMORY),
+        ("SIMD", Features::SIMD),
+        ("RELAXED_SIMD", Features::RELAXED_SIMD),
+        ("THREADS", Features::THREADS),
+        ("SHARED_EVERYTHING_THREADS", Features::SHARED_EVERYTHING_THREADS),
+        ("TAIL_CALL", Features::TAIL_CALL),
+        ("FLOATS", Features::FLOATS),
+        ("MULTI_MEMORY", Features::MULTI_MEMORY),
+        ("EXCEPTIONS", Features::EXCEPTIONS),
+        ("MEMORY64", Features::MEMORY64),
+        ("EXTENDED_CONST", Features::EXTENDED_CONST),
+        ("COMPONENT_MODEL", Features::COMPONENT_MODEL),
+        ("FUNCTION_REFERENCES", Features::FUNCTION_REFERENCES),
+        ("MEMORY_CONTROL", Features::MEMORY_CONTROL),
+        ("GC", Features::GC),
+        ("CUSTOM_PAGE_SIZES", Features::CUSTOM_PAGE_SIZES),
+        ("LEGACY_EXCEPTIONS", Features::LEGACY_EXCEPTIONS),
+        ("GC_TYPES", Features::GC_TYPES),
+        ("STACK_SWITCHING", Features::STACK_SWITCHING),
+        ("WIDE_ARITHMETIC", Features::WIDE_ARITHMETIC),
+        ("CALL_INDIRECT_OVERLONG", Features::CALL_INDIRECT_OVERLONG),
+        ("BULK_MEMORY_OPT", Features::BULK_MEMORY_OPT),
+        ("CUSTOM_DESCRIPTORS", Features::CUSTOM_DESCRIPTORS),
+        ("VECTORS", Features::VECTORS),
+    ];
+
+    /// The features of these bits; nothing, if this crate has no name for one of them.
+    pub const fn from_bits(bits: u64) -> Option<Features> {
+        if bits & !Features::NAMED == 0 { Some(Features(bits)) } else { None }
+    }
+
+    /// The features of these bits, without those for which this crate has no name.
+    pub const fn from_bits_truncate(bits: u64) -> Features {
+        Features(bits & Features::NAMED)
+    }
+
+    /// The features of these bits, whether or not anybody knows them. The library refuses those that it does not know.
+    pub const fn from_bits_retain(bits: u64) -> Features {
         Features(bits)
+    }
+
+    // The bits of 28 features and of vectors.
+    const NAMED: u64 = (1 << 29) - 1;
+
+    /// The feature of this name, as `"SIMD"`.
+    pub fn from_name(name: &str) -> Option<Features> {
+        Features::NAMES.iter().find(|it| it.0 == name).map(|it| it.1)
+    }
+
+    /// The features of this set, one after the other.
+    pub fn iter(self) -> impl Iterator<Item = Features> {
+        self.iter_names().map(|it| it.1)
+    }
+
+    /// The features of this set by their names. A bit that is in two of them is told once.
+    pub fn iter_names(self) -> impl Iterator<Item = (&'static str, Features)> {
+        let mut left = self.0;
+        Features::NAMES.into_iter().filter(move |it| {
+            let is_told = self.contains(it.1) && left & it.1.0 != 0;
+            left &= if is_told { !it.1.0 } else { u64::MAX };
+            is_told
+        })
+    }
+
+    /// The other features that this crate knows.
+    #[must_use]
+    pub const fn complement(self) -> Features {
+        Features::from_bits_truncate(!self.0)
+    }
+
+    /// The features that are in one of the two sets alone.
+    #[must_use]
+    pub const fn symmetric_difference(self, others: Features) -> Features {
+        Features(self.0 ^ others.0)
+    }
+
+    /// Adds those features that are not there, and takes away those that are.
+    pub fn toggle(&mut self, others: Features) {
+        *self = self.symmetric_difference(others);
+    }
+
+    /// Whether this set has all features that the library knows.
+    pub fn is_all(self) -> bool {
+        self.contains(Features::all())
     }
 
     /// The bits.
@@ -193,6 +287,145 @@ impl Features {
     /// Adds those features, or takes them away.
     pub fn set(&mut self, others: Features, are_there: bool) {
         *self = if are_there { self.with(others) } else { self.without(others) };
+    }
+}
+
+// A method for each feature, which says whether it is in the set.
+macro_rules! asks {
+    ($($feature:ident $method:ident,)*) => {
+        impl Features {
+            $(
+                #[doc = concat!("Whether `", stringify!($feature), "` is in this set.")]
+                pub const fn $method(&self) -> bool {
+                    self.contains(Features::$feature)
+                }
+            )*
+        }
+    };
+}
+
+asks! {
+    MUTABLE_GLOBAL mutable_global,
+    SATURATING_FLOAT_TO_INT saturating_float_to_int,
+    SIGN_EXTENSION sign_extension,
+    REFERENCE_TYPES reference_types,
+    MULTI_VALUE multi_value,
+    BULK_MEMORY bulk_memory,
+    SIMD simd,
+    RELAXED_SIMD relaxed_simd,
+    THREADS threads,
+    SHARED_EVERYTHING_THREADS shared_everything_threads,
+    TAIL_CALL tail_call,
+    FLOATS floats,
+    MULTI_MEMORY multi_memory,
+    EXCEPTIONS exceptions,
+    MEMORY64 memory64,
+    EXTENDED_CONST extended_const,
+    COMPONENT_MODEL component_model,
+    FUNCTION_REFERENCES function_references,
+    MEMORY_CONTROL memory_control,
+    GC gc,
+    CUSTOM_PAGE_SIZES custom_page_sizes,
+    LEGACY_EXCEPTIONS legacy_exceptions,
+    GC_TYPES gc_types,
+    STACK_SWITCHING stack_switching,
+    WIDE_ARITHMETIC wide_arithmetic,
+    CALL_INDIRECT_OVERLONG call_indirect_overlong,
+    BULK_MEMORY_OPT bulk_memory_opt,
+    CUSTOM_DESCRIPTORS custom_descriptors,
+    VECTORS vectors,
+}
+
+impl fmt::Debug for Features {
+    fn fmt(&self, f: &mut fmt::Formatter<'_>) -> fmt::Result {
+        if self.is_empty() {
+            return f.write_str("Features(0x0)");
+        }
+        write!(f, "Features({self})")
+    }
+}
+
+/// The names with ` | ` between them; what has no name is a number.
+impl fmt::Display for Features {
+    fn fmt(&self, f: &mut fmt::Formatter<'_>) -> fmt::Result {
+        let mut left = self.0;
+        let mut between = "";
+        for (name, feature) in self.iter_names() {
+            write!(f, "{between}{name}")?;
+            left &= !feature.0;
+            between = " | ";
+        }
+        if left != 0 {
+            write!(f, "{between}{left:#x}")?;
+        }
+        Ok(())
+    }
+}
+
+/// Reads a list as `wasm-check --features` does: words with a comma between them, applied in order to the set by default, as
+/// `wasm2,threads,no-simd`. Two more words are `vectors`, which a set leaves as it was, and the set `engines`.
+impl FromStr for Features {
+    type Err = UnknownWord;
+
+    fn from_str(list: &str) -> Result<Features, UnknownWord> {
+        let Ok(words) = CString::new(list) else {
+            return Err(UnknownWord(list.into()));
+        };
+        let mut bits = 0;
+        // SAFETY: the text ends in a 0; it and the set are lent for the call.
+        let wrong = unsafe { sys::durskeyl_read_features(words.as_ptr(), &mut bits) };
+        if wrong.is_null() {
+            return Ok(Features(bits));
+        }
+        // SAFETY: what is answered lies in the text.
+        let rest = unsafe { CStr::from_ptr(wrong) }.to_string_lossy();
+        Err(UnknownWord(rest.split(',').next().unwrap_or_default().into()))
+    }
+}
+
+/// A word of a list that is no feature and no set.
+#[derive(Clone, Debug, PartialEq, Eq)]
+pub struct UnknownWord(pub Box<str>);
+
+impl fmt::Display for UnknownWord {
+    fn fmt(&self, f: &mut fmt::Formatter<'_>) -> fmt::Result {
+        write!(f, "unknown feature or set of features: `{}`", crate::Shown(&self.0))
+    }
+}
+
+impl std::error::Error for UnknownWord {}
+
+impl Not for Features {
+    type Output = Features;
+
+    fn not(self) -> Features {
+        self.complement()
+    }
+}
+
+impl BitXor for Features {
+    type Output = Features;
+
+    fn bitxor(self, others: Features) -> Features {
+        self.symmetric_difference(others)
+    }
+}
+
+impl BitXorAssign for Features {
+    fn bitxor_assign(&mut self, others: Features) {
+        self.toggle(others);
+    }
+}
+
+impl FromIterator<Features> for Features {
+    fn from_iter<I: IntoIterator<Item = Features>>(sets: I) -> Features {
+        sets.into_iter().fold(Features::NONE, Features::with)
+    }
+}
+
+impl Extend<Features> for Features {
+    fn extend<I: IntoIterator<Item = Features>>(&mut self, sets: I) {
+        self.insert(sets.into_iter().collect());
     }
 }
 
@@ -297,9 +530,19 @@ impl Limit {
         Limit::TypeSize,
     ];
 
+    const WORDS: &'static str = "types params results fields string-bytes imports exports functions globals tags tables memories element-segments \
+        data-segments segment-items body-bytes select-types locals catches subtyping-depth type-size";
+
     // The limit at this place of the settings, if this crate knows it.
     pub(crate) fn at(place: u32) -> Option<Limit> {
         Limit::ALL.get(place as usize).copied()
+    }
+}
+
+/// The word of `wasm-check --limits`.
+impl fmt::Display for Limit {
+    fn fmt(&self, f: &mut fmt::Formatter<'_>) -> fmt::Result {
+        f.write_str(Limit::WORDS.split_whitespace().nth(*self as usize).unwrap_or_default())
     }
 }
 
@@ -345,6 +588,28 @@ impl Settings {
     pub fn limit(&self, limit: Limit) -> u32 {
         self.0.limits[limit as usize]
     }
+}
+
+/// What the library refuses of these settings, in words: features that it does not know, or the first limit that it refuses alone, which is told by
+/// a call for each over a module of nothing.
+pub(crate) fn refused(settings: &sys::Settings) -> String {
+    let unknown = settings.features & !(Features::all() | Features::VECTORS).bits();
+    if unknown != 0 {
+        return format!("unknown features {unknown:#x}");
+    }
+    for (place, most) in settings.limits.iter().enumerate() {
+        let mut one = Settings::new();
+        one.0.limits[place] = *most;
+        let module = b"\0asm\x01\0\0\0";
+        // SAFETY: as in `validate`.
+        if unsafe { sys::durskeyl_validate(&one.0, module.as_ptr(), module.len(), &mut sys::Fault::none()) } == 6 {
+            return match Limit::at(place as u32) {
+                Some(limit) => format!("{limit}={most} is above its ceiling"),
+                None => format!("the limit {place} is not known"),
+            };
+        }
+    }
+    String::new()
 }
 
 // Asks the library once for its version.

@@ -1,6 +1,6 @@
 //! The calls of `durskeyl.h` as they are. What a caller promises is said there.
 
-use std::ffi::c_void;
+use std::ffi::{c_char, c_void};
 
 /// How many places the limits have.
 pub const LIMITS: usize = 24;
@@ -64,6 +64,8 @@ pub struct ExportRow {
 
 unsafe extern "C" {
     pub safe fn durskeyl_version() -> u32;
+    pub safe fn durskeyl_version_text() -> *const c_char;
+    pub fn durskeyl_read_features(list: *const c_char, features: *mut u64) -> *const c_char;
     pub safe fn durskeyl_features(set: u32) -> u64;
     pub fn durskeyl_settings_default(settings: *mut Settings);
     pub fn durskeyl_validate(settings: *const Settings, bytes: *const u8, length: usize, fault: *mut Fault) -> u32;

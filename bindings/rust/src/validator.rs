@@ -19,8 +19,8 @@ pub const MOST_HELD: u64 = 16 << 20;
 /// Only [`Validator::finish`] gives a yes. Each section, and each body, is judged as soon as it is whole; a part of one is held. A refusal stays:
 /// each later call answers the same.
 ///
-/// Whoever calls wasmparser's `Validator` for verdicts alone changes `use wasmparser::` to `use durskeyl::`. So operators on vectors are judged
-/// here ([`Features::VECTORS`]) if `SIMD` or `RELAXED_SIMD` allows them, and components are refused.
+/// Whoever calls wasmparser's `Validator` for verdicts alone changes `use wasmparser::` to `use durskeyl::`. Components are refused, and so are
+/// operators on vectors, unless [`Features::VECTORS`] is among the features, as it is in [`Features::ENGINES`].
 #[derive(Debug)]
 pub struct Validator {
     settings: Settings,
@@ -42,12 +42,12 @@ impl Validator {
         Validator::new_with_features(Features::default())
     }
 
-    /// One by these features.
+    /// One by these features, just as they are.
     pub fn new_with_features(features: Features) -> Validator {
-        Validator::new_with_settings(Settings::new().with_features(features | Features::VECTORS))
+        Validator::new_with_settings(Settings::new().with_features(features))
     }
 
-    /// One by these features and limits, just as they are: without [`Features::VECTORS`] operators on vectors are refused.
+    /// One by these features and limits.
     pub fn new_with_settings(settings: Settings) -> Validator {
         Validator { settings, most: MOST_HELD, state: State::Fresh }
     }
@@ -148,8 +148,10 @@ impl Handle {
         let mut fault = sys::Fault::none();
         // SAFETY: settings, handle and fault are lent for the call and apart; the handle is all 0.
         let kind = unsafe { sys::durskeyl_begin(&settings.0, most, &mut handle.0, &mut fault) };
-        answer(kind, fault)?;
-        Ok(handle)
+        match kind {
+            0 => Ok(handle),
+            kind => Err(Error::by(kind, fault, &settings.0)),
+        }
     }
 
     fn take(&mut self, piece: &[u8]) -> Result<()> {

@@ -89,7 +89,7 @@ fn on_threads() {
 
 #[test]
 fn bad_settings() {
-    let unknown = Settings::new().with_features(Features::from_bits(1 << 40));
+    let unknown = Settings::new().with_features(Features::from_bits_retain(1 << 40));
     let above = Settings::new().with_limit(Limit::Locals, 1_000_001);
     for settings in [unknown, above] {
         let error = settings.validate(HEADER).unwrap_err();
@@ -103,7 +103,7 @@ fn version() {
     assert_eq!(durskeyl::version(), (0, 2, 0));
     let _ = durskeyl::is_proved();
     assert!(Features::all().contains(Features::default()) && Features::default().contains(Features::wasm1()));
-    assert_eq!(Features::all(), (0..28).fold(Features::NONE, |all, bit| all | Features::from_bits(1 << bit)));
+    assert_eq!(Features::all(), (0..28).fold(Features::NONE, |all, bit| all | Features::from_bits_retain(1 << bit)));
 }
 
 #[test]
@@ -137,9 +137,30 @@ fn names_of_wasmparser() {
     let error: durskeyl::BinaryReaderError = validator.validate_all(MEMORIES).unwrap_err();
     assert!(error.is_verdict() && !error.message().is_empty());
     assert!(Validator::new_with_features(WasmFeatures::all()).validate_all(MODULE).is_ok());
-    assert!(Validator::new().validate_all(&with_vector()).is_ok());
-    assert!(Validator::new_with_features(WasmFeatures::all() - WasmFeatures::SIMD).validate_all(&with_vector()).is_err());
-    assert!(validate(&with_vector()).is_err());
+}
+
+// One default for all calls: operators on vectors are refused until they are asked for, and the error says how.
+#[test]
+fn vectors() {
+    let vector = with_vector();
+    let refused = [
+        validate(&vector).unwrap_err(),
+        Validator::new().validate_all(&vector).unwrap_err(),
+        Validator::new_with_features(WasmFeatures::all()).validate_all(&vector).unwrap_err(),
+        in_pieces(Validator::default(), &vector, 7).unwrap_err(),
+    ];
+    for error in refused {
+        assert_eq!(error.to_string(), "invalid at 0x17: unexpected SIMD opcode: 0xfd (Features::VECTORS judges operators on vectors)");
+        assert_eq!((error.message(), error.hint().is_some()), ("unexpected SIMD opcode: 0xfd", true));
+    }
+    for features in [Features::ENGINES, Features::default() | Features::VECTORS] {
+        assert!(Settings::new().with_features(features).validate(&vector).is_ok());
+        assert!(Validator::new_with_features(features).validate_all(&vector).is_ok());
+        assert_eq!(in_pieces(Validator::new_with_features(features), &vector, 7), Ok(()));
+    }
+    let error = Validator::new_with_features(Features::ENGINES - Features::SIMD).validate_all(&vector).unwrap_err();
+    assert_eq!((error.kind(), error.hint()), (ErrorKind::MissingFeature(Features::SIMD), None));
+    assert_eq!(Features::ENGINES, Features::wasm3() | Features::VECTORS);
 }
 
 // The verdict on bytes that are written in pieces of so many.
@@ -218,4 +239,45 @@ fn moves_between_threads() {
         let validator = validator.join().unwrap();
         assert_eq!(thread::spawn(move || validator.finish()).join().unwrap(), Ok(()));
     }
+}
+
+#[test]
+fn features_as_sets() {
+    assert_eq!(Features::from_bits(1 << 40), None);
+    assert_eq!(Features::from_bits(3), Some(Features::MUTABLE_GLOBAL | Features::SATURATING_FLOAT_TO_INT));
+    assert_eq!(Features::from_bits_truncate(1 << 40 | 1), Features::MUTABLE_GLOBAL);
+    assert_eq!(Features::from_name("SIMD"), Some(Features::SIMD));
+    assert_eq!(Features::from_name("simd"), None);
+    let mut some = Features::WASM1;
+    assert_eq!(some.iter_names().map(|it| it.0).collect::<Vec<_>>(), ["MUTABLE_GLOBAL", "FLOATS", "GC_TYPES"]);
+    assert_eq!(some.iter().collect::<Features>(), some);
+    assert_eq!(format!("{:?} {:?}", Features::REFERENCE_TYPES, Features::NONE), "Features(REFERENCE_TYPES) Features(0x0)");
+    assert_eq!(Features::from_bits_retain(1 << 40 | 1).to_string(), "MUTABLE_GLOBAL | 0x10000000000");
+    assert_eq!(!Features::all(), Features::VECTORS);
+    assert_eq!(Features::WASM2 ^ Features::WASM1, Features::WASM2 - Features::WASM1);
+    some.toggle(Features::FLOATS | Features::SIMD);
+    assert!(some.simd() && !some.floats() && some.gc_types() && !some.is_all());
+    assert!(durskeyl::version_text().starts_with("0.2.0 ("));
+}
+
+#[test]
+fn lists_of_features() {
+    let read = |list: &str| list.parse::<Features>();
+    assert_eq!(read("wasm1,threads,vectors,no-floats"), Ok(Features::WASM1 - Features::FLOATS | Features::THREADS | Features::VECTORS));
+    assert_eq!(read("vectors,wasm1"), Ok(Features::WASM1 | Features::VECTORS));
+    assert_eq!(read("engines"), Ok(Features::ENGINES));
+    assert_eq!(read("no-simd"), Ok(Features::default() - Features::SIMD));
+    for (list, wrong) in [("", ""), ("wasm2,,gc", ""), ("gc,SIMD,x", "SIMD"), ("simd\0", "simd\0")] {
+        assert_eq!(read(list).unwrap_err().0.as_ref(), wrong);
+    }
+}
+
+#[test]
+fn bad_settings_are_named() {
+    let threads = std::num::NonZeroU32::new(3).unwrap();
+    let said = |settings: Settings| [settings.validate(HEADER), settings.validate_on(threads, HEADER)].map(|it| it.unwrap_err().to_string());
+    assert_eq!(said(Settings::new().with_limit(Limit::StringBytes, u32::MAX)), ["bad settings: string-bytes=4294967295 is above its ceiling"; 2]);
+    assert_eq!(said(Settings::new().with_features(Features::from_bits_retain(1 << 40))), ["bad settings: unknown features 0x10000000000"; 2]);
+    let mut validator = Validator::new_with_settings(Settings::new().with_limit(Limit::TypeSize, u32::MAX));
+    assert!(validator.write_all(HEADER).unwrap_err().to_string().contains("type-size=4294967295"));
 }

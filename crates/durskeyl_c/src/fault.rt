@@ -11,6 +11,9 @@ use wasm_types::{Error, ErrorKind, Limits};
 /// How many bytes the text has room for, its closing 0 included: a message has 256 at most.
 const ROOM: usize = 260;
 
+/// How many bytes a message has at most.
+const MOST: usize = 256;
+
 /// Why bytes were refused.
 #[repr(C)]
 #[derive(Drop)]
@@ -92,10 +95,24 @@ pub(crate) fn too_long(fault: &mut DurskeylFault)
     ensures limit { fault.new.limit ≡ 0 }
     ensures text { IsEnded fault.new }
 {
-    let error = Error::new("an item is longer than may be held", 0);
-    write_error(&Limits::default(), &error, fault);
+    *fault = no_fault();
+    write_text("an item is longer than may be held", fault);
     fault.kind = 7;
-    fault.limit = 0;
+}
+
+/// Writes what is wrong, of which a fault holds at most 256 bytes.
+fn write_text(words: &str, fault: &mut DurskeylFault)
+    ensures kind { fault.new.kind ≡ fault.old.kind }
+    ensures detail { fault.new.detail ≡ fault.old.detail }
+    ensures offset { fault.new.offset ≡ fault.old.offset }
+    ensures limit { fault.new.limit ≡ fault.old.limit }
+    ensures text { IsEnded fault.new }
+{
+    let text = words.as_bytes();
+    let count = text.len().min(MOST);
+    fault.text[..count].copy_from_slice(&text[..count]);
+    fault.text[count] = 0;
+    fault.text_length = count as u32;
 }
 
 /// Writes an error as a fault, which came under these limits.
@@ -108,12 +125,9 @@ pub(crate) fn write_error(limits: &Limits, error: &Error, fault: &mut DurskeylFa
 {
     *fault = no_fault();
     let (kind, detail) = number(error.kind());
-    let text = error.message().as_bytes();
-    let count = text.len();
-    fault.text[..count].copy_from_slice(text);
-    fault.text[count] = 0;
+    let message = error.message();
+    write_text(message.as_str(), fault);
     fault.kind = kind;
-    fault.text_length = count as u32;
     fault.offset = error.offset();
     fault.detail = detail;
     fault.limit = limit_number(cause_of(limits, error));

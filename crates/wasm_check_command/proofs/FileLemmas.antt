@@ -128,10 +128,10 @@ module _ (accepts : Settings → List ℕ → Type 0) (words : List (List ℕ)) 
   ends_run (Err f) n h g q = (omega (arith, q), λ z. absurd (omega (arith, q, z)), λ z. absurd (omega (arith, q, z)), λ z. stopped_as f g)
 
 -- the names that a list has, and those that are given one by one
-pub named_by_list : (words names listed : List (List ℕ)) (file : List ℕ) → list_file words ≡ Some file → files_of words ≡ [] → names ≡ listed → HasNames listed
+pub named_by_list : (words names listed : List (List ℕ)) (file : List ℕ) → list_file words ≡ Some file → files_of words ≡ [] → names ≡ listed → HasNames file listed
     → NamesFiles words names
 named_by_list words names listed file e none same h =
-    subst (λ (o : Option (List ℕ)). AreGiven o (files_of words) names) (sym e) (none, subst HasNames (sym same) h)
+    subst (λ (o : Option (List ℕ)). AreGiven o (files_of words) names) (sym e) (none, subst (HasNames file) (sym same) h)
 
 pub named_one_by_one : (words names : List (List ℕ)) → list_file words ≡ None → names ≡ files_of words → 0 < length names → NamesFiles words names
 named_one_by_one words names e same some = subst (λ (o : Option (List ℕ)). AreGiven o (files_of words) names) (sym e) (same, some)

@@ -70,21 +70,21 @@ not_text : (bytes : List ℕ) → BeginsBinary bytes → is_text bytes ≡ is_te
 unfolding is_text
 not_text bytes (rest, e) = subst (λ (l : List ℕ). is_text l ≡ is_text []) (sym e) refl
 
-same_hint : (cause : Cause) (bytes : List ℕ) → is_text bytes ≡ is_text [] → hint_for cause bytes ≡ hint_for cause []
-same_hint causes.Vectors bytes e = refl
-same_hint (causes.Limit l) bytes e = refl
-same_hint (causes.Feature f) bytes e = refl
-same_hint causes.FixedLimit bytes e = refl
-same_hint causes.Types bytes e = refl
-same_hint causes.Another bytes e = ap (λ (b : Bool). if b then Some (codes "this is the text format; wasm-check judges the binary format") else None) e
+same_hint : (z : Limits) (cause : Cause) (bytes : List ℕ) → is_text bytes ≡ is_text [] → hint_for z cause bytes ≡ hint_for z cause []
+same_hint z causes.Vectors bytes e = refl
+same_hint z (causes.Limit l) bytes e = refl
+same_hint z (causes.Feature f) bytes e = refl
+same_hint z causes.FixedLimit bytes e = refl
+same_hint z causes.Types bytes e = refl
+same_hint z causes.Another bytes e = ap (λ (b : Bool). if b then Some (codes "this is the text format; wasm-check judges the binary format") else None) e
 
 -- so their line is that of an input of which nothing is seen
 same_line : (form : Form) (explains : Bool) (name : List ℕ) (l : Limits) (e : ErrorValue) (bytes : List ℕ) → BeginsBinary bytes
     → refused_text form explains name l e [] None ≡ refused_text form explains name l e bytes None
-same_line forms.Lines explains name l e bytes b = ap (λ (hint : Option (List ℕ)). invalid_line name e ++ lines_below explains hint None) (sym (same_hint (cause_of l e) bytes (not_text bytes b)))
+same_line forms.Lines explains name l e bytes b = ap (λ (hint : Option (List ℕ)). invalid_line name e ++ lines_below explains hint None) (sym (same_hint l (cause_of l e) bytes (not_text bytes b)))
 same_line forms.Json explains name l e bytes b =
     ap (λ (hint : Option (List ℕ)). refusal_object name e.offset (kind_word (cause_of l e) e.kind) e.message (cause_member (cause_of l e) ++ hint_member hint ++ explanation_member None))
-    (sym (same_hint (cause_of l e) bytes (not_text bytes b)))
+    (sym (same_hint l (cause_of l e) bytes (not_text bytes b)))
 same_line forms.Quiet explains name l e bytes b = refl
 
 module _ (accepts : Settings → List ℕ → Type 0) (z : Settings) (m : Manner) (alone : m.needs ≡ false) (name bytes line : List ℕ) where

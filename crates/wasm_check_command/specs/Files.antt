@@ -1,5 +1,5 @@
 -- What the program does with the files that it is given.
-use Rattle.std.specs.Prelude.{◌≡◌, ◌≢◌, codes, ℕ, Bool, IsTrue, true, false, ◌<◌, ◌≤◌, ◌⊎◌, length, List, [], ◌∷◌, map, take, Contains, slice_get, option_map, Option, Some, None, Result, Ok, Err}
+use Rattle.std.specs.Prelude.{◌≡◌, ◌≢◌, codes, ℕ, Bool, IsTrue, true, false, ◌<◌, ◌≤◌, ◌⊎◌, length, List, [], ◌∷◌, map, take, All, Contains, slice_get, option_map, Option, Some, None, Result, Ok, Err}
 use Rattle.std.specs.Borrow.{Bor}
 use Rattle.std.specs.Io.KnownBytes.{Appends, Keeps}
 use Rattle.clap.specs.declared.error.kind.ErrorKind.{ErrorKind}
@@ -21,7 +21,7 @@ use Rattle.wasm_check_lines.specs.declared.forms.Form.{Form}
 use Rattle.wasm_check_lines.specs.declared.forms.Form.TheVariants.{Lines, Json, Quiet}
 use Rattle.wasm_check_command.specs.Faults.{FailsReading}
 use Rattle.wasm_check_command.specs.Modes.{AreLeft, IsShort, Ruling, manner_of, ruled}
-use Rattle.wasm_check_command.specs.Opened.{kept_open}
+use Rattle.wasm_check_command.specs.Opened.{kept_open, names_stdin}
 use Rattle.wasm_check_command.specs.Names.{AreNames}
 use Rattle.wasm_check_command.specs.Verdict.{IsJudged, FailsAt}
 use Rattle.wasm_check_command.specs.Reports.{Source, IsReported, Stops}
@@ -354,14 +354,20 @@ pub record ReportsBy (accepts : Settings → List ℕ → Type 0) (asked : Asked
 abbrev pub HasList : Option (List ℕ) → List (List ℕ) → Type 0
 HasList said names = (list : List ℕ) × AreLeft said list × IsShort list × AreNames list names
 
--- some list has these names
-abbrev pub HasNames : List (List ℕ) → Type 0
-HasNames names = (list : List ℕ) × AreNames list names
+-- if this file is standard input, none of these names is its
+abbrev pub IsApart : List ℕ → List (List ℕ) → Type 0
+IsApart file names = names_stdin file ≡ true → All (λ n. names_stdin n ≡ false) names
+
+-- some list has these names, and they are apart from the file that gives it
+pub record HasNames (file : List ℕ) (names : List (List ℕ)) : Type 0 where
+  pub list : List ℕ
+  pub named : AreNames list names
+  pub apart : IsApart file names
 
 -- These are the names that the words give: one by one, at least one; or by a list that some file has.
 abbrev pub AreGiven : Option (List ℕ) → List (List ℕ) → List (List ℕ) → Type 0
 AreGiven None given names = (names ≡ given) × (0 < length names)
-AreGiven (Some file) given names = (given ≡ []) × HasNames names
+AreGiven (Some file) given names = (given ≡ []) × HasNames file names
 
 abbrev pub NamesFiles : List (List ℕ) → List (List ℕ) → Type 0
 NamesFiles words names = AreGiven (list_file words) (files_of words) names
@@ -378,7 +384,7 @@ FailsList file said (faults.Clash first second) = ⊥
 FailsList file said faults.NoFiles = ⊥
 FailsList file said (faults.WrongLimit wrong word) = ⊥
 
--- the list in this file could not be read, or these files are given too
+-- the list in this file could not be read or may not be there, or these files are given too
 abbrev pub IsListFault : List ℕ → List (List ℕ) → Fault → Type 0
 IsListFault file given (faults.CannotOpen name reason) = name.now ≡ file
 IsListFault file given (faults.Stopped error name reason) = (name.now ≡ file) × (error ≢ Write)

@@ -13,7 +13,7 @@ use Rattle.wasm_types.specs.settings.Settings.{Settings}
 use Rattle.wasm_check_lines.specs.Forms.{valid_text}
 use Rattle.wasm_check_lines.specs.declared.forms.Form.{Form}
 use Rattle.wasm_check_faults.specs.FeatureLists.{all_features}
-use Rattle.wasm_check_faults.specs.WordLists.{IsMinimal, needs_text}
+use Rattle.wasm_check_faults.specs.WordLists.{HasSwitch, IsMinimal, needs_text}
 use Rattle.wasm_check_command.specs.Manners.{Manner, plain}
 use Rattle.wasm_check_command.specs.declared.judging.Chosen.{Chosen}
 use Rattle.wasm_check_command.specs.declared.judging.Mode.{Mode}
@@ -52,9 +52,10 @@ abbrev pub by_features : (Settings → List ℕ → Type 0) → Limits → List 
 by_features accepts limits bytes features = accepts (settings_by features limits) bytes
 
 -- What is written of valid bytes in a file of this name: that they are valid, or a list of features by which they are, and of which
--- none can be left out.
+-- none can be left out, with the switch for operators on vectors if they are not valid without it.
 abbrev pub TellsValid : Bool → Form → (ℕ → Type 0) → List ℕ → List ℕ → Type 0
-TellsValid true form accepts name line = (words : List (List ℕ)) × IsMinimal accepts words × (line ≡ needs_text form name words)
+TellsValid true form accepts name line =
+    (words : List (List ℕ)) × (vectors : Bool) × IsMinimal accepts words × HasSwitch accepts words vectors × (line ≡ needs_text form name words vectors)
 TellsValid false form accepts name line = line ≡ valid_text form name
 
 -- By what lines are written: which bytes are valid, which an input may have of which a line is written, what is written of valid bytes in a file

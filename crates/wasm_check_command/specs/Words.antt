@@ -22,6 +22,10 @@ option_rule name = record (new_rule name) { long = Some name; action = Some Set;
 abbrev pub list_rule : List ℕ → Rule
 list_rule name = record (new_rule name) { long = Some name; action = Some Append; value_names = 1 }
 
+-- the lists of features: `--features LIST`, or `-f LIST` (f is 102)
+abbrev pub features_rule : Rule
+features_rule = record (list_rule (codes "features")) { short = Some 102 }
+
 -- a flag of this name, `--NAME`
 abbrev pub flag_rule : List ℕ → Rule
 flag_rule name = record (new_rule name) { long = Some name; action = Some SetTrue }
@@ -32,7 +36,7 @@ with_version a = record a { top = record a.top { has_version = true } }
 
 -- a command with the options that have a value
 abbrev pub with_values : App → App
-with_values a = with_rule (with_rule (with_rule a (list_rule (codes "features"))) (list_rule (codes "limits"))) (option_rule (codes "pieces"))
+with_values a = with_rule (with_rule (with_rule a features_rule) (list_rule (codes "limits"))) (option_rule (codes "pieces"))
 
 -- one with the option that names a list of files
 abbrev pub with_list : App → App

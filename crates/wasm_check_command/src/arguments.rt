@@ -1,10 +1,10 @@
 //! The words of the command line, as `clap` is told of them.
 ghost use Rattle.std.specs.Prelude.{◌≡◌, false, map, IfOk};
 ghost use Rattle.clap.specs.Words.{app_of, found_of, rows_of, rule_of, FailsBy};
-ghost use Rattle.wasm_check_command.specs.Words.{file_rule, flag_rule, list_rule, option_rule, matches_on, refusals_of, wasm_check};
+ghost use Rattle.wasm_check_command.specs.Words.{features_rule, file_rule, flag_rule, list_rule, option_rule, matches_on, refusals_of, wasm_check};
 ghost use Rattle.wasm_check_command.specs.Words.{with_forms, with_list, with_needs, with_stops, with_values};
 
-use crate::command::VERSION;
+use crate::built::VERSION;
 use clap::{Arg, ArgAction, ArgMatches, Command};
 use std::alloc::{AllocError, Global};
 use std::convert::AsStr;
@@ -41,6 +41,18 @@ fn list_argument<'a>(alloc: Global, name: &'a str, help: &'a str) -> Arg<'a>
         .action(ArgAction::Append)
 }
 
+/// The lists of features, as `--features` or `-f`.
+fn features_argument<'a>(alloc: Global) -> Arg<'a>
+    ensures { (rule_of result ≡ features_rule) × (result.global ≡ false) }
+{
+    list_argument(
+        alloc,
+        "features",
+        "The features that are allowed: words between commas, from left to right, as mvp,gc or no-simd; --features help lists them",
+    )
+    .short('f')
+}
+
 /// A flag of this name.
 fn flag_argument<'a>(alloc: Global, name: &'a str, help: &'a str) -> Arg<'a>
     ensures { (rule_of result ≡ flag_rule name.entry.now) × (result.global ≡ false) }
@@ -55,11 +67,7 @@ fn flag_argument<'a>(alloc: Global, name: &'a str, help: &'a str) -> Arg<'a>
 fn with_values<'a>(alloc: Global, command: Command<'a>) -> Result<Command<'a>, AllocError>
     ensures { IfOk result (λ c. app_of c ≡ with_values (app_of command.entry)) }
 {
-    let features = list_argument(
-        alloc,
-        "features",
-        "The features that are allowed: words between commas, from left to right, as mvp,gc or no-simd; --features help lists them",
-    );
+    let features = features_argument(alloc);
     let limits = list_argument(
         alloc,
         "limits",

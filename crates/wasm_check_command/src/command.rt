@@ -16,6 +16,7 @@ ghost use Rattle.wasm_check_command.specs.Files.{asked_of, IsChosen, NamesFiles,
 ghost use Rattle.wasm_check_command.specs.Files.{EndsBy, StopsFiles, StopsGoingBy};
 
 use crate::arguments::parse;
+use crate::built::VERSION_JSON;
 use crate::files::{Ended, judge_files, name_at};
 use crate::going::judge_going;
 use crate::judging::{Chosen, Judge, Mode, Status, write_text};
@@ -34,9 +35,6 @@ use wasm_check_faults::{
 };
 use wasm_check_lines::{Form, Shown};
 use wasm_types::{Limits, WasmFeatures};
-
-/// The version that `--version` prints.
-pub const VERSION: &str = "0.2.0";
 
 /// The most bytes that a piece may have.
 const MAX_PIECE: u64 = 0x10_0000;
@@ -300,8 +298,17 @@ fn shown_words<S: AsStr>(alloc: Global, words: &[S]) -> Result<Vec<String>, Allo
     Ok(shown)
 }
 
+/// Whether a word is `--json`.
+fn asks_for_json<S: AsStr>(words: &[S]) -> bool {
+    let mut is_asked = false;
+    for word in words {
+        is_asked = is_asked || word.as_str() == "--json";
+    }
+    is_asked
+}
+
 /// The help or the version, as the words ask for, in `clap`'s text over the words as they are shown: the help has the program's own
-/// name. The words as they are shown ask for the same; if `clap` answers otherwise, memory ran out.
+/// name; the version is an object if they ask for JSON. The words as they are shown ask for the same; if `clap` answers otherwise, memory ran out.
 fn help_text<S: AsStr>(alloc: Global, words: &[S]) -> Result<String, AllocError> {
     let shown = shown_words(alloc, words)?;
     let Err(answer) = parse(alloc, shown.as_slice()) else {
@@ -309,6 +316,10 @@ fn help_text<S: AsStr>(alloc: Global, words: &[S]) -> Result<String, AllocError>
     };
     if answer.use_stderr() {
         return Err(AllocError);
+    }
+    if matches!(answer.kind(), ErrorKind::DisplayVersion) && asks_for_json(words) {
+        let text = VERSION_JSON;
+        return format!(in alloc; "{text}");
     }
     format!(in alloc; "{answer}")
 }

@@ -8,7 +8,7 @@ ghost use Rattle.wasm_check_command.specs.Files.{texts, joined, CannotOpen, Fail
 
 use crate::judging::{Chosen, Input, Judge, MAX_BYTES, Status, judge_reader};
 use std::alloc::Global;
-use std::fs::{File, OpenFile};
+use std::fs::{File, OpenFile, OpenOptions};
 use std::io::{self, Input as Standard, Read, Write};
 use std::rt::Files;
 use wasm_check_faults::{CheckError, Fault, Reason};
@@ -19,6 +19,9 @@ const KEPT: usize = 100;
 
 /// A file of no bytes; what is opened to read it takes none.
 const NULL: &str = "/dev/null";
+
+/// The system's number for the error that nothing is open under a number, or that it is not open for what is asked of it.
+const NOT_OPEN: i32 = 9;
 
 /// What a file's bytes are read from.
 #[derive(Debug, Drop)]
@@ -50,12 +53,67 @@ pub(crate) struct Held<F> {
     third: io::Result<F>,
 }
 
+/// Whether this name is that of standard input.
+pub(crate) fn is_stdin(name: &str) -> bool
+    ensures { result ≡ names_stdin name.now }
+{
+    name == "-"
+}
+
+/// Whether one of these names is.
+fn name_stdin(names: &[&str]) -> bool {
+    for name in names {
+        if is_stdin(*name) {
+            return true;
+        }
+    }
+    false
+}
+
+/// Standard input, if it is open to be read. That it is not shows by a read of no bytes.
+fn open_stdin<F: Standard>(rt: &F) -> io::Result<F::Reader> {
+    let mut reader = rt.reader();
+    let mut room = [0u8; 1];
+    match reader.read(&mut room[..0]) {
+        Ok(_) => Ok(reader),
+        Err(error) => {
+            if error.raw_os_error() == Some(NOT_OPEN) {
+                return Err(error);
+            }
+            Ok(reader)
+        }
+    }
+}
+
+/// Whether standard input is closed, so that a file which is opened next takes its place. One that is open, but not to be read, is not.
+fn is_stdin_closed<F: Files + Standard>(rt: &F) -> bool {
+    if open_stdin(rt).is_ok() {
+        return false;
+    }
+    match File::open(rt, NULL) {
+        Ok(_held) => open_stdin(rt).is_ok(),
+        Err(_) => false,
+    }
+}
+
+/// Opens `/dev/null`, so that nothing can be read from it.
+fn hold_closed<F: Files>(rt: &F) -> io::Result<F::File> {
+    let mut how = OpenOptions::new();
+    how.write(true);
+    how.open(rt, NULL)
+}
+
 /// Opens `/dev/null` three times, as far as it can be opened. The system gives a file the least number that is free. So a program
-/// that was started with standard input, output or error closed has `/dev/null` there, for as long as these are held, and no input:
-/// `-` would read a file in place of standard input.
-pub(crate) fn hold_streams<F: Files>(rt: &F) -> Held<F::File> {
+/// that was started with standard input, output or error closed has `/dev/null` there, for as long as these are held: no file is read or
+/// written in its place. If `-` is among the names, what takes the place of standard input cannot be read: nothing is judged for it.
+pub(crate) fn hold_streams<F: Files + Standard>(rt: &F, names: &[&str]) -> Held<F::File> {
+    let first = if name_stdin(names) && is_stdin_closed(rt) {
+        hold_closed(rt)
+    } else {
+        File::open(rt, NULL)
+    };
     Held {
-        first: File::open(rt, NULL),
+        first,
         second: File::open(rt, NULL),
         third: File::open(rt, NULL),
     }
@@ -63,13 +121,7 @@ pub(crate) fn hold_streams<F: Files>(rt: &F) -> Held<F::File> {
 
 /// Why a stream is not held, if one is not, and standard input is among the files of these names: some other file may be read in its place.
 pub(crate) fn unheld<F>(held: &Held<F>, names: &[&str]) -> Option<Reason> {
-    let mut reads_stdin = false;
-    for name in names {
-        if *name == "-" {
-            reads_stdin = true;
-        }
-    }
-    if !reads_stdin {
+    if !name_stdin(names) {
         return None;
     }
     match (&held.first, &held.second, &held.third) {
@@ -80,15 +132,18 @@ pub(crate) fn unheld<F>(held: &Held<F>, names: &[&str]) -> Option<Reason> {
     }
 }
 
-/// Opens the file of this name; `-` is standard input.
+/// Opens the file of this name; `-` is standard input, which cannot be opened if it is closed.
 pub(crate) fn open<F: Files + Standard>(
     rt: &F,
     name: &str,
 ) -> io::Result<Opened<F::File, F::Reader>>
     ensures { IfOk result (λ o. is_stdin o ≡ names_stdin name.now) }
 {
-    if name == "-" {
-        return Ok(Opened::Stdin(rt.reader()));
+    if is_stdin(name) {
+        return match open_stdin(rt) {
+            Ok(reader) => Ok(Opened::Stdin(reader)),
+            Err(error) => Err(error),
+        };
     }
     match File::open(rt, name) {
         Ok(file) => Ok(Opened::File(file)),
@@ -471,7 +526,7 @@ pub(crate) fn judge_files<'a, J: Judge, F: Files + Standard, W: Write>(
     ensures err { IfErr result (StopsFiles (ruling_of J.accepts chosen) (texts names.now)
         (W.contents out.old) (W.contents out.new)) }
 {
-    let held = hold_streams(rt);
+    let held = hold_streams(rt, names);
     if let Some(reason) = unheld(&held, names) {
         return Err(Fault::CannotHold(reason));
     }

@@ -174,7 +174,7 @@ pub(crate) fn judge_going<'a, J: Judge, F: Files + Standard, W: Write, E: Write>
         (W.contents out.old) (W.contents out.new)) }
     ensures quiet { IfOk result (λ e. e.lost ≡ false → Keeps (E.contents err.old) (E.contents err.new)) }
 {
-    let held = hold_streams(rt);
+    let held = hold_streams(rt, names);
     if let Some(reason) = unheld(&held, names) {
         return Err(Fault::CannotHold(reason));
     }

@@ -1,6 +1,6 @@
 //! Inputs are judged one after another, and a line is written for each.
-ghost use Rattle.std.specs.Prelude.{◌≡◌, ◌≤◌, ◌++◌, ℕ, IsTrue, false, List, [], length, IfOk, IfErr, OnOk, string_bytes};
-ghost use Rattle.std.specs.Io.KnownBytes.{Appends, ReadConsumes, prepend_known};
+ghost use Rattle.std.specs.Prelude.{◌≡◌, ◌≤◌, ◌++◌, ℕ, IsTrue, false, List, [], length, take, IfOk, IfErr, OnOk, OnErr, Option, string_bytes};
+ghost use Rattle.std.specs.Io.KnownBytes.{Appends, Consumes, IsAtEnd, Keeps, ReadConsumes, prepend_known};
 ghost use Rattle.wasm_types.specs.decoding.Denials.{Tells};
 ghost use Rattle.wasm_types.specs.settings.Settings.{Settings};
 ghost use Rattle.wasm_types.specs.settings.Limits.{IsWithinCeilings};
@@ -10,12 +10,12 @@ ghost use Rattle.wasm_check_command.specs.Modes.{AreLeft, CanJudge, FailsJudging
 ghost use Rattle.wasm_check_command.specs.Modes.{TellsValid, by_features, judged_by, manner_of, ruled, ruling_by, ruling_of};
 ghost use Rattle.wasm_check_command.specs.Faults.{FailsReading};
 ghost use Rattle.wasm_check_command.specs.Verdict.{WritesFront, IsVerdict, WritesLine, IsJudged, FailsWriting, FailsAt};
-ghost use Rattle.wasm_check_faults.specs.declared.error.CheckError.TheVariants.{Write as TheWrite};
+ghost use Rattle.wasm_check_faults.specs.declared.error.CheckError.TheVariants.{Read as TheRead, Write as TheWrite};
 ghost use Rattle.wasm_check_command.specs.declared.judging.Mode.TheVariants.{Whole as whole};
 ghost use Rattle.wasm_check_command.specs.Reports.{sources_of, IsReported, Stops};
 
 use crate::large::judge_large;
-use crate::needs::minimal_list;
+use crate::needs::{minimal_list, needs_switch};
 use crate::pieces::judge_in_pieces;
 use crate::steady::{read_steadily, write_steadily};
 use bitflags::Flags;
@@ -202,7 +202,7 @@ pub(crate) fn without_reason(error: CheckError) -> Failure
 }
 
 /// One read, of at most so many bytes and no more than the chunk has: how many came, at its front.
-pub(crate) fn read_some<R: Read>(reader: &mut R, chunk: &mut [u8], most: usize) -> io::Result<usize>
+fn read_some<R: Read>(reader: &mut R, chunk: &mut [u8], most: usize) -> io::Result<usize>
     requires chunk { 1 ≤ length chunk.old }
     requires most { 1 ≤ most }
     ensures gives { ReadConsumes (R.remaining reader.old) (R.remaining reader.new) result chunk.new }
@@ -211,6 +211,41 @@ pub(crate) fn read_some<R: Read>(reader: &mut R, chunk: &mut [u8], most: usize) 
 {
     let room = chunk.len().min(most);
     read_steadily(reader, &mut chunk[..room])
+}
+
+/// The failure of a read.
+fn unread(index: usize, error: &io::Error) -> Failure
+    ensures { result.error ≡ TheRead index }
+{
+    Failure {
+        error: CheckError::Read(index),
+        reason: Reason::of(error),
+    }
+}
+
+/// Puts what one read gives at the front of the chunk, which is then as long as a read may be: how many bytes came, at most
+/// `most` of them.
+pub(crate) fn read_over<R: Read>(
+    index: usize,
+    reader: &mut R,
+    most: usize,
+    chunk: &mut Vec<u8>,
+) -> Result<usize, Failure>
+    requires { 1 ≤ most }
+    ensures gives { IfOk result (λ count. Consumes (R.remaining reader.old) (R.remaining reader.new)
+        (take count chunk.new.items)) }
+    ensures at_end { IfOk result (λ count. count ≡ 0 → IsAtEnd (R.remaining reader.new)) }
+    ensures within { IfOk result (λ count. (count ≤ most) × (count ≤ length chunk.new.items)) }
+    ensures err { IfErr result (λ u. (said : Option (List ℕ)) → FailsReading index said u.error) }
+    ensures kept { OnErr result (Keeps (R.remaining reader.old) (R.remaining reader.new)) }
+{
+    if chunk.resize(CHUNK, 0).is_err() {
+        return Err(without_reason(CheckError::OutOfMemory(index)));
+    }
+    match read_some(reader, chunk.as_mut_slice(), most) {
+        Ok(count) => Ok(count),
+        Err(error) => Err(unread(index, &error)),
+    }
 }
 
 /// Puts what a reader has left into the buffer, in place of what stood there. No more is read than shows that it is too much.
@@ -240,17 +275,12 @@ pub(crate) fn read_behind<R: Read>(
         FailsReading index (prepend_known buffer.old.items (R.remaining reader.old)) u.error) }
     ensures most { ReadsWithin (prepend_known buffer.old.items (R.remaining reader.old)) (R.remaining reader.new) }
 {
-    let mut chunk = [0u8; CHUNK];
+    let mut chunk = Vec::new(*buffer.allocator());
     for _turn in 0..=MAX_BYTES {
         let left = MAX_BYTES - buffer.len();
-        let count = match read_some(reader, &mut chunk, left + 1) {
+        let count = match read_over(index, reader, left + 1, &mut chunk) {
             Ok(count) => count,
-            Err(error) => {
-                return Err(Failure {
-                    error: CheckError::Read(index),
-                    reason: Reason::of(&error),
-                });
-            }
+            Err(failure) => return Err(failure),
         };
         if count == 0 {
             return Ok(());
@@ -258,7 +288,8 @@ pub(crate) fn read_behind<R: Read>(
         if count > left {
             return Err(without_reason(CheckError::TooLong(index)));
         }
-        if buffer.extend_from_slice(&chunk[..count]).is_err() {
+        let read = chunk.as_slice();
+        if buffer.extend_from_slice(&read[..count]).is_err() {
             return Err(without_reason(CheckError::OutOfMemory(index)));
         }
     }
@@ -324,7 +355,8 @@ fn accepted_text<J: Judge>(
         return valid_text(alloc, chosen.form, name);
     }
     let words = minimal_list(judge, alloc, chosen.limits, index, bytes)?;
-    needs_text(alloc, chosen.form, name, words.as_slice())
+    let vectors = needs_switch(judge, alloc, chosen.limits, index, bytes, words.as_slice())?;
+    needs_text(alloc, chosen.form, name, words.as_slice(), vectors)
 }
 
 /// The line of these bytes, and whether they spell a valid module.

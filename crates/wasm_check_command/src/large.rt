@@ -3,7 +3,6 @@
 ghost use Rattle.std.specs.Prelude.{◌≡◌, IsTrue, false, IfOk, IfErr, OnOk, string_bytes};
 ghost use Rattle.std.specs.Io.KnownBytes.{Consumes, prepend_known};
 ghost use Rattle.wasm_types.specs.settings.Limits.{IsWithinCeilings};
-ghost use Rattle.wasm_check_faults.specs.declared.error.CheckError.TheVariants.{Read as TheRead};
 ghost use Rattle.wasm_check_command.specs.Settings.{settings_of};
 ghost use Rattle.wasm_check_command.specs.Faults.{FailsReading};
 ghost use Rattle.wasm_check_command.specs.Modes.{BeginsBinary, HasVerdict, IsShort, ReadsWithin, manner_of, ruled};
@@ -11,13 +10,13 @@ ghost use Rattle.wasm_check_command.specs.Verdict.{FailsAt, IsJudged, IsTextOf};
 ghost use Rattle.wasm_check_command.specs.declared.judging.Mode.TheVariants.{Whole as whole};
 
 use crate::judging::{
-    CHUNK, Chosen, Failure, Judge, MAX_BYTES, judge_bytes, read_behind, read_some, without_reason,
+    CHUNK, Chosen, Failure, Judge, MAX_BYTES, judge_bytes, read_behind, read_over, without_reason,
     write_text,
 };
 use crate::pieces::unexplained;
 use std::alloc::{AllocError, Global};
-use std::io::{self, Read, Write};
-use wasm_check_faults::{CheckError, Reason};
+use std::io::{Read, Write};
+use wasm_check_faults::CheckError;
 use wasm_check_lines::valid_text;
 use wasm_types::{Error, ErrorKind};
 
@@ -28,26 +27,12 @@ fn read_front<R: Read>(index: usize, reader: &mut R, buffer: &mut Vec<u8>) -> Re
     ensures err { IfErr result (λ u. FailsReading index (R.remaining reader.old) u.error) }
     ensures most { ReadsWithin (R.remaining reader.old) (R.remaining reader.new) }
 {
-    buffer.clear();
-    let mut chunk = [0u8; CHUNK];
-    let count = match read_some(reader, &mut chunk, CHUNK) {
+    let count = match read_over(index, reader, CHUNK, buffer) {
         Ok(count) => count,
-        Err(error) => return Err(unread(index, &error)),
+        Err(failure) => return Err(failure),
     };
-    if buffer.extend_from_slice(&chunk[..count]).is_err() {
-        return Err(without_reason(CheckError::OutOfMemory(index)));
-    }
+    buffer.truncate(count);
     Ok(())
-}
-
-/// The failure of a read.
-fn unread(index: usize, error: &io::Error) -> Failure
-    ensures { result.error ≡ TheRead index }
-{
-    Failure {
-        error: CheckError::Read(index),
-        reason: Reason::of(error),
-    }
 }
 
 /// Whether these bytes begin as a binary module does, so that they are no text.
@@ -76,30 +61,30 @@ fn begin_with<J: Judge>(
     begun
 }
 
-/// The verdict on these bytes and what a reader has left behind them. All of that is read, whatever the verdict, but no
-/// more than shows that it is too much.
+/// The verdict on the bytes in the buffer and what a reader has left behind them, which is read into the buffer. All of
+/// that is read, whatever the verdict, but no more than shows that it is too much.
 fn judge_behind<J: Judge, R: Read>(
     judge: &J,
     alloc: Global,
     chosen: Chosen,
     index: usize,
-    front: &[u8],
     reader: &mut R,
+    buffer: &mut Vec<u8>,
 ) -> Result<Result<(), Error>, Failure>
     requires within { IsWithinCeilings chosen.limits }
-    requires short { IsShort front.now }
-    ensures ok { IfOk result (HasVerdict (J.accepts (settings_of chosen)) front.now (R.remaining reader.old)) }
-    ensures err { IfErr result (λ u. FailsReading index (prepend_known front.now (R.remaining reader.old)) u.error) }
-    ensures most { ReadsWithin (prepend_known front.now (R.remaining reader.old)) (R.remaining reader.new) }
+    requires short { IsShort buffer.old.items }
+    ensures ok { IfOk result (HasVerdict (J.accepts (settings_of chosen)) buffer.old.items (R.remaining reader.old)) }
+    ensures err { IfErr result (λ u. FailsReading index (prepend_known buffer.old.items (R.remaining reader.old)) u.error) }
+    ensures most { ReadsWithin (prepend_known buffer.old.items (R.remaining reader.old)) (R.remaining reader.new) }
 {
+    let front = buffer.as_slice();
     let mut begun = begin_with(judge, alloc, chosen, index, front);
     let mut came = front.len();
-    let mut chunk = [0u8; CHUNK];
     for _turn in 0..=MAX_BYTES {
         let left = MAX_BYTES - came;
-        let count = match read_some(reader, &mut chunk, left + 1) {
+        let count = match read_over(index, reader, left + 1, buffer) {
             Ok(count) => count,
-            Err(error) => return Err(unread(index, &error)),
+            Err(failure) => return Err(failure),
         };
         if count == 0 {
             return Ok(judge.conclude(begun));
@@ -107,7 +92,8 @@ fn judge_behind<J: Judge, R: Read>(
         if count > left {
             return Err(without_reason(CheckError::TooLong(index)));
         }
-        judge.take(&mut begun, &chunk[..count]);
+        let read = buffer.as_slice();
+        judge.take(&mut begun, &read[..count]);
         came += count;
     }
     unreachable!()
@@ -137,29 +123,29 @@ fn verdict_text(
     }
 }
 
-/// Judges an input that begins with these bytes, and of which a reader has the others left, as it comes; writes its
-/// line, and says whether it is a valid module.
+/// Judges an input that begins with the bytes in the buffer, and of which a reader has the others left, as it comes;
+/// writes its line, and says whether it is a valid module.
 fn judge_binary<J: Judge, R: Read, W: Write>(
     judge: &J,
     alloc: Global,
     chosen: Chosen,
     index: usize,
     name: &str,
-    front: &[u8],
     reader: &mut R,
+    buffer: &mut Vec<u8>,
     out: &mut W,
 ) -> Result<bool, Failure>
     requires within { IsWithinCeilings chosen.limits }
     requires alone { chosen.needs ≡ false }
-    requires short { IsShort front.now }
-    requires binary { BeginsBinary front.now }
+    requires short { IsShort buffer.old.items }
+    requires binary { BeginsBinary buffer.old.items }
     ensures ok { IfOk result (λ valid. IsJudged (ruled (manner_of chosen) whole J.accepts (settings_of chosen)) name.now
-        (prepend_known front.now (R.remaining reader.old)) valid (W.contents out.old) (W.contents out.new)) }
+        (prepend_known buffer.old.items (R.remaining reader.old)) valid (W.contents out.old) (W.contents out.new)) }
     ensures err { IfErr result (λ u. FailsAt (ruled (manner_of chosen) whole J.accepts (settings_of chosen)) index
-        name.now (prepend_known front.now (R.remaining reader.old)) (W.contents out.old) (W.contents out.new) u.error) }
-    ensures most { ReadsWithin (prepend_known front.now (R.remaining reader.old)) (R.remaining reader.new) }
+        name.now (prepend_known buffer.old.items (R.remaining reader.old)) (W.contents out.old) (W.contents out.new) u.error) }
+    ensures most { ReadsWithin (prepend_known buffer.old.items (R.remaining reader.old)) (R.remaining reader.new) }
 {
-    let verdict = match judge_behind(judge, alloc, chosen, index, front, reader) {
+    let verdict = match judge_behind(judge, alloc, chosen, index, reader, buffer) {
         Ok(verdict) => verdict,
         Err(failure) => return Err(failure),
     };
@@ -226,6 +212,5 @@ pub(crate) fn judge_large<J: Judge, R: Read, W: Write>(
     if !is_binary(buffer.as_slice()) {
         return judge_others(judge, alloc, chosen, index, name, reader, buffer, out);
     }
-    let front = buffer.as_slice();
-    judge_binary(judge, alloc, chosen, index, name, front, reader, out)
+    judge_binary(judge, alloc, chosen, index, name, reader, buffer, out)
 }

@@ -8,6 +8,7 @@
 #![tactic(auto)]
 
 mod arguments;
+mod built;
 mod command;
 mod files;
 mod going;
@@ -21,6 +22,7 @@ mod steady;
 mod tables;
 mod telling;
 
-pub use command::{VERSION, reads_worked_words, run_by};
+pub use built::VERSION;
+pub use command::{reads_worked_words, run_by};
 pub use judging::{Input, Judge, MAX_BYTES, Mode, Status, Unjudged, check_by};
 pub use names::word_text;

@@ -4,7 +4,7 @@
 //! what it accepts by fewer. So each word that stays is tried once more, after the last one that was left out.
 ghost use Rattle.std.specs.Prelude.{◌≡◌, ◌<◌, ◌≤◌, ◌+◌, ℕ, IsTrue, false, None, IfOk, IfSome, length};
 ghost use Rattle.wasm_types.specs.settings.Limits.{IsWithinCeilings};
-ghost use Rattle.wasm_check_faults.specs.WordLists.{AreFeatures, HasBits, IsMinimal, Lacks, Suffices, without_word, words_in};
+ghost use Rattle.wasm_check_faults.specs.WordLists.{AreFeatures, HasBits, HasSwitch, IsMinimal, Lacks, Suffices, without_word, words_in};
 ghost use Rattle.wasm_check_command.specs.Modes.{all_bits, by_features};
 
 use crate::judging::Judge;
@@ -167,7 +167,8 @@ pub(crate) fn minimal_list<J: Judge>(
 ) -> Result<Vec<FeatureWord>, AllocError>
     requires within { IsWithinCeilings limits }
     requires valid { by_features J.accepts limits bytes.now all_bits }
-    ensures { IfOk result (λ words. IsMinimal (by_features J.accepts limits bytes.now) (words_in words.items)) }
+    ensures known { IfOk result (λ words. AreFeatures words.items) }
+    ensures minimal { IfOk result (λ words. IsMinimal (by_features J.accepts limits bytes.now) (words_in words.items)) }
 {
     let all = all_features(alloc)?;
     let mut words = go_through(judge, alloc, limits, index, bytes, all)?;
@@ -178,4 +179,28 @@ pub(crate) fn minimal_list<J: Judge>(
         }
     }
     unreachable!()
+}
+
+/// Whether bytes that are valid by the list with these words need the switch for operators on vectors too.
+///
+/// # Errors
+///
+/// Memory ran out.
+pub(crate) fn needs_switch<J: Judge>(
+    judge: &J,
+    alloc: Global,
+    limits: Limits,
+    index: usize,
+    bytes: &[u8],
+    words: &[FeatureWord],
+) -> Result<bool, AllocError>
+    requires within { IsWithinCeilings limits }
+    requires known { AreFeatures words.now }
+    ensures { IfOk result (HasSwitch (by_features J.accepts limits bytes.now) (words_in words.now)) }
+{
+    let features = features_with(words);
+    if accepts(judge, alloc, features, limits, index, bytes)? {
+        return Ok(false);
+    }
+    Ok(true)
 }

@@ -19,7 +19,7 @@ use Rattle.wasm_check_faults.specs.declared.error.CheckError.TheVariants.{Read, 
 use Rattle.wasm_check_faults.specs.declared.limits.Wrong.{Wrong}
 use Rattle.wasm_check_faults.specs.declared.limits.Wrong.TheVariants.{Unknown, BadValue}
 use Rattle.wasm_check_faults.specs.declared.reason.Reason.{Reason}
-use Rattle.wasm_check_faults.specs.declared.reason.Reason.TheVariants.{NotFound, PermissionDenied, IsADirectory, NotADirectory, FilesystemLoop, InvalidFilename, StorageFull, QuotaExceeded, FileTooLarge, BrokenPipe, NotUtf8}
+use Rattle.wasm_check_faults.specs.declared.reason.Reason.TheVariants.{NotFound, PermissionDenied, IsADirectory, NotADirectory, FilesystemLoop, InvalidFilename, StorageFull, QuotaExceeded, FileTooLarge, BrokenPipe, NotUtf8, GivesList}
 use Rattle.wasm_check_faults.specs.declared.reason.Reason.TheVariants as reasons
 use Rattle.wasm_check_faults.specs.Reasons.{reason_hint}
 use Rattle.wasm_check_faults.specs.declared.faults.Fault.{Fault}
@@ -83,6 +83,7 @@ reason_stays QuotaExceeded = literal (codes "quota exceeded") refl
 reason_stays FileTooLarge = literal (codes "file too large") refl
 reason_stays BrokenPipe = literal (codes "broken pipe") refl
 reason_stays NotUtf8 = literal (codes "a name has to be UTF-8") refl
+reason_stays GivesList = literal (codes "the list comes from standard input") refl
 reason_stays reasons.Unknown = tt
 
 known_stays : (word : List ℕ) → StaysInLine word → StaysInLine (known_text word)

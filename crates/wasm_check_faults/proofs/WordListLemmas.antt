@@ -20,11 +20,12 @@ use Rattle.wasm_check_lines.specs.FeatureWords.{feature_words}
 use Rattle.wasm_check_lines.specs.Json.{json_text}
 use Rattle.wasm_check_lines.specs.Shown.{shown}
 use Rattle.wasm_check_lines.specs.LineLaws.{IsOneLine, StaysInLine}
+use Rattle.wasm_check_lines.specs.declared.forms.Form.TheVariants.{Lines, Json}
 use Rattle.wasm_check_lines.proofs.InLine.{json_stays, literal, shown_stays}
 use Rattle.wasm_check_faults.specs.Lists.{Place, place_of, through, words_of}
 use Rattle.wasm_check_faults.specs.FeatureLists.{all_features, Change, Replace, Add, Remove, change_of, changed, features_along, features_of, feature_step}
 use Rattle.wasm_check_faults.specs.WordLists.{AreFeatures, IsFeature, Lacks, MinimalRows, NeedsEndOnce, Suffices, has_both, has_either}
-use Rattle.wasm_check_faults.specs.WordLists.{listed, needs_line, needs_object, next_word, row_of, without_word, words_in}
+use Rattle.wasm_check_faults.specs.WordLists.{listed, needs_line, needs_object, needs_text, next_word, row_of, switch_member, switch_text, without_word, words_in}
 use Rattle.wasm_check_faults.specs.declared.word_lists.FeatureWord.{FeatureWord}
 use Rattle.wasm_check_faults.proofs.ListLemmas.{taken, ended}
 
@@ -135,29 +136,45 @@ list_stays : (words : List (List ℕ)) → All IsFeature words → StaysInLine (
 unfolding listed
 list_stays words h = both (codes "mvp") (flat_map next_word words) (literal (codes "mvp") refl) (words_stay words h)
 
-line_ends : (name : List ℕ) (words : List (List ℕ)) → All IsFeature words → IsOneLine (needs_line name words)
-line_ends name words h = record {
-  front = shown name ++ codes ": needs " ++ listed words;
-  inside = both (shown name ++ codes ": needs ") (listed words) (both (shown name) (codes ": needs ") (shown_stays name) (literal (codes ": needs ") refl)) (list_stays words h);
+switch_stays : (vectors : Bool) → StaysInLine (switch_text vectors)
+switch_stays true = literal (codes " --vectors") refl
+switch_stays false = literal [] refl
+
+member_stays : (vectors : Bool) → StaysInLine (switch_member vectors)
+member_stays true = literal (codes "\",\"vectors\":true") refl
+member_stays false = literal (codes "\"") refl
+
+line_of : (name list : List ℕ) → StaysInLine list → IsOneLine (needs_line name list)
+line_of name list s = record {
+  front = shown name ++ codes ": needs " ++ list;
+  inside = both (shown name ++ codes ": needs ") list (both (shown name) (codes ": needs ") (shown_stays name) (literal (codes ": needs ") refl)) s;
   ended = refl;
 }
 
-object_ends : (name : List ℕ) (words : List (List ℕ)) → All IsFeature words → IsOneLine (needs_object name words)
-object_ends name words h =
+line_ends : (name : List ℕ) (words : List (List ℕ)) (vectors : Bool) → All IsFeature words → IsOneLine (needs_text Lines name words vectors)
+line_ends name words vectors h =
+    line_of name (listed words ++ switch_text vectors) (both (listed words) (switch_text vectors) (list_stays words h) (switch_stays vectors))
+
+object_of : (name list : List ℕ) → StaysInLine list → IsOneLine (needs_object name list)
+object_of name list s =
     let a = codes "{\"file\":\"" in
     let b = codes "\",\"valid\":true,\"needs\":\"" in
-    let all = a ++ json_text name ++ b ++ listed words in
+    let all = a ++ json_text name ++ b ++ list in
     let in_name : StaysInLine (a ++ json_text name) = both a (json_text name) (literal a refl) (json_stays name) in
     let in_valid : StaysInLine (a ++ json_text name ++ b) = both (a ++ json_text name) b in_name (literal b refl) in
     record {
-      front = all ++ codes "\"}";
-      inside = both all (codes "\"}") (both (a ++ json_text name ++ b) (listed words) in_valid (list_stays words h)) (literal (codes "\"}") refl);
-      ended = sym (append_assoc all (codes "\"}") (10 ∷ []));
+      front = all ++ codes "}";
+      inside = both all (codes "}") (both (a ++ json_text name ++ b) list in_valid s) (literal (codes "}") refl);
+      ended = sym (append_assoc all (codes "}") (10 ∷ []));
     }
+
+object_ends : (name : List ℕ) (words : List (List ℕ)) (vectors : Bool) → All IsFeature words → IsOneLine (needs_text Json name words vectors)
+object_ends name words vectors h =
+    object_of name (listed words ++ switch_member vectors) (both (listed words) (switch_member vectors) (list_stays words h) (member_stays vectors))
 
 pub needs_end : NeedsEndOnce
 unfolding shown json_text listed chars digits lib.Utf8.encode
-needs_end = record { line = line_ends; object = object_ends; mvp = refl; two = refl; two_json = refl }
+needs_end = record { line = line_ends; object = object_ends; mvp = refl; two = refl; two_json = refl; switch_json = refl }
 
 -- ---- worked lists of which no word can be left out
 module _ (accepts : ℕ → Type 0) (words : List (List ℕ)) (bits : ℕ) (named : features_of (listed words) ≡ Ok bits) where

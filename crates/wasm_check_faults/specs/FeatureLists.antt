@@ -29,6 +29,7 @@ set_words = (codes "mvp", bits_of mvp)
     ∷ (codes "lime1", bits_of lime1)
     ∷ (codes "default", bits_of default_features)
     ∷ (codes "all", bits_of all_features)
+    ∷ (codes "-all", 0)
     ∷ []
 
 -- The name of a constant as a word: in lower case, with hyphens (45) for underscores (95). So the words of the features are the names of
@@ -55,11 +56,11 @@ changed (Replace set) bits = set
 changed (Add feature) bits = bit_or bits feature
 changed (Remove feature) bits = without 32 bits feature
 
--- what follows `no-`
+-- what follows `no-`, or `-` alone
 abbrev pub after_no : List ℕ → Option (List ℕ)
-after_no word = if bytes_eq (take 3 word) (codes "no-") then Some (drop 3 word) else None
+after_no word = if bytes_eq (take 3 word) (codes "no-") then Some (drop 3 word) else (if bytes_eq (take 1 word) (codes "-") then Some (drop 1 word) else None)
 
--- the word is a set's name, or a feature's, or `no-` and a feature's name; any other is unknown, the empty one too
+-- the word is a set's name, or a feature's, or `no-` or `-` and a feature's name; any other is unknown, the empty one too
 abbrev pub first_known : Option ℕ → Option ℕ → Option ℕ → Option Change
 first_known (Some set) added removed = Some (Replace set)
 first_known None (Some feature) removed = Some (Add feature)

@@ -5,7 +5,7 @@ use Rattle.std.specs.Char.{is_ascii_digit}
 use Rattle.std.specs.List.{before_first, after_first, find, position_or_len}
 use Rattle.wasm_types.specs.settings.Limits.{default_limits, ceilings}
 use Rattle.wasm_types.specs.settings.declared.Limits.{Limits}
-use Rattle.wasm_check_lines.specs.Limits.{word_of}
+use Rattle.wasm_check_lines.specs.Limits.{limit_of, word_of}
 use Rattle.wasm_check_lines.specs.declared.limit.Limit.{Limit}
 use Rattle.wasm_check_lines.specs.declared.limit.Limit.TheVariants as limits
 use Rattle.wasm_check_faults.specs.declared.limits.Wrong.{Wrong}
@@ -26,30 +26,6 @@ all_limits = limits.Types ∷ limits.Params ∷ limits.Results ∷ limits.Fields
 -- the limit of this name
 abbrev pub limit_named : List ℕ → Option Limit
 limit_named name = find (λ l. bytes_eq name (word_of l)) all_limits
-
--- what a limit is in these limits
-abbrev pub limit_of : Limit → Limits → ℕ
-limit_of limits.Types l = l.types
-limit_of limits.Params l = l.params
-limit_of limits.Results l = l.results
-limit_of limits.Fields l = l.fields
-limit_of limits.StringBytes l = l.string_bytes
-limit_of limits.SubtypingDepth l = l.subtyping_depth
-limit_of limits.TypeSize l = l.type_size
-limit_of limits.Imports l = l.imports
-limit_of limits.Exports l = l.exports
-limit_of limits.Functions l = l.functions
-limit_of limits.Globals l = l.globals
-limit_of limits.Tags l = l.tags
-limit_of limits.Tables l = l.tables
-limit_of limits.Memories l = l.memories
-limit_of limits.ElementSegments l = l.element_segments
-limit_of limits.DataSegments l = l.data_segments
-limit_of limits.SegmentItems l = l.segment_items
-limit_of limits.BodyBytes l = l.body_bytes
-limit_of limits.SelectTypes l = l.select_types
-limit_of limits.Locals l = l.locals
-limit_of limits.Catches l = l.catches
 
 -- these limits with this one set
 abbrev pub with_limit : Limit → ℕ → Limits → Limits

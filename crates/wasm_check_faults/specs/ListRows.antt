@@ -28,6 +28,10 @@ pub record FeatureRows : Type 0 where
   pub by_default : features_of (codes "mvp,default") ≡ Ok 0x64bfdff
   pub all : features_of (codes "all") ≡ Ok 0xfffffff
   pub none : features_of (codes "all,no-gc") ≡ Ok 0xff7ffff
+  -- as `wasm-tools` writes them
+  pub removed_by_a_hyphen : features_of (codes "-exceptions") ≡ Ok 0x64bddff
+  pub nothing : features_of (codes "-all") ≡ Ok 0
+  pub added_to_nothing : features_of (codes "gc,-all,floats") ≡ Ok 0x800
   pub two_lists : features_through (codes "mvp,gc" ∷ codes "no-floats" ∷ []) 0 ≡ Ok 0x480000
   pub second_list : features_through (codes "mvp" ∷ codes "gc,x" ∷ []) 0 ≡ unknown_at 3 4
   pub meant : meant_by (codes "GC") ≡ Some 0x80000
@@ -40,6 +44,9 @@ pub record FeatureRows : Type 0 where
   pub empty_between : features_of (codes "gc,,simd") ≡ unknown_at 3 3
   pub no_set_removed : features_of (codes "no-mvp") ≡ unknown_at 0 6
   pub twice_removed : features_of (codes "no-no-gc") ≡ unknown_at 0 8
+  pub two_hyphens : features_of (codes "--gc") ≡ unknown_at 0 4
+  pub set_after_a_hyphen : features_of (codes "-mvp") ≡ unknown_at 0 4
+  pub hyphen : features_of (codes "-") ≡ unknown_at 0 1
   pub upper_case : features_of (codes "GC") ≡ unknown_at 0 2
   pub underscore : features_of (codes "gc_types") ≡ unknown_at 0 8
   pub space : features_of (codes "gc, simd") ≡ unknown_at 3 8

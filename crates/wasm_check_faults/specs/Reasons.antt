@@ -3,7 +3,7 @@ use Rattle.std.specs.Prelude.{◌≡◌, ◌≢◌, ℕ, Bool, true, false, List
 use Rattle.std.specs.declared.io.ErrorKind.{ErrorKind}
 use Rattle.std.specs.declared.io.ErrorKind.TheVariants as kinds
 use Rattle.wasm_check_faults.specs.declared.reason.Reason.{Reason}
-use Rattle.wasm_check_faults.specs.declared.reason.Reason.TheVariants.{NotFound, PermissionDenied, IsADirectory, NotADirectory, FilesystemLoop, InvalidFilename, StorageFull, QuotaExceeded, FileTooLarge, BrokenPipe, NotUtf8, Unknown}
+use Rattle.wasm_check_faults.specs.declared.reason.Reason.TheVariants.{NotFound, PermissionDenied, IsADirectory, NotADirectory, FilesystemLoop, InvalidFilename, StorageFull, QuotaExceeded, FileTooLarge, BrokenPipe, NotUtf8, GivesList, Unknown}
 
 -- a kind of error that has no reason of its own here
 pub record IsOther (kind : ErrorKind) : Type 0 where
@@ -18,7 +18,7 @@ pub record IsOther (kind : ErrorKind) : Type 0 where
   pub file_too_large : kind ≢ kinds.FileTooLarge
   pub broken_pipe : kind ≢ kinds.BrokenPipe
 
--- the reason is that of an error of this kind; that a name is no UTF-8 is told by the name
+-- the reason is that of an error of this kind; that a name is no UTF-8, or that of the input that gives a list, is told by the name
 abbrev pub IsReason : Reason → ErrorKind → Type 0
 IsReason NotFound kind = kind ≡ kinds.NotFound
 IsReason PermissionDenied kind = kind ≡ kinds.PermissionDenied
@@ -31,6 +31,7 @@ IsReason QuotaExceeded kind = kind ≡ kinds.QuotaExceeded
 IsReason FileTooLarge kind = kind ≡ kinds.FileTooLarge
 IsReason BrokenPipe kind = kind ≡ kinds.BrokenPipe
 IsReason NotUtf8 kind = ⊥
+IsReason GivesList kind = ⊥
 IsReason Unknown kind = IsOther kind
 
 -- what a person is told of it, if it is known
@@ -46,6 +47,7 @@ reason_hint QuotaExceeded = Some (codes "quota exceeded")
 reason_hint FileTooLarge = Some (codes "file too large")
 reason_hint BrokenPipe = Some (codes "broken pipe")
 reason_hint NotUtf8 = Some (codes "a name has to be UTF-8")
+reason_hint GivesList = Some (codes "the list comes from standard input")
 reason_hint Unknown = None
 
 -- nobody reads the pipe any more
@@ -61,4 +63,5 @@ is_broken_pipe QuotaExceeded = false
 is_broken_pipe FileTooLarge = false
 is_broken_pipe BrokenPipe = true
 is_broken_pipe NotUtf8 = false
+is_broken_pipe GivesList = false
 is_broken_pipe Unknown = false

@@ -1,5 +1,5 @@
 -- Lists of features that begin with `mvp`: each word after it adds a feature.
-use Rattle.std.specs.Prelude.{◌≡◌, ◌==◌, ℕ, ◌<◌, ◌+◌, true, false, List, [], ◌∷◌, ◌++◌, All, Contains, length, map, flat_map, take, drop, codes, Ok}
+use Rattle.std.specs.Prelude.{◌≡◌, ◌==◌, ℕ, ◌<◌, ◌+◌, Bool, true, false, List, [], ◌∷◌, ◌++◌, All, Contains, length, map, flat_map, take, drop, codes, Ok}
 use Rattle.std.specs.Int.RustNames.{bit_and, bit_or}
 use Rattle.wasm_types.specs.settings.Features.{mask, vectors_bit, FunctionReferences, Gc}
 use Rattle.wasm_check_lines.specs.FeatureWords.{feature_words}
@@ -53,6 +53,11 @@ pub record Lacks (accepts : ℕ → Type 0) (words : List (List ℕ)) : Type 0 w
   pub named : features_of (listed words) ≡ Ok features
   pub invalid : ¬ accepts (bit_or features vectors_bit)
 
+-- Whether it takes the switch for operators on vectors as well: by the list with these words and without the switch it is valid or not.
+abbrev pub HasSwitch : (ℕ → Type 0) → List (List ℕ) → Bool → Type 0
+HasSwitch accepts words true = (features : ℕ) × (features_of (listed words) ≡ Ok features) × ¬ accepts features
+HasSwitch accepts words false = (features : ℕ) × (features_of (listed words) ≡ Ok features) × accepts features
+
 -- the word of a feature
 abbrev pub IsFeature : List ℕ → Type 0
 IsFeature word = Contains (map (λ row. row.0) feature_words) word
@@ -89,25 +94,37 @@ pub record MinimalRows : Type 0 where
 
 -- ---- what is written of it
 
+-- what follows the list in a line, if the switch for operators on vectors is needed too
+abbrev pub switch_text : Bool → List ℕ
+switch_text true = codes " --vectors"
+switch_text false = []
+
+-- what follows it in an object: the end of its text, and then the switch
+abbrev pub switch_member : Bool → List ℕ
+switch_member true = codes "\",\"vectors\":true"
+switch_member false = codes "\""
+
 -- `NAME: needs LIST`, the name as it is shown
-abbrev pub needs_line : List ℕ → List (List ℕ) → List ℕ
-needs_line name words = shown name ++ codes ": needs " ++ listed words ++ codes "\n"
+abbrev pub needs_line : List ℕ → List ℕ → List ℕ
+needs_line name list = shown name ++ codes ": needs " ++ list ++ codes "\n"
 
--- `{"file":"NAME","valid":true,"needs":"LIST"}`
-abbrev pub needs_object : List ℕ → List (List ℕ) → List ℕ
-needs_object name words = codes "{\"file\":\"" ++ json_text name ++ codes "\",\"valid\":true,\"needs\":\"" ++ listed words ++ codes "\"}\n"
+-- `{"file":"NAME","valid":true,"needs":"LIST"}`; the list ends the text that it begins
+abbrev pub needs_object : List ℕ → List ℕ → List ℕ
+needs_object name list = codes "{\"file\":\"" ++ json_text name ++ codes "\",\"valid\":true,\"needs\":\"" ++ list ++ codes "}\n"
 
--- in each form
-abbrev pub needs_text : Form → List ℕ → List (List ℕ) → List ℕ
-needs_text Lines name words = needs_line name words
-needs_text Json name words = needs_object name words
-needs_text Quiet name words = []
+-- in each form, with these words, and with the switch or without it
+abbrev pub needs_text : Form → List ℕ → List (List ℕ) → Bool → List ℕ
+needs_text Lines name words vectors = needs_line name (listed words ++ switch_text vectors)
+needs_text Json name words vectors = needs_object name (listed words ++ switch_member vectors)
+needs_text Quiet name words vectors = []
 
 -- A law: each is one line, whatever the file's name holds; and worked lines.
 pub record NeedsEndOnce : Type 0 where
-  pub line : (name : List ℕ) (words : List (List ℕ)) → All IsFeature words → IsOneLine (needs_line name words)
-  pub object : (name : List ℕ) (words : List (List ℕ)) → All IsFeature words → IsOneLine (needs_object name words)
-  pub mvp : needs_line (codes "a\n") [] ≡ codes "a\\u{a}: needs mvp\n"
-  pub two : needs_line (codes "a") (codes "gc" ∷ codes "simd" ∷ []) ≡ codes "a: needs mvp,gc,simd\n"
-  pub two_json : needs_object (codes "a") (codes "gc" ∷ codes "simd" ∷ [])
+  pub line : (name : List ℕ) (words : List (List ℕ)) (vectors : Bool) → All IsFeature words → IsOneLine (needs_text Lines name words vectors)
+  pub object : (name : List ℕ) (words : List (List ℕ)) (vectors : Bool) → All IsFeature words → IsOneLine (needs_text Json name words vectors)
+  pub mvp : needs_text Lines (codes "a\n") [] false ≡ codes "a\\u{a}: needs mvp\n"
+  pub two : needs_text Lines (codes "a") (codes "gc" ∷ codes "simd" ∷ []) true ≡ codes "a: needs mvp,gc,simd --vectors\n"
+  pub two_json : needs_text Json (codes "a") (codes "gc" ∷ codes "simd" ∷ []) false
       ≡ codes "{\"file\":\"a\",\"valid\":true,\"needs\":\"mvp,gc,simd\"}\n"
+  pub switch_json : needs_text Json (codes "a") [] true
+      ≡ codes "{\"file\":\"a\",\"valid\":true,\"needs\":\"mvp\",\"vectors\":true}\n"

@@ -2,7 +2,7 @@
 ghost use Rattle.std.specs.Prelude.{◌≡◌, bytes_eq, Ok, Err, IfErr, MatchResult, option_map};
 ghost use Rattle.wasm_check_faults.specs.Lists.{place_of, IsWordAt};
 ghost use Rattle.wasm_check_faults.specs.ListRows.{FeatureRows};
-ghost use Rattle.wasm_check_faults.specs.FeatureLists.{all_features, hyphened, word_of, set_words, named, set_after, features_along, features_of, meant_by};
+ghost use Rattle.wasm_check_faults.specs.FeatureLists.{all_features, after_no, hyphened, word_of, set_words, named, set_after, features_along, features_of, meant_by};
 ghost use Rattle.wasm_check_lines.specs.FeatureWords.{feature_words};
 ghost use Rattle.wasm_types.specs.settings.Sets.{bits_of};
 
@@ -114,6 +114,9 @@ fn set_named(word: &str) -> Option<WasmFeatures>
     if word == "all" {
         return Some(WasmFeatures::from_bits_retain(ALL));
     }
+    if word == "-all" {
+        return Some(WasmFeatures::empty());
+    }
     None
 }
 
@@ -122,6 +125,16 @@ pub fn every_feature() -> WasmFeatures
     ensures { result.0 ≡ bits_of all_features }
 {
     WasmFeatures::from_bits_retain(ALL)
+}
+
+/// What follows `no-`, or `-` alone, as `wasm-tools` writes it.
+fn removed(word: &str) -> Option<&str>
+    ensures { option_map (λ name. name.now) result ≡ after_no word.now }
+{
+    if let Some(name) = word.strip_prefix("no-") {
+        return Some(name);
+    }
+    word.strip_prefix("-")
 }
 
 /// What a word makes of a set, if it is known.
@@ -134,7 +147,7 @@ fn changed(features: WasmFeatures, word: &str) -> Option<WasmFeatures>
     if let Some(feature) = feature_named(word.as_bytes()) {
         return Some(features.union(feature));
     }
-    let Some(name) = word.strip_prefix("no-") else {
+    let Some(name) = removed(word) else {
         return None;
     };
     let Some(feature) = feature_named(name.as_bytes()) else {
@@ -168,7 +181,7 @@ pub fn find_features<'a>(list: &'a str, first: WasmFeatures) -> Result<WasmFeatu
 
 /// The features that a list stands for: words between commas, which are applied from left to right to the default set. `mvp`,
 /// `wasm1`, `wasm2`, `wasm3`, `lime1`, `default` and `all` put that set in the place of what was there, the name of a feature adds it,
-/// and `no-` before such a name removes it.
+/// and `no-` or `-` before such a name removes it. `-all` is no feature at all.
 ///
 /// # Errors
 ///

@@ -3,7 +3,7 @@ ghost use Rattle.std.specs.Prelude.{◌≡◌, ◌+◌, ◌<◌, ℕ, Some, Ok, 
 ghost use Rattle.wasm_types.specs.settings.Limits.{IsWithinCeilings, default_limits};
 ghost use Rattle.wasm_check_faults.specs.Lists.{place_of, IsWordAt};
 ghost use Rattle.wasm_check_faults.specs.ListRows.{LimitRows};
-ghost use Rattle.wasm_check_faults.specs.LimitLists.{limit_named, limit_of, with_limit};
+ghost use Rattle.wasm_check_faults.specs.LimitLists.{limit_named, with_limit};
 ghost use Rattle.wasm_check_faults.specs.LimitLists.{number_of, number_for, limit_name, limit_value, limits_after, limits_along, limits_of, told, word_ceiling};
 
 use crate::lists::{ListedWord, first_word};
@@ -80,35 +80,6 @@ fn limit_named(name: &str) -> Option<Limit>
     ensures { result ≡ limit_named name.now }
 {
     LIMITS.iter().copied().find(|limit| name == limit.word())
-}
-
-/// What a limit is in these limits.
-fn limit_of(limit: Limit, limits: &Limits) -> u32
-    ensures { result ≡ limit_of limit limits.now }
-{
-    match limit {
-        Limit::Types => limits.types,
-        Limit::Params => limits.params,
-        Limit::Results => limits.results,
-        Limit::Fields => limits.fields,
-        Limit::StringBytes => limits.string_bytes,
-        Limit::SubtypingDepth => limits.subtyping_depth,
-        Limit::TypeSize => limits.type_size,
-        Limit::Imports => limits.imports,
-        Limit::Exports => limits.exports,
-        Limit::Functions => limits.functions,
-        Limit::Globals => limits.globals,
-        Limit::Tags => limits.tags,
-        Limit::Tables => limits.tables,
-        Limit::Memories => limits.memories,
-        Limit::ElementSegments => limits.element_segments,
-        Limit::DataSegments => limits.data_segments,
-        Limit::SegmentItems => limits.segment_items,
-        Limit::BodyBytes => limits.body_bytes,
-        Limit::SelectTypes => limits.select_types,
-        Limit::Locals => limits.locals,
-        Limit::Catches => limits.catches,
-    }
 }
 
 /// These limits with this one set.
@@ -226,7 +197,7 @@ fn number_for(limit: Limit, text: &str) -> Option<u32>
     ensures { result ≡ number_for limit (Some text.now) }
 {
     let number = number_in(text.as_bytes())?;
-    let most = limit_of(limit, &Limits::ceilings());
+    let most = limit.of(&Limits::ceilings());
     if number > u64::from(most) {
         return None;
     }
@@ -307,7 +278,7 @@ pub fn ceiling_of(word: &str) -> Option<u32>
 {
     let (name, _value) = name_and_value(word);
     let limit = limit_named(name)?;
-    Some(limit_of(limit, &Limits::ceilings()))
+    Some(limit.of(&Limits::ceilings()))
 }
 
 /// The limits that a list stands for: words `name=N` between commas, of the fields of `Limits` with hyphens for underscores and numbers

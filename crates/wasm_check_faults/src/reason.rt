@@ -30,6 +30,8 @@ pub enum Reason {
     BrokenPipe,
     /// The name is no UTF-8.
     NotUtf8,
+    /// It is standard input, and gives the list that names it.
+    GivesList,
     /// Any other reason, or none.
     Unknown,
 }
@@ -98,6 +100,7 @@ pub fn reason_hint(reason: Reason) -> Option<&'static str>
         Reason::FileTooLarge => Some("file too large"),
         Reason::BrokenPipe => Some("broken pipe"),
         Reason::NotUtf8 => Some("a name has to be UTF-8"),
+        Reason::GivesList => Some("the list comes from standard input"),
         Reason::Unknown => None,
     }
 }
@@ -118,6 +121,7 @@ pub fn is_broken_pipe(reason: Reason) -> bool
         Reason::FileTooLarge => false,
         Reason::BrokenPipe => true,
         Reason::NotUtf8 => false,
+        Reason::GivesList => false,
         Reason::Unknown => false,
     }
 }

@@ -2,7 +2,7 @@
 //!
 //! So a list may be made shorter word by word, until no word of it can be left out.
 ghost use Rattle.std.specs.Fmt.{WritesOnOk};
-ghost use Rattle.std.specs.Prelude.{◌≡◌, Ok, IfOk, flat_map, length, string_bytes};
+ghost use Rattle.std.specs.Prelude.{◌≡◌, ◌++◌, Ok, IfOk, flat_map, length, string_bytes};
 ghost use Rattle.wasm_types.specs.settings.Sets.{bits_of};
 ghost use Rattle.wasm_check_faults.specs.FeatureLists.{all_features, features_of};
 ghost use Rattle.wasm_check_faults.specs.WordLists.{AreFeatures, MinimalRows, NeedsEndOnce, listed, needs_line, needs_object, needs_text, next_word, words_in};
@@ -193,38 +193,40 @@ fn write_list<W: fmt::Write>(f: &mut fmt::Formatter<W>, words: &[FeatureWord]) -
     write_back(f, words)
 }
 
-// The list with these words.
+// The list with these words, and the text that follows it.
 #[derive(Debug, Drop)]
-struct Listed<'a>(&'a [FeatureWord]);
+struct Listed<'a>(&'a [FeatureWord], &'static str);
 
 impl fmt::Display for Listed<'_> {
-    ghost use Rattle.std.specs.Prelude.{Some};
+    ghost use Rattle.std.specs.Prelude.{Some, ◌++◌};
     ghost use Rattle.wasm_check_faults.specs.WordLists.{listed, words_in};
 
-    ghost output = { λ l. Some (listed (words_in l.0.now)) };
+    ghost output = { λ l. Some (listed (words_in l.0.now) ++ l.1.now) };
 
     fn fmt<W: fmt::Write>(&self, f: &mut fmt::Formatter<W>) -> fmt::Result {
-        write_list(f, self.0)
+        write_list(f, self.0)?;
+        f.write_str(self.1)
     }
 }
 
-// The line of a file that is valid by this list.
+// The line of a file with this list.
 fn needs_line(alloc: Global, name: &str, list: Listed<'_>) -> Result<String, AllocError>
-    ensures { IfOk result (λ line. string_bytes line ≡ needs_line name.now (words_in list.entry.0.now)) }
+    ensures { IfOk result (λ line. string_bytes line ≡ needs_line name.now (listed (words_in list.entry.0.now) ++ list.entry.1.now)) }
 {
     let name = Shown(name);
     format!(in alloc; "{name}: needs {list}\n")
 }
 
-// The object of a file that is valid by this list.
+// The object of a file with this list, which ends the text that it begins.
 fn needs_object(alloc: Global, name: &str, list: Listed<'_>) -> Result<String, AllocError>
-    ensures { IfOk result (λ line. string_bytes line ≡ needs_object name.now (words_in list.entry.0.now)) }
+    ensures { IfOk result (λ line. string_bytes line ≡ needs_object name.now (listed (words_in list.entry.0.now) ++ list.entry.1.now)) }
 {
     let name = Quoted(name);
-    format!(in alloc; "{{\"file\":\"{name}\",\"valid\":true,\"needs\":\"{list}\"}}\n")
+    format!(in alloc; "{{\"file\":\"{name}\",\"valid\":true,\"needs\":\"{list}}}\n")
 }
 
-/// The text of a file that is valid by the list with these words: a line that a line feed ends, or nothing if the form is `Quiet`.
+/// The text of a file that is valid by the list with these words, and with the switch for operators on vectors if that is needed: a line that a
+/// line feed ends, or nothing if the form is `Quiet`.
 ///
 /// # Errors
 ///
@@ -234,12 +236,23 @@ pub fn needs_text(
     form: Form,
     name: &str,
     words: &[FeatureWord],
+    vectors: bool,
 ) -> Result<String, AllocError>
-    ensures { IfOk result (λ line. string_bytes line ≡ needs_text form name.now (words_in words.now)) }
+    ensures { IfOk result (λ line. string_bytes line ≡ needs_text form name.now (words_in words.now) vectors) }
 {
     match form {
-        Form::Lines => needs_line(alloc, name, Listed(words)),
-        Form::Json => needs_object(alloc, name, Listed(words)),
+        Form::Lines => {
+            if vectors {
+                return needs_line(alloc, name, Listed(words, " --vectors"));
+            }
+            needs_line(alloc, name, Listed(words, ""))
+        }
+        Form::Json => {
+            if vectors {
+                return needs_object(alloc, name, Listed(words, "\",\"vectors\":true"));
+            }
+            needs_object(alloc, name, Listed(words, "\""))
+        }
         Form::Quiet => Ok(String::new(alloc)),
     }
 }

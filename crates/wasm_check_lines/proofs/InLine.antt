@@ -23,8 +23,8 @@ use Rattle.wasm_check_lines.specs.declared.limit.Limit.TheVariants as limits
 use Rattle.wasm_check_lines.specs.declared.causes.Cause.{Cause}
 use Rattle.wasm_check_lines.specs.declared.causes.Cause.TheVariants.{Vectors, Limit, Feature, FixedLimit, Types, Another}
 use Rattle.wasm_check_lines.specs.Causes.{cause_of}
-use Rattle.wasm_check_lines.specs.Limits.{word_of}
-use Rattle.wasm_check_lines.specs.Hints.{feature_hint, features_hint, framed, is_text, limit_hint, text_hint, hint_for, hint_of}
+use Rattle.wasm_check_lines.specs.Limits.{is_highest, word_of}
+use Rattle.wasm_check_lines.specs.Hints.{feature_hint, features_hint, framed, is_text, limit_help, limit_hint, text_hint, hint_for, hint_of}
 use Rattle.wasm_check_lines.specs.Forms.{valid_line, invalid_line, hint_line, valid_object, invalid_object, error_word, kind_word, cause_member, help_members, hint_member, refusal_object}
 use Rattle.wasm_check_lines.specs.Explanations.{array_text, explanation_member, member_text, next_item, note_line, value_text}
 use Rattle.wasm_check_lines.specs.declared.notes.Explanation.{Explanation}
@@ -205,16 +205,19 @@ mapped_stays (Some word) h = feature_hint_stays word h
 features_hint_stays : (f : WasmFeatures) → stays_if (features_hint f)
 features_hint_stays f = mapped_stays (word_for f.0) (word_stays f.0)
 
-hint_for_stays : (c : Cause) (front : List ℕ) → stays_if (hint_for c front)
-hint_for_stays Vectors front = literal (codes "--vectors judges operators on vectors") refl
-hint_for_stays (Limit limit) front = limit_hint_stays (word_of limit) (limit_word_stays limit)
-hint_for_stays (Feature features) front = features_hint_stays features
-hint_for_stays FixedLimit front = tt
-hint_for_stays Types front = tt
-hint_for_stays Another front = text_hint_stays front
+limit_help_stays : (l : Limits) (limit : Chosen) → StaysInLine (limit_help l limit)
+limit_help_stays l limit = chosen (is_highest limit l) _ _ (literal (codes "no option raises this limit") refl) (limit_hint_stays (word_of limit) (limit_word_stays limit))
+
+hint_for_stays : (l : Limits) (c : Cause) (front : List ℕ) → stays_if (hint_for l c front)
+hint_for_stays l Vectors front = literal (codes "--vectors judges operators on vectors") refl
+hint_for_stays l (Limit limit) front = limit_help_stays l limit
+hint_for_stays l (Feature features) front = features_hint_stays features
+hint_for_stays l FixedLimit front = tt
+hint_for_stays l Types front = tt
+hint_for_stays l Another front = text_hint_stays front
 
 pub hint_stays : (l : Limits) (e : ErrorValue) (front : List ℕ) → stays_if (hint_of l e front)
-hint_stays l e front = hint_for_stays (cause_of l e) front
+hint_stays l e front = hint_for_stays l (cause_of l e) front
 
 -- ---- the lines
 
@@ -258,7 +261,7 @@ object_ends name = record {
 
 error_stays : (k : ErrorKind) → StaysInLine (error_word k)
 error_stays (EndOfData n) = literal (codes "end-of-data") refl
-error_stays (MissingFeature f) = literal (codes "missing-feature") refl
+error_stays (MissingFeature f) = literal (codes "other") refl
 error_stays OutOfMemory = literal (codes "out-of-memory") refl
 error_stays Failed = literal (codes "failed") refl
 error_stays Other = literal (codes "other") refl
@@ -323,9 +326,9 @@ explanation_stays (Some x) = between_texts (codes ",\"explanation\":{\"rules\":\
 decimal_stays : (n : ℕ) → StaysInLine (decimal n)
 decimal_stays n = digits_stay 10 n
 
-members_stay : (c : Cause) (front : List ℕ) (x : Option Explanation) → StaysInLine (help_members c front x)
-members_stay c front x = both (cause_member c ++ hint_member (hint_for c front)) (explanation_member x)
-    (both (cause_member c) (hint_member (hint_for c front)) (member_stays c) (hint_member_stays (hint_for c front) (hint_for_stays c front))) (explanation_stays x)
+members_stay : (l : Limits) (c : Cause) (front : List ℕ) (x : Option Explanation) → StaysInLine (help_members l c front x)
+members_stay l c front x = both (cause_member c ++ hint_member (hint_for l c front)) (explanation_member x)
+    (both (cause_member c) (hint_member (hint_for l c front)) (member_stays c) (hint_member_stays (hint_for l c front) (hint_for_stays l c front))) (explanation_stays x)
 
 object_told : (name : List ℕ) (offset : ℕ) (kind message members : List ℕ) → StaysInLine kind → StaysInLine members
     → IsOneLine (refusal_object name offset kind message members)
@@ -349,8 +352,8 @@ object_told name offset kind message members in_kind in_members =
     }
 
 refusal_ends : (name : List ℕ) (l : Limits) (e : ErrorValue) (front : List ℕ) (x : Option Explanation) → IsOneLine (invalid_object name l e front x)
-refusal_ends name l e front x = object_told name e.offset (kind_word (cause_of l e) e.kind) e.message (help_members (cause_of l e) front x)
-    (kind_stays (cause_of l e) e.kind) (members_stay (cause_of l e) front x)
+refusal_ends name l e front x = object_told name e.offset (kind_word (cause_of l e) e.kind) e.message (help_members l (cause_of l e) front x)
+    (kind_stays (cause_of l e) e.kind) (members_stay l (cause_of l e) front x)
 
 pub lines_end_once : LinesEndOnce
 lines_end_once = record {

@@ -4,7 +4,7 @@ use Rattle.std.specs.Fmt.{digits}
 use Rattle.std.specs.Str.{chars}
 use Rattle.wasm_check_lines.specs.Shown.{shown}
 use Rattle.wasm_check_lines.specs.Json.{json_text}
-use Rattle.wasm_types.specs.settings.Limits.{default_limits}
+use Rattle.wasm_types.specs.settings.Limits.{ceilings, default_limits}
 use Rattle.wasm_check_lines.specs.Causes.{cause_of, feature_lacking, limit_meant}
 use Rattle.wasm_check_lines.specs.Hints.{feature_hint, is_text, limit_hint}
 use Rattle.wasm_check_lines.specs.ShownRows.{ShownRows}
@@ -27,12 +27,14 @@ shown_rows = record {
 }
 
 pub form_rows : FormRows
-unfolding shown json_text is_text cause_of limit_meant feature_lacking limit_hint feature_hint default_limits chars digits lib.Utf8.encode
+unfolding shown json_text is_text cause_of limit_meant feature_lacking limit_hint feature_hint default_limits ceilings chars digits lib.Utf8.encode
 form_rows = record {
   named = refl;
   refused = refl;
   vectors = refl;
   locals = refl;
+  params = refl;
+  fewer_params = refl;
   memories = refl;
   types = refl;
   text = refl;
@@ -54,5 +56,6 @@ form_rows = record {
   invalid_json = refl;
   types_json = refl;
   feature_json = refl;
+  component_json = refl;
   limit_json = refl;
 }

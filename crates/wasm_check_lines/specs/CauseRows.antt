@@ -34,6 +34,11 @@ pub record CauseRows : Type 0 where
   pub memories : cause_by (codes "multiple memories") ≡ causes.Feature (features 0x1000)
   pub one_memory : cause_of (record default_limits { memories = 1 }) (other_by (codes "multiple memories")) ≡ causes.Limit limits.Memories
   pub data_count : cause_by (codes "data count section requires the bulk-memory proposal") ≡ causes.Feature (features 0x4000020)
+  pub own_group : cause_by (codes "unknown type 1: type index out of bounds because the GC proposal is disabled") ≡ causes.Feature (features 0x80000)
+  -- a name that a module chose, cut at its end
+  pub chosen_end : cause_by (codes "duplicate export name `because the GC proposal is disabled") ≡ causes.Another
+  pub no_type : cause_by (codes "unknown type 1: type index out of bounds") ≡ causes.Another
+  pub padded : cause_by (codes "zero byte expected") ≡ causes.Feature (features 0x2001000)
   pub lacks : kind_feature (MissingFeature (features 0x80000)) ≡ Some (features 0x80000)
   pub component_model : kind_feature (MissingFeature (features 0x10000)) ≡ None
   -- each limit

@@ -1,11 +1,12 @@
 -- Why a module was refused, as far as a program or a person can do something about it: by the kind of the error, and by how its message begins.
 -- No message begins with a text that a module chose.
 use Rattle.std.specs.Prelude.{ℕ, Bool, eqb, ◌==◌, ◌&&◌, List, [], ◌∷◌, Option, Some, None, codes, bytes_eq, nat_le, if◌then◌else◌}
-use Rattle.std.specs.List.{starts_with}
+use Rattle.std.specs.List.{ends_with, starts_with}
+use Rattle.std.specs.Int.RustNames.{bit_or}
 use Rattle.wasm_types.specs.decoding.ErrorValue.{ErrorValue}
 use Rattle.wasm_types.specs.decoding.declared.error.ErrorKind.{ErrorKind}
 use Rattle.wasm_types.specs.decoding.declared.error.ErrorKind.TheVariants.{EndOfData, MissingFeature, OutOfMemory, Failed, Other}
-use Rattle.wasm_types.specs.settings.Features.{mask, ReferenceTypes, MultiMemory, BulkMemory, ComponentModel}
+use Rattle.wasm_types.specs.settings.Features.{mask, ReferenceTypes, MultiMemory, BulkMemory, CallIndirectOverlong, ComponentModel, Gc}
 use Rattle.wasm_types.specs.settings.declared.Limits.{Limits}
 use Rattle.wasm_types.specs.settings.declared.WasmFeatures.{WasmFeatures}
 use Rattle.wasm_check_lines.specs.declared.limit.Limit.{Limit}
@@ -16,6 +17,10 @@ use Rattle.wasm_check_lines.specs.declared.causes.Cause.TheVariants as causes
 -- the message begins so
 abbrev pub begins : List ℕ → List ℕ → Bool
 begins front message = starts_with eqb message front
+
+-- the message ends so
+abbrev pub ends : List ℕ → List ℕ → Bool
+ends back message = ends_with eqb message back
 
 -- the limit beside the first of these texts with which a message begins
 abbrev pub meant_by : List (List ℕ × Limit) → List ℕ → Option Limit
@@ -108,11 +113,23 @@ kind_feature OutOfMemory = None
 kind_feature Failed = None
 kind_feature Other = None
 
--- by its message
+-- In place of the index of a memory or of a table there has to be a byte 0, unless the feature is there that allows the index.
+abbrev pub index_features : ℕ
+index_features = bit_or (mask MultiMemory) (mask CallIndirectOverlong)
+
+-- by how its message ends: a type names one of its own group, and no type may. A message that begins otherwise may end with a name that a
+-- module chose, cut anywhere.
+abbrev pub last_feature : List ℕ → Option WasmFeatures
+last_feature message = if begins (codes "unknown type ") message
+    then (if ends (codes "because the GC proposal is disabled") message then Some (record { 0 = mask Gc }) else None)
+    else None
+
+-- by how its message begins, or else by how it ends
 abbrev pub message_feature : List ℕ → Option WasmFeatures
 message_feature message = if begins tables_message message then Some (record { 0 = mask ReferenceTypes })
     else (if begins memories_message message then Some (record { 0 = mask MultiMemory })
-    else (if begins (codes "data count section requires the bulk-memory proposal") message then Some (record { 0 = mask BulkMemory }) else None))
+    else (if begins (codes "data count section requires the bulk-memory proposal") message then Some (record { 0 = mask BulkMemory })
+    else (if begins (codes "zero byte expected") message then Some (record { 0 = index_features }) else last_feature message)))
 
 -- the features that are lacking, if some are
 unfoldable pub feature_lacking : ErrorValue → Option WasmFeatures

@@ -24,9 +24,12 @@ pub record FormRows : Type 0 where
       ≡ codes "a: invalid at 0x25: duplicate export name `\\u{a}v: valid\\u{a}` already defined\n"
   pub vectors : helped (codes "unexpected SIMD opcode: 0xfd") ≡ Some (codes "--vectors judges operators on vectors")
   pub locals : helped (codes "too many locals: locals exceed maximum") ≡ Some (codes "--limits locals=N sets this limit")
+  pub params : helped (codes "function params size is out of bounds") ≡ Some (codes "no option raises this limit")
+  pub fewer_params : hint_of (record default_limits { params = 999 }) (other_at 0 (codes "function params size is out of bounds")) []
+      ≡ Some (codes "--limits params=N sets this limit")
   pub memories : helped (codes "multiple memories") ≡ Some (codes "--features multi-memory allows it")
   pub types : helped (codes "type mismatch: expected i32, found i64") ≡ None
-  pub text : hint_for Another (codes " \n(module)") ≡ Some (codes "this is the text format; wasm-check judges the binary format")
+  pub text : hint_for default_limits Another (codes " \n(module)") ≡ Some (codes "this is the text format; wasm-check judges the binary format")
   pub other : helped (codes "x") ≡ None
   pub hint : hint_line (Some (codes "x")) ≡ codes "  x\n"
   pub no_hint : hint_line None ≡ []
@@ -48,5 +51,7 @@ pub record FormRows : Type 0 where
       ≡ codes "{\"file\":\"a\",\"valid\":false,\"offset\":1,\"kind\":\"types\",\"message\":\"type mismatch\"}\n"
   pub feature_json : invalid_object (codes "a") default_limits (record { kind = MissingFeature (record { 0 = 0x80000 }); offset = 1; message = codes "m" }) [] None
       ≡ codes "{\"file\":\"a\",\"valid\":false,\"offset\":1,\"kind\":\"missing-feature\",\"message\":\"m\",\"feature\":\"gc\",\"hint\":\"--features gc allows it\"}\n"
+  pub component_json : invalid_object (codes "a") default_limits (record { kind = MissingFeature (record { 0 = 0x10000 }); offset = 0; message = codes "m" }) [] None
+      ≡ codes "{\"file\":\"a\",\"valid\":false,\"offset\":0,\"kind\":\"other\",\"message\":\"m\"}\n"
   pub limit_json : invalid_object (codes "a") default_limits (other_at 1 (codes "struct fields size is out of bounds")) [] None
       ≡ codes "{\"file\":\"a\",\"valid\":false,\"offset\":1,\"kind\":\"limit\",\"message\":\"struct fields size is out of bounds\",\"limit\":\"fields\",\"hint\":\"--limits fields=N sets this limit\"}\n"

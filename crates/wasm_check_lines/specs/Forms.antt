@@ -43,10 +43,11 @@ hint_line hint = framed (codes "  ") hint (codes "\n")
 abbrev pub valid_object : List ℕ → List ℕ
 valid_object name = codes "{\"file\":\"" ++ json_text name ++ codes "\",\"valid\":true}\n"
 
--- the word of a kind of errors
+-- The word of a kind of errors, if neither a limit nor a feature is told. The one feature that is not told is that of components, and it has none
+-- judged: no feature is missing.
 abbrev pub error_word : ErrorKind → List ℕ
 error_word (EndOfData needed) = codes "end-of-data"
-error_word (MissingFeature features) = codes "missing-feature"
+error_word (MissingFeature features) = codes "other"
 error_word OutOfMemory = codes "out-of-memory"
 error_word Failed = codes "failed"
 error_word Other = codes "other"
@@ -74,8 +75,8 @@ abbrev pub hint_member : Option (List ℕ) → List ℕ
 hint_member hint = framed (codes ",\"hint\":\"") hint (codes "\"")
 
 -- the members that tell what a person can do, and those that explain
-abbrev pub help_members : Cause → List ℕ → Option Explanation → List ℕ
-help_members cause front x = cause_member cause ++ hint_member (hint_for cause front) ++ explanation_member x
+abbrev pub help_members : Limits → Cause → List ℕ → Option Explanation → List ℕ
+help_members l cause front x = cause_member cause ++ hint_member (hint_for l cause front) ++ explanation_member x
 
 -- `{"file":"NAME","valid":false,"offset":N,"kind":"WORD","message":"MESSAGE"}`, N in decimal, and at the end the members above
 abbrev pub refusal_object : List ℕ → ℕ → List ℕ → List ℕ → List ℕ → List ℕ
@@ -86,7 +87,7 @@ refusal_object name offset kind message members =
 -- for this error under these limits, in an input with these first bytes
 abbrev pub invalid_object : List ℕ → Limits → ErrorValue → List ℕ → Option Explanation → List ℕ
 invalid_object name l e front x =
-    refusal_object name e.offset (kind_word (cause_of l e) e.kind) e.message (help_members (cause_of l e) front x)
+    refusal_object name e.offset (kind_word (cause_of l e) e.kind) e.message (help_members l (cause_of l e) front x)
 
 -- ---- each form
 

@@ -1,5 +1,7 @@
--- The limits that a caller chooses: their words in `--limits`, and their places among the fields of `Limits`.
-use Rattle.std.specs.Prelude.{ℕ, List, codes}
+-- The limits that a caller chooses: their words in `--limits`, their places among the fields of `Limits`, and those fields.
+use Rattle.std.specs.Prelude.{ℕ, Bool, List, codes, nat_le}
+use Rattle.wasm_types.specs.settings.Limits.{ceilings}
+use Rattle.wasm_types.specs.settings.declared.Limits.{Limits}
 use Rattle.wasm_check_lines.specs.declared.limit.Limit.{Limit}
 use Rattle.wasm_check_lines.specs.declared.limit.Limit.TheVariants as limits
 
@@ -49,3 +51,31 @@ place_of limits.Locals = 17
 place_of limits.Catches = 18
 place_of limits.SubtypingDepth = 19
 place_of limits.TypeSize = 20
+
+-- what a limit is in these limits
+abbrev pub limit_of : Limit → Limits → ℕ
+limit_of limits.Types l = l.types
+limit_of limits.Params l = l.params
+limit_of limits.Results l = l.results
+limit_of limits.Fields l = l.fields
+limit_of limits.StringBytes l = l.string_bytes
+limit_of limits.SubtypingDepth l = l.subtyping_depth
+limit_of limits.TypeSize l = l.type_size
+limit_of limits.Imports l = l.imports
+limit_of limits.Exports l = l.exports
+limit_of limits.Functions l = l.functions
+limit_of limits.Globals l = l.globals
+limit_of limits.Tags l = l.tags
+limit_of limits.Tables l = l.tables
+limit_of limits.Memories l = l.memories
+limit_of limits.ElementSegments l = l.element_segments
+limit_of limits.DataSegments l = l.data_segments
+limit_of limits.SegmentItems l = l.segment_items
+limit_of limits.BodyBytes l = l.body_bytes
+limit_of limits.SelectTypes l = l.select_types
+limit_of limits.Locals l = l.locals
+limit_of limits.Catches l = l.catches
+
+-- in these limits this one is as high as it may be
+abbrev pub is_highest : Limit → Limits → Bool
+is_highest limit l = nat_le (limit_of limit ceilings) (limit_of limit l)

@@ -2,7 +2,7 @@
 //!
 //! Most limits are told by the message alone. No message begins with a text that a module chose, so how it begins tells which limit it is.
 ghost use Rattle.std.specs.Prelude.{◌≡◌};
-ghost use Rattle.wasm_check_lines.specs.Causes.{begins, type_fronts, entity_fronts, segment_fronts, content_fronts, meant_by};
+ghost use Rattle.wasm_check_lines.specs.Causes.{begins, ends, index_features, last_feature, type_fronts, entity_fronts, segment_fronts, content_fronts, meant_by};
 ghost use Rattle.wasm_check_lines.specs.Causes.{single_limit, limit_meant, allowing, kind_feature, message_feature, feature_lacking};
 ghost use Rattle.wasm_check_lines.specs.Causes.{message_cause, limit_cause, cause_of};
 
@@ -35,6 +35,13 @@ fn begins(message: &str, front: &str) -> bool
     ensures { result ≡ begins front.now message.now }
 {
     message.as_bytes().starts_with(front.as_bytes())
+}
+
+// Whether a message ends with this text.
+fn ends(message: &str, back: &str) -> bool
+    ensures { result ≡ ends back.now message.now }
+{
+    message.as_bytes().ends_with(back.as_bytes())
 }
 
 // The limit that a message tells, of those of types.
@@ -223,6 +230,26 @@ fn kind_feature(kind: ErrorKind) -> Option<WasmFeatures>
     }
 }
 
+// The features of which one allows an index, of a memory or of a table, in place of a byte 0.
+fn index_features() -> WasmFeatures
+    ensures { result.0 ≡ index_features }
+{
+    WasmFeatures::MULTI_MEMORY.union(WasmFeatures::CALL_INDIRECT_OVERLONG)
+}
+
+// What the end of a message says is lacking. Only one that begins so is asked: another may end with a name that a module chose, cut anywhere.
+fn last_feature(message: &str) -> Option<WasmFeatures>
+    ensures { result ≡ last_feature message.now }
+{
+    if !begins(message, "unknown type ") {
+        return None;
+    }
+    if ends(message, "because the GC proposal is disabled") {
+        return Some(WasmFeatures::GC);
+    }
+    None
+}
+
 // What a message says is lacking.
 fn message_feature(message: &str) -> Option<WasmFeatures>
     ensures { result ≡ message_feature message.now }
@@ -239,7 +266,10 @@ fn message_feature(message: &str) -> Option<WasmFeatures>
     ) {
         return Some(WasmFeatures::BULK_MEMORY);
     }
-    None
+    if begins(message, "zero byte expected") {
+        return Some(index_features());
+    }
+    last_feature(message)
 }
 
 // What an error says is lacking.
@@ -250,7 +280,8 @@ fn feature_lacking(error: &Error) -> Option<WasmFeatures>
     if let Some(features) = kind_feature(error.kind()) {
         return Some(features);
     }
-    message_feature(error.message())
+    let message = error.message();
+    message_feature(message.as_str())
 }
 
 // The cause by a message that tells neither a limit nor a feature.
@@ -287,7 +318,8 @@ fn limit_cause(limit: Option<Limit>, features: Option<WasmFeatures>, message: &s
 pub fn cause_of(limits: &Limits, error: &Error) -> Cause
     ensures { result ≡ cause_of limits.now error.now }
 {
-    let message = error.message();
+    let written = error.message();
+    let message = written.as_str();
     if message == VECTORS_MESSAGE {
         return Cause::Vectors;
     }

@@ -61,6 +61,7 @@ pub struct Refusal<'a> {
 #[derive(Debug, Drop)]
 struct LinesBelow<'a> {
     explains: bool,
+    limits: Limits,
     cause: Cause,
     front: &'a [u8],
     explanation: Option<&'a Explanation>,
@@ -71,13 +72,13 @@ impl fmt::Display for LinesBelow<'_> {
     ghost use Rattle.wasm_check_lines.specs.Forms.{lines_below};
     ghost use Rattle.wasm_check_lines.specs.Hints.{hint_for};
 
-    ghost output = { λ l. Some (lines_below l.explains (hint_for l.cause l.front.now) (option_map (λ x. x.now) l.explanation)) };
+    ghost output = { λ l. Some (lines_below l.explains (hint_for l.limits l.cause l.front.now) (option_map (λ x. x.now) l.explanation)) };
 
     fn fmt<W: fmt::Write>(&self, f: &mut fmt::Formatter<W>) -> fmt::Result {
         if !self.explains {
             return Ok(());
         }
-        write_hint(f, "  ", self.cause, self.front, "\n")?;
+        write_hint(f, "  ", &self.limits, self.cause, self.front, "\n")?;
         write_explanation(f, self.explanation)
     }
 }
@@ -91,7 +92,7 @@ fn refusal_lines(
     below: LinesBelow<'_>,
 ) -> Result<String, AllocError>
     ensures { IfOk result (λ line. string_bytes line ≡ refusal_line name.now offset message.now
-        ++ lines_below below.entry.explains (hint_for below.entry.cause below.entry.front.now) (option_map (λ x. x.now) below.entry.explanation)) }
+        ++ lines_below below.entry.explains (hint_for below.entry.limits below.entry.cause below.entry.front.now) (option_map (λ x. x.now) below.entry.explanation)) }
 {
     let name = Shown(name);
     let message = Shown(message);
@@ -123,13 +124,13 @@ impl fmt::Display for KindWord {
     }
 }
 
-// The word of a kind of errors.
+// The word of a kind of errors, if neither a limit nor a feature is told: then no feature is missing.
 fn error_word(kind: ErrorKind) -> &'static str
     ensures { result.now ≡ error_word kind }
 {
     match kind {
         ErrorKind::EndOfData { needed_hint: _ } => "end-of-data",
-        ErrorKind::MissingFeature(_) => "missing-feature",
+        ErrorKind::MissingFeature(_) => "other",
         ErrorKind::OutOfMemory => "out-of-memory",
         ErrorKind::Failed => "failed",
         ErrorKind::Other => "other",
@@ -139,6 +140,7 @@ fn error_word(kind: ErrorKind) -> &'static str
 // The members that tell what a person can do, and those that explain.
 #[derive(Debug, Drop)]
 struct HelpMembers<'a> {
+    limits: Limits,
     cause: Cause,
     front: &'a [u8],
     explanation: Option<&'a Explanation>,
@@ -148,11 +150,18 @@ impl fmt::Display for HelpMembers<'_> {
     ghost use Rattle.std.specs.Prelude.{Some, option_map};
     ghost use Rattle.wasm_check_lines.specs.Forms.{help_members};
 
-    ghost output = { λ m. Some (help_members m.cause m.front.now (option_map (λ x. x.now) m.explanation)) };
+    ghost output = { λ m. Some (help_members m.limits m.cause m.front.now (option_map (λ x. x.now) m.explanation)) };
 
     fn fmt<W: fmt::Write>(&self, f: &mut fmt::Formatter<W>) -> fmt::Result {
         write_cause_member(f, self.cause)?;
-        write_hint(f, ",\"hint\":\"", self.cause, self.front, "\"")?;
+        write_hint(
+            f,
+            ",\"hint\":\"",
+            &self.limits,
+            self.cause,
+            self.front,
+            "\"",
+        )?;
         write_explanation_member(f, self.explanation)
     }
 }
@@ -182,7 +191,7 @@ fn refusal_object(
 ) -> Result<String, AllocError>
     ensures { IfOk result (λ line. string_bytes line ≡ refusal_object name.now offset
         (kind_word kind.cause kind.kind) message.now
-        (help_members members.entry.cause members.entry.front.now
+        (help_members members.entry.limits members.entry.cause members.entry.front.now
         (option_map (λ x. x.now) members.entry.explanation))) }
 {
     let name = Quoted(name);
@@ -209,17 +218,18 @@ pub fn refused_text(
     ensures { IfOk result (λ line. string_bytes line ≡ refused_text form explains name.now refusal.entry.limits refusal.entry.error.now
         refusal.entry.front.now (option_map (λ x. x.now) explanation.entry)) }
 {
-    let (error, front) = (refusal.error, refusal.front);
-    let cause = cause_of(&refusal.limits, error);
+    let (error, limits, front) = (refusal.error, refusal.limits, refusal.front);
+    let cause = cause_of(&limits, error);
     match form {
         Form::Lines => {
             let below = LinesBelow {
                 explains,
+                limits,
                 cause,
                 front,
                 explanation,
             };
-            refusal_lines(alloc, name, error.offset(), error.message(), below)
+            refusal_lines(alloc, name, error.offset(), error.message().as_str(), below)
         }
         Form::Json => {
             let kind = KindWord {
@@ -227,11 +237,19 @@ pub fn refused_text(
                 kind: error.kind(),
             };
             let members = HelpMembers {
+                limits,
                 cause,
                 front,
                 explanation,
             };
-            refusal_object(alloc, name, error.offset(), kind, error.message(), members)
+            refusal_object(
+                alloc,
+                name,
+                error.offset(),
+                kind,
+                error.message().as_str(),
+                members,
+            )
         }
         Form::Quiet => Ok(String::new(alloc)),
     }

@@ -1,14 +1,13 @@
 //! What a person can do about a refusal.
 ghost use Rattle.std.specs.Fmt.{WritesOnOk};
 ghost use Rattle.std.specs.Prelude.{◌≡◌, Some, bytes_eq, take, codes, option_map};
-ghost use Rattle.wasm_check_lines.specs.Limits.{word_of};
-ghost use Rattle.wasm_check_lines.specs.Hints.{feature_hint, features_hint, framed, hint_for, is_space, is_text, limit_hint, text_hint};
+ghost use Rattle.wasm_check_lines.specs.Hints.{feature_hint, features_hint, framed, hint_for, is_space, is_text, limit_help, limit_hint, text_hint};
 
 use crate::causes::Cause;
 use crate::limit::Limit;
 use crate::words::word_for;
 use std::fmt;
-use wasm_types::WasmFeatures;
+use wasm_types::{Limits, WasmFeatures};
 
 // Whether a byte is a space of the text format.
 fn is_space(byte: u8) -> bool
@@ -80,16 +79,20 @@ fn write_feature<W: fmt::Write>(f: &mut fmt::Formatter<W>, word: &str) -> fmt::R
     write!(f, "--features {word} allows it")
 }
 
-// Writes which option sets a limit, between two texts.
+// Writes which option sets a limit, if one can raise it, between two texts.
 fn write_limit_hint<W: fmt::Write>(
     f: &mut fmt::Formatter<W>,
     before: &str,
+    limits: &Limits,
     limit: Limit,
     after: &str,
 ) -> fmt::Result
     ensures { WritesOnOk W.write_str_gives f.old result
-        (framed before.now (Some (limit_hint (word_of limit))) after.now) f.new }
+        (framed before.now (Some (limit_help limits.now limit)) after.now) f.new }
 {
+    if limit.is_highest(limits) {
+        return write_framed(f, before, Some("no option raises this limit"), after);
+    }
     f.write_str(before)?;
     write_limit(f, limit.word())?;
     f.write_str(after)
@@ -112,22 +115,23 @@ fn write_feature_hint<W: fmt::Write>(
     f.write_str(after)
 }
 
-/// Writes what to do about a refusal for this cause, of an input that begins with these bytes, between two texts; or nothing.
+/// Writes what to do about a refusal for this cause under these limits, of an input that begins with these bytes, between two texts; or nothing.
 pub(crate) fn write_hint<W: fmt::Write>(
     f: &mut fmt::Formatter<W>,
     before: &str,
+    limits: &Limits,
     cause: Cause,
     front: &[u8],
     after: &str,
 ) -> fmt::Result
-    ensures { WritesOnOk W.write_str_gives f.old result (framed before.now (hint_for cause front.now) after.now) f.new }
+    ensures { WritesOnOk W.write_str_gives f.old result (framed before.now (hint_for limits.now cause front.now) after.now) f.new }
 {
     match cause {
         Cause::Vectors => {
             let hint = "--vectors judges operators on vectors";
             write_framed(f, before, Some(hint), after)
         }
-        Cause::Limit(limit) => write_limit_hint(f, before, limit, after),
+        Cause::Limit(limit) => write_limit_hint(f, before, limits, limit, after),
         Cause::Feature(features) => write_feature_hint(f, before, features, after),
         Cause::FixedLimit => Ok(()),
         Cause::Types => Ok(()),

@@ -1,6 +1,8 @@
 //! The limits that a caller chooses, by name.
 ghost use Rattle.std.specs.Prelude.{◌≡◌, ◌<◌};
-ghost use Rattle.wasm_check_lines.specs.Limits.{place_of, word_of};
+ghost use Rattle.wasm_check_lines.specs.Limits.{is_highest, limit_of, place_of, word_of};
+
+use wasm_types::Limits;
 
 /// A limit that a caller chooses: the field of `Limits` of this name. They are in the order of the fields.
 #[derive(Clone, Copy, Debug)]
@@ -86,5 +88,41 @@ impl Limit {
             Limit::SubtypingDepth => 19,
             Limit::TypeSize => 20,
         }
+    }
+
+    /// What it is in these limits.
+    pub fn of(self, limits: &Limits) -> u32
+        ensures { result ≡ limit_of self limits.now }
+    {
+        match self {
+            Limit::Types => limits.types,
+            Limit::Params => limits.params,
+            Limit::Results => limits.results,
+            Limit::Fields => limits.fields,
+            Limit::StringBytes => limits.string_bytes,
+            Limit::SubtypingDepth => limits.subtyping_depth,
+            Limit::TypeSize => limits.type_size,
+            Limit::Imports => limits.imports,
+            Limit::Exports => limits.exports,
+            Limit::Functions => limits.functions,
+            Limit::Globals => limits.globals,
+            Limit::Tags => limits.tags,
+            Limit::Tables => limits.tables,
+            Limit::Memories => limits.memories,
+            Limit::ElementSegments => limits.element_segments,
+            Limit::DataSegments => limits.data_segments,
+            Limit::SegmentItems => limits.segment_items,
+            Limit::BodyBytes => limits.body_bytes,
+            Limit::SelectTypes => limits.select_types,
+            Limit::Locals => limits.locals,
+            Limit::Catches => limits.catches,
+        }
+    }
+
+    /// Whether it is as high in these limits as it may be.
+    pub(crate) fn is_highest(self, limits: &Limits) -> bool
+        ensures { result ≡ is_highest self limits.now }
+    {
+        self.of(&Limits::ceilings()) <= self.of(limits)
     }
 }

@@ -1,5 +1,5 @@
 -- A valid module is a valid program.
-use Rattle.std.proofs.Common.{◌≡◌, ◌<◌, ℕ, zero, suc, ◌+◌, List, [], ◌∷◌, ◌++◌, length, map, Option, Some, None, Bool, true, false, refl, sym, ap, subst, ◌∙◌, slice_get, replicate, inl, inr, true≢false, arith, length-append}
+use Rattle.std.proofs.Common.{◌≡◌, ◌<◌, ◌≤◌, ◌/◌, drop, ℕ, zero, suc, ◌+◌, List, [], ◌∷◌, ◌++◌, length, map, Option, Some, None, Bool, true, false, refl, sym, ap, subst, ◌∙◌, slice_get, replicate, inl, inr, true≢false, arith, length-append}
 use Rattle.std.proofs.lemmas.Option.{same_Some}
 use Rattle.std.specs.Prelude.{All, Contains, filter_map, take}
 use Rattle.std.specs.List.{AllZip, cons_option}
@@ -36,8 +36,10 @@ use Rattle.wasm_operator_validator_rules.specs.Context.{Global, Signature, IsTyp
 use Rattle.wasm_module_validator_rules.specs.Syntax.{Function as CodeItem, ModuleTree}
 use Rattle.wasm_module_validator_rules.specs.Binary.{SpelledModule}
 use Rattle.wasm_module_validator_rules.specs.ModuleLaws.{one_module}
-use Rattle.wasm_module_validator_rules.specs.Spaces.{with_types, value_in, FunctionEntry, function_with, function_of, imported, imported_globals, element_type, function_space, table_of, table_in, global_of, global_in, tag_of, tag_space, module_of}
-use Rattle.wasm_module_validator_rules.specs.Valid.{Each, IfThere, IsValidStart, IsFunctionIndex, IsValidElementType, IsValidTableType, IsValidTagType, IsValidImport, IsValidValueType, IsInitialised, IsValidTable, AreValidGlobals, IsValidMode, AreValidItems, IsValidElement, IsValidData, locals_in, HasValidBody, IsValid}
+use Rattle.wasm_module_validator_rules.specs.Spaces.{with_types, value_in, FunctionEntry, function_with, function_of, imported, imported_globals, element_type, function_space, table_of, table_in, memory_of, global_of, global_in, tag_of, tag_space, module_of}
+use Rattle.wasm_types.specs.externs.declared.memory.MemoryType.{MemoryType}
+use Rattle.wasm_operator_validator_store.specs.Stores.{page_size, at_most, addressed_pages}
+use Rattle.wasm_module_validator_rules.specs.Valid.{most_pages as valid_most, page_size as valid_page, IsValidMemoryType, Each, IfThere, IsValidStart, IsFunctionIndex, IsValidElementType, IsValidTableType, IsValidTagType, IsValidImport, IsValidValueType, IsInitialised, IsValidTable, AreValidGlobals, IsValidMode, AreValidItems, IsValidElement, IsValidData, locals_in, HasValidBody, IsValid}
 use Rattle.wasm_operator_validator_soundness.specs.runs.Values.{Function, Program, IsStandard, IsStandardType, Value, number_value, ref_null, ref_function, ref_object, ref_i31, ref_host, ref_extern, ref_exn, Fits as FitsType, null_of, default_of}
 use Rattle.wasm_operator_validator_soundness.specs.runs.Soundness as sound
 use Rattle.wasm_operator_validator_soundness.specs.runs.Soundness.{IsValidProgram, evaluated}
@@ -50,15 +52,17 @@ use Rattle.wasm_operator_validator_soundness.proofs.RunsSteps.{programs_sound, c
 use Rattle.wasm_operator_validator_soundness.proofs.Placing.{stays_at_places}
 use Rattle.wasm_operator_validator_soundness.proofs.Progress.{answers_exist}
 use Rattle.wasm_operator_validator_store.specs.ValidStores as stores
-use Rattle.wasm_operator_validator_store.specs.Instantiation.{IsConstant as InstantiationConstant, function_item, constant_item, IsItem, IsFilling, IsUse, GlobalsAreTyped, TablesAreTyped, SegmentsAreTyped, AreInitials}
+use Rattle.wasm_operator_validator_store.specs.Instantiation.{IsConstant as InstantiationConstant, function_item, constant_item, IsItem, IsFilling, IsUse, IsDataUse, IsDataSegment, IsSizedMemory, GlobalsAreTyped, TablesAreTyped, SegmentsAreTyped, AreInitials}
 use Rattle.wasm_operator_validator_store.proofs.Lists.{get_past}
-use Rattle.wasm_operator_validator_store.proofs.Steps.{store_runs_sound}
+use Rattle.wasm_operator_validator_store.proofs.Steps.{store_runs_sound, store_runs_pinned}
+use Rattle.wasm_operator_validator_store.proofs.Determined.{store_runs_determined}
+use Rattle.wasm_operator_validator_store.proofs.Exact.{bytes_kept, memories_kept}
 use Rattle.wasm_operator_validator_store.proofs.Instantiating.{first_stores_fit}
 use Rattle.wasm_operator_validator_soundness.proofs.Values.{calls_through}
 use Rattle.wasm_types.specs.trees.Matches.{ResultsMatch}
 use Rattle.wasm_module_validator.specs.soundness.Modules.{types_in, host_function, own_function, own_functions, program_of, MayBeImported, AreHosts}
 use Rattle.wasm_module_validator.specs.soundness.Constants.{without_body, seen_with, Gives, all_seen, GlobalsFit, ContentFits, TableFits, FunctionFits, ItemsFit, PlaceFits, ElementFits, DataFits, EachConstantFits}
-use Rattle.wasm_module_validator.specs.soundness.FirstStores.{filling_of, items_of, use_of, segment_of, initials_of}
+use Rattle.wasm_module_validator.specs.soundness.FirstStores.{filling_of, items_of, use_of, segment_of, data_use_of, data_segment_of, initials_of}
 use Rattle.wasm_module_validator.specs.soundness.Soundness.{MayStart, ModulesAreSound, AcceptedIsSound}
 
 -- ---- lists
@@ -466,11 +470,46 @@ module _ (z : Settings) (m : ModuleTree) (hosts : List TypeTree) (standard : IsS
     segments_typed xs (suc n) v.1 (others_there (λ (y : ElementTree Expression). element_type own_types y.items) x xs (module_of m).elements n h),
   )
 
+  -- a valid memory may have as many pages as its type says at first
+  sized_within : (o : Option ℕ) (n most : ℕ) → n ≤ most → IfThere (λ k. n ≤ k) o → n ≤ at_most o most
+  sized_within None n most l h = l
+  sized_within (Some k) n most l h = omega (arith, l, h)
+
+  few_pages : (wide : Bool) (page : ℕ) (n : ℕ) → n ≤ valid_most wide page → n ≤ addressed_pages wide page
+  few_pages true page n l = l
+  few_pages false page n l = l
+
+  same_page : (o : Option ℕ) → valid_page o ≡ page_size o
+  same_page None = refl
+  same_page (Some k) = refl
+
+  memory_sized : (t : MemoryType) → IsValidMemoryType z t → IsSizedMemory program t
+  memory_sized t h = sized_within t.maximum t.initial (addressed_pages t.memory64 (page_size t.page_size_log2))
+      (few_pages t.memory64 (page_size t.page_size_log2) t.initial (subst (λ k. t.initial ≤ valid_most t.memory64 k) (same_page t.page_size_log2) h.limits.least_within)) h.limits.ordered
+
+  memories_sized : (ts : List MemoryType) → Each (IsValidMemoryType z) ts → stores.Each (IsSizedMemory program) ts
+  memories_sized [] h = tt
+  memories_sized (t ∷ ts) h = (memory_sized t h.0, memories_sized ts h.1)
+
+  dropped_all : (bs cs : List MemoryType) → drop (length bs) (bs ++ cs) ≡ cs
+  dropped_all [] cs = refl
+  dropped_all (b ∷ bs) cs = dropped_all bs cs
+
+  data_use_typed : (mode : DataMode Expression) → IsValidData z (module_of m) (imported_globals m) mode → IsDataUse program (data_use_of mode)
+  data_use_typed data_mode.passive h = tt
+  data_use_typed (data_mode.active x c) h = (h.0, h.1, subst (λ (v : ValueType). InstantiationConstant program (module_of m).globals v c) (sym (address_is (h.0).memory64)) h.2.typed)
+
+  data_typed : (xs : List (DataTree Expression)) → Each (λ (x : DataTree Expression). IsValidData z (module_of m) (imported_globals m) x.mode) xs → stores.Each (IsDataSegment program) (map data_segment_of xs)
+  data_typed [] h = tt
+  data_typed (x ∷ xs) h = (data_use_typed x.mode h.0, data_typed xs h.1)
+
   pub initials_typed : AreInitials program (initials_of m)
   initials_typed = record {
     globals = globals_typed m.globals (imported_globals m) valid.globals (own_there (global_in own_types) (λ (x : GlobalTree Expression). x.ty) (imported global_of m) m.globals);
     tables = tables_typed m.tables (length (imported table_of m)) valid.tables (own_there (table_in own_types) (λ (x : TableTree Expression). x.ty) (imported table_of m) m.tables);
+    memories = subst (stores.Each (IsSizedMemory program)) (sym (dropped_all (imported memory_of m) m.memories)) (memories_sized m.memories valid.memories);
     segments = segments_typed m.element_segments 0 valid.element_segments (all_there (λ (x : ElementTree Expression). element_type own_types x.items) m.element_segments);
+    data_segments = data_typed m.data_segments valid.data_segments;
   }
 
 -- ---- modules
@@ -501,6 +540,10 @@ modules_sound z m standard valid hosts hosted = record {
       runs_stay_valid (program_of z m hosts) results s answers t v (starts_valid (program_of z m hosts) s results v started) runs;
   answered = λ s results globals started. answers_exist (program_of z m hosts) s results (program_valid z m hosts standard valid hosted) globals started;
   stores = λ s results u started fits knows. store_runs_sound (program_of z m hosts) s results u (program_valid z m hosts standard valid hosted) started fits knows;
+  pinned = λ s results u started fits knows. store_runs_pinned (program_of z m hosts) s results u (program_valid z m hosts standard valid hosted) started fits knows;
+  determined = store_runs_determined (program_of z m hosts);
+  bytes = bytes_kept;
+  memories = memories_kept;
   start = may_start (program_of z m hosts) (program_valid z m hosts standard valid hosted) m.start valid.start;
   constants = each_constant_fits z m hosts standard valid hosted;
   first_stores = λ host u fits first. first_stores_fit (program_of z m hosts) (initials_of m) host u (program_valid z m hosts standard valid hosted) (initials_typed z m hosts standard valid hosted) fits first;

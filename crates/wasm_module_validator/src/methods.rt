@@ -21,14 +21,17 @@ use wasm_sections::{
     TableSectionReader, TagSectionReader, TypeSectionReader,
 };
 use wasm_sections_parser::Encoding;
-use wasm_types::{Error, Result};
+use wasm_types::{Error, ModuleWords, Result, Text, Words};
 
 // The refusal of a call behind a refusal.
 #[cold]
 fn failed_before(offset: u64) -> Error
     ensures { result.kind ≡ kinds.Failed }
 {
-    Error::failed("the module was refused before", offset)
+    Error::failed(
+        Words::Module(ModuleWords::TheModuleWasRefusedBefore),
+        offset,
+    )
 }
 
 // Whether nothing was refused.
@@ -44,11 +47,14 @@ pub(crate) fn check_not_failed(state: State, offset: u64) -> Result<()>
 }
 
 // Whether a part of a module may come, which fits where the module stands or does not.
-fn check_turn(state: State, fits: bool, misfit: &str, offset: u64) -> Result<()>
+fn check_turn(state: State, fits: bool, misfit: Words, offset: u64) -> Result<()>
     ensures { refused_by result ≡ refusal state fits }
 {
     match state {
-        State::Unparsed => Err(Error::new("unexpected section before header was parsed", offset)),
+        State::Unparsed => Err(Error::new(
+            Words::Module(ModuleWords::UnexpectedSectionBeforeHeaderWasParsed),
+            offset,
+        )),
         State::Module => {
             if fits {
                 Ok(())
@@ -56,7 +62,10 @@ fn check_turn(state: State, fits: bool, misfit: &str, offset: u64) -> Result<()>
                 Err(Error::new(misfit, offset))
             }
         }
-        State::Ended => Err(Error::new("unexpected section after parsing has completed", offset)),
+        State::Ended => Err(Error::new(
+            Words::Module(ModuleWords::UnexpectedSectionAfterParsingHasCompleted),
+            offset,
+        )),
         State::Failed => Err(failed_before(offset)),
     }
 }
@@ -389,42 +398,63 @@ impl Validator {
 }
 
 // A section that may not come behind the start of the code.
-const AFTER_CODE: &str = "unexpected section behind the code section";
+const AFTER_CODE: Words = Words::Module(ModuleWords::UnexpectedSectionBehindTheCodeSection);
 
 // A body that no start of the code came before.
-const BEFORE_CODE: &str = "unexpected code section entry before the code section has begun";
+const BEFORE_CODE: Words = Words::Module(
+    ModuleWords::UnexpectedCodeSectionEntryBeforeTheCodeSectionHasBegun,
+);
 
 #[cold]
 fn late_header(offset: u64) -> Error
     ensures { result.kind ≡ kinds.Other }
 {
-    Error::new("wasm version header out of order", offset)
+    Error::new(
+        Words::Module(ModuleWords::WasmVersionHeaderOutOfOrder),
+        offset,
+    )
 }
 
 #[cold]
 fn too_many_bodies(offset: u64) -> Error
     ensures { result.kind ≡ kinds.Other }
 {
-    Error::new("code section entry exceeds number of functions", offset)
+    Error::new(
+        Words::Module(ModuleWords::CodeSectionEntryExceedsNumberOfFunctions),
+        offset,
+    )
 }
 
 #[cold]
 fn malformed_section(id: u8, offset: u64) -> Error
     ensures { result.kind ≡ kinds.Other }
 {
-    Error::fmt(format_args!("malformed section id: {id}"), offset)
+    Error::with(
+        Text::Number(
+            Words::Module(ModuleWords::MalformedSectionId),
+            id as u32,
+            Words::Nothing,
+        ),
+        offset,
+    )
 }
 
 #[cold]
 fn early_end(offset: u64) -> Error
     ensures { result.kind ≡ kinds.Other }
 {
-    Error::new("cannot call `end` before a header has been parsed", offset)
+    Error::new(
+        Words::Module(ModuleWords::CannotCallEndBeforeAHeaderHasBeenParsed),
+        offset,
+    )
 }
 
 #[cold]
 fn late_end(offset: u64) -> Error
     ensures { result.kind ≡ kinds.Other }
 {
-    Error::new("cannot call `end` after parsing has completed", offset)
+    Error::new(
+        Words::Module(ModuleWords::CannotCallEndAfterParsingHasCompleted),
+        offset,
+    )
 }

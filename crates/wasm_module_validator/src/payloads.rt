@@ -2,13 +2,15 @@
 
 ghost use Rattle.std.specs.Prelude.{◌≡◌};
 ghost use Rattle.wasm_sections.specs.Payloads.{set};
+ghost use Rattle.wasm_operator_validator_state.specs.Refusals.{refused_by};
+ghost use Rattle.wasm_module_validator.specs.Methods.{failure};
 ghost use Rattle.wasm_module_validator.specs.Payloads.{passed, with_body, ended, TakesPayload};
 
 use crate::methods::check_not_failed;
 use crate::types::Types;
 use crate::validator::Validator;
 use wasm_module_validator_drivers::{FuncToValidate, ValidatorResources};
-use wasm_sections::{FunctionBody, Payload};
+use wasm_sections::{CustomSectionReader, FunctionBody, Payload};
 use wasm_types::Result;
 
 /// What a payload that was accepted leads to.
@@ -55,6 +57,18 @@ fn finish<'a>(answer: Result<Types>) -> Result<ValidPayload<'a>>
 }
 
 impl Validator {
+    /// Takes a custom section, as `payload` does the payload that it is.
+    ///
+    /// # Errors
+    ///
+    /// Something was refused before.
+    #[inline(always)]
+    pub fn custom_section(&self, section: &CustomSectionReader<'_>) -> Result<()>
+        ensures { refused_by result ≡ failure self.now.state }
+    {
+        check_not_failed(self.state, section.range().start)
+    }
+
     // The same body, read by the validator's features and limits.
     fn read_anew<'a>(&self, body: &FunctionBody<'a>) -> FunctionBody<'a>
         ensures { result ≡ set self.now.settings body.now }
@@ -104,9 +118,7 @@ impl Validator {
                 let answer = self.code_section_entry(&body);
                 hand_out(answer, anew)
             }
-            Payload::CustomSection(section) => {
-                pass(check_not_failed(self.state, section.range().start))
-            }
+            Payload::CustomSection(section) => pass(self.custom_section(&section)),
             Payload::UnknownSection {
                 id,
                 contents: _,

@@ -8,7 +8,7 @@ ghost use Rattle.wasm_module_validator_canonical_types.specs.Canonical.{IsIndexB
 ghost use Rattle.wasm_module_validator_canonical_types.specs.Refused.{FailsAt};
 
 use crate::parts::{Bounds, reaches};
-use wasm_types::{Error, PackedIndex, Result, SubType};
+use wasm_types::{Error, ModuleWords, PackedIndex, Result, SubType, Words};
 
 // Refuses a supertype that does not stand before its subtype, at this place of its group.
 fn check_supertypes(start: u32, place: usize, supertypes: &[PackedIndex], offset: u64) -> Result<()>
@@ -18,7 +18,10 @@ fn check_supertypes(start: u32, place: usize, supertypes: &[PackedIndex], offset
     for i in 0..supertypes.len() {
         if let Some(index) = supertypes[i].as_module_index() {
             if reaches(start, place, index) {
-                return Err(Error::new("supertypes must be defined before subtypes", offset));
+                return Err(Error::new(
+                    Words::Module(ModuleWords::SupertypesMustBeDefinedBeforeSubtypes),
+                    offset,
+                ));
             }
         }
     }
@@ -41,7 +44,10 @@ fn check_describes(
     match index.as_module_index() {
         Some(index) => {
             if reaches(start, place, index) {
-                return Err(Error::new("forward describes reference", offset));
+                return Err(Error::new(
+                    Words::Module(ModuleWords::ForwardDescribesReference),
+                    offset,
+                ));
             }
             Ok(())
         }

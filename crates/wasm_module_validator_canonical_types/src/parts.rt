@@ -12,8 +12,8 @@ ghost use Rattle.wasm_module_validator_canonical_types.specs.Canonical.{IsIndexA
 ghost use Rattle.wasm_module_validator_canonical_types.specs.Refused.{FailsAt};
 
 use wasm_types::{
-    CompositeInnerType, Error, FieldType, HeapType, PackedIndex, Result, StorageType,
-    UnpackedIndex, ValType,
+    CompositeInnerType, Error, FieldType, HeapType, ModuleWords, PackedIndex, Result, StorageType,
+    Text, UnpackedIndex, ValType, Words,
 };
 
 /// What is asked of the indices of a group: from `start` on as many as it has types are its own, which its types may refer to
@@ -39,8 +39,8 @@ fn unknown_type(index: u32, offset: u64) -> Error
     ensures kind { result.kind ≡ Other }
     ensures offset { result.offset ≡ offset }
 {
-    Error::fmt(
-        format_args!("unknown type {index}: type index out of bounds"),
+    Error::with(
+        Text::Number(Words::UnknownType, index, Words::TypeIndexOutOfBounds),
         offset,
     )
 }
@@ -51,9 +51,11 @@ fn needs_gc(index: u32, offset: u64) -> Error
     ensures kind { result.kind ≡ Other }
     ensures offset { result.offset ≡ offset }
 {
-    Error::fmt(
-        format_args!(
-            "unknown type {index}: type index out of bounds because the GC proposal is disabled"
+    Error::with(
+        Text::Number(
+            Words::UnknownType,
+            index,
+            Words::Module(ModuleWords::TypeIndexOutOfBoundsBecauseTheGCProposalIsDisabled),
         ),
         offset,
     )

@@ -1,12 +1,13 @@
 -- The bytes of names, of exports and of imports of functions.
 use Rattle.std.proofs.Common.{◌≡◌, ◌≤◌, ◌<◌, ℕ, ◌+◌, ◌-◌, List, [], ◌∷◌, ◌++◌, Option, Some, None, refl, sym, ap, ◌∙◌, subst, arith, length, take, drop, get_or}
-use Rattle.std.specs.Prelude.{IsUtf8, IfSome}
+use Rattle.std.specs.Prelude.{IsUtf8, IfSome, IsTrue, false}
 use Rattle.std.proofs.lemmas.List.{length-take-le, length-drop, drop_more}
 use Rattle.wasm_types.specs.decoding.Leb.{u32, IsUnsigned}
 use Rattle.wasm_types.specs.decoding.Text.{IsName}
 use Rattle.wasm_types.specs.settings.declared.Limits.{Limits}
 use Rattle.wasm_types.specs.decoding.Numbers.{GivesAt}
 use Rattle.wasm_sections_items.specs.declared.imports.kind.ExternalKind.{ExternalKind}
+use Rattle.wasm_sections_items.specs.declared.imports.kind.ExternalKind.TheVariants.{FuncExact}
 use Rattle.wasm_sections_items.specs.declared.imports.type_ref.TypeRef.TheVariants.{Func}
 use Rattle.wasm_sections_items.specs.imports.Spells.{ImportTree, ExportTree, kind_byte}
 use Rattle.wasm_module_validator_type_storage.specs.trees.Groups.{Group}
@@ -15,7 +16,7 @@ use Rattle.wasm_module_validator_state.specs.invariant.Standing.{IsAdded}
 use Rattle.wasm_module_validator_section_order.specs.rules_in_order.Sections as section
 use Rattle.wasm_module_validator_section_order.specs.rules_in_order.Between.{IsBetween}
 use Rattle.wasm_module_validator_section_order.specs.rules_in_order.BetweenLaws.{InTurn, in_turn, between_so, bytes_between, number_between}
-use Rattle.wasm_module_validator_declarations.specs.Short.{AddsExport, SpellsExport, SpellsImport}
+use Rattle.wasm_module_validator_declarations.specs.Short.{AddsExport, SpellsExport, SpellsImport, is_exported}
 
 -- the byte at an offset
 byte_between : (text : List ℕ) (i : ℕ) → i < length text → IsBetween (λ t. t ≡ get_or text i 0 ∷ []) text i (i + 1)
@@ -59,6 +60,9 @@ module _ (text : List ℕ) (middle index end : ℕ) where
 
 -- ---- exports
 
+not_exact : (k : ExternalKind) → IsTrue (is_exported k) → k ≡ FuncExact → ⊥
+not_exact k h e = let never : IsTrue false = subst (λ (j : ExternalKind). IsTrue (is_exported j)) e h in cc
+
 module _ (text : List ℕ) (i middle index end : ℕ) (kind : ExternalKind) (name : List ℕ) (l : Limits) where
   abbrev exported : ExportTree
   exported = record { name = name; kind = kind; index = index }
@@ -66,21 +70,21 @@ module _ (text : List ℕ) (i middle index end : ℕ) (kind : ExternalKind) (nam
   abbrev OfExport : List ℕ → Type 0
   OfExport = InTurn (IsName l.string_bytes name) (Indexed text middle index end)
 
-  exports : get_or text middle 0 ≡ kind_byte kind → (t : List ℕ) → OfExport t → SpellsExport l exported t
-  exports byte t (name_text, behind, named, (kind_text, index_text, kind_is, indexed, whole_behind), whole) z same = record {
+  exports : get_or text middle 0 ≡ kind_byte kind → IsTrue (is_exported kind) → (t : List ℕ) → OfExport t → SpellsExport l exported t
+  exports byte other t (name_text, behind, named, (kind_text, index_text, kind_is, indexed, whole_behind), whole) z same = record {
     name_text = name_text;
     kind_text = kind_text;
     index_text = index_text;
     named = same_name l z.limits name name_text same named;
-    of_kind = kind_is ∙ ap (λ (b : ℕ). b ∷ []) byte;
+    of_kind = (kind_is ∙ ap (λ (b : ℕ). b ∷ []) byte, not_exact kind other);
     indexed = indexed;
     whole = whole ∙ ap (λ (r : List ℕ). name_text ++ r) whole_behind;
   }
 
   pub short_export : IsBetween (IsName l.string_bytes name) text i middle → middle < length text → get_or text middle 0 ≡ kind_byte kind
-      → GivesAt u32 text (middle + 1) index end → IsBetween (SpellsExport l exported) text i end
-  short_export named inside byte indexed =
-      between_so OfExport (SpellsExport l exported) text i end (exports byte)
+      → IsTrue (is_exported kind) → GivesAt u32 text (middle + 1) index end → IsBetween (SpellsExport l exported) text i end
+  short_export named inside byte other indexed =
+      between_so OfExport (SpellsExport l exported) text i end (exports byte other)
       (in_turn _ _ text i middle end named (indexed_between text middle index end inside indexed))
 
 -- where one was added, or was not

@@ -22,7 +22,7 @@ ghost use Rattle.wasm_module_validator_declarations.specs.Total.{HasGroupNext, I
 use wasm_module_validator_checks::limits::too_many;
 use wasm_module_validator_state::invariant::ModuleState;
 use wasm_module_validator_type_list::{MAX_TYPES, TypeList};
-use wasm_types::{Error, RecGroup, Result};
+use wasm_types::{Error, ModuleWords, RecGroup, Result, Words};
 
 // Refuses a group of so many types behind as many groups as the limit of types, and one with which there are more types.
 fn check_fit(state: &ModuleState, groups: u32, further: usize, offset: u64) -> Result<()>
@@ -33,7 +33,7 @@ fn check_fit(state: &ModuleState, groups: u32, further: usize, offset: u64) -> R
     let most = state.settings().limits().types;
     let before = state.module().type_ids().len();
     if groups >= most || before > most as usize || further > most as usize - before {
-        return Err(too_many(most, "types", offset));
+        return Err(too_many(most, Words::Module(ModuleWords::Types), offset));
     }
     Ok(())
 }
@@ -47,7 +47,10 @@ fn past_total(offset: u64) -> Error
       message = codes "implementation limit: too many core types";
     } }
 {
-    Error::new("implementation limit: too many core types", offset)
+    Error::new(
+        Words::Module(ModuleWords::ImplementationLimitTooManyCoreTypes),
+        offset,
+    )
 }
 
 // Whether a list may have so many types more.

@@ -11,7 +11,7 @@ ghost use Rattle.wasm_module_validator_state.specs.resources.Named.{IsReadOver};
 ghost use Rattle.wasm_module_validator_section_order.specs.rules_in_order.Between.{IsBetween};
 ghost use Rattle.wasm_module_validator_section_order.specs.rules_in_order.Sections as section;
 ghost use Rattle.wasm_module_validator_state.specs.invariant.Standing.{IsAdded};
-ghost use Rattle.wasm_module_validator_declarations.specs.Short.{AddsExport, AddsFunction, AddsImport, SpellsExport};
+ghost use Rattle.wasm_module_validator_declarations.specs.Short.{AddsExport, AddsFunction, AddsImport, SpellsExport, is_exported};
 
 use crate::exports::add_export_item;
 use crate::own::add_function_item;
@@ -25,7 +25,8 @@ use wasm_types_decoding::short_u32_at;
 // What stands for this byte.
 #[inline(always)]
 fn kind_of(byte: u8) -> Option<ExternalKind>
-    ensures { IfSome result (λ k. byte ≡ kind_byte k) }
+    ensures byte { IfSome result (λ k. byte ≡ kind_byte k) }
+    ensures exported { IfSome result (λ k. IsTrue (is_exported k)) }
 {
     match byte {
         0x00 => Some(ExternalKind::Func),
@@ -106,7 +107,10 @@ fn add_other_export(
 {
     match add_export_item(state, types, export, 0) {
         Ok(()) => Some(end),
-        Err(_error) => None,
+        Err(error) => {
+            state.note(&error);
+            None
+        }
     }
 }
 
@@ -196,6 +200,9 @@ pub fn add_short_function(
     };
     match add_function_item(state, types, index, 0) {
         Ok(()) => Some(end),
-        Err(_error) => None,
+        Err(error) => {
+            state.note(&error);
+            None
+        }
     }
 }

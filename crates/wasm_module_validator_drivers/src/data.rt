@@ -21,7 +21,7 @@ use crate::reading::{
 use std::alloc::Global;
 use wasm_module_validator_section_order::items::{AddItem, add_items};
 use wasm_sections::{Data, DataSectionReader};
-use wasm_types::{Error, Limits, Result};
+use wasm_types::{Error, Limits, Result, Words};
 
 // A module whose data segments are checked, and the memory of the checks.
 #[derive(Drop)]
@@ -113,7 +113,7 @@ pub(crate) fn check_data_section(
 {
     let offset = segments.range().start;
     if last >= 13 {
-        return Err(Error::new("section out of order", offset));
+        return Err(Error::new(Words::SectionOutOfOrder, offset));
     }
     match <Data<'_> as SectionItem<'_>>::check_count(module.state(), segments.count(), offset) {
         Ok(()) => (),

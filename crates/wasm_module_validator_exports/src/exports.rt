@@ -9,22 +9,19 @@ ghost use Rattle.wasm_module_validator_checks.specs.externs.Refusals.{IsNeeded, 
 
 use wasm_module_validator_checks::externs::{Settings, WasmModuleResources, require};
 use wasm_sections_items::imports::ExternalKind;
-use wasm_types::{Error, Result, WasmFeatures};
+use wasm_types::{Error, ModuleWords, Result, Text, WasmFeatures, Words};
 
 // The refusal of an index past the end of its space.
 #[cold]
-fn unknown(space: &str, index: u32, offset: u64) -> Error
+fn unknown(space: Words, index: u32, offset: u64) -> Error
     ensures kind { result.kind ≡ Other }
     ensures at { result.offset ≡ offset }
 {
-    Error::fmt(
-        format_args!("unknown {space} {index}: exported {space} index out of bounds"),
-        offset,
-    )
+    Error::with(Text::UnknownExport(space, index), offset)
 }
 
 // Asks that something is there.
-fn check_index(is_there: bool, space: &str, index: u32, offset: u64) -> Result<()>
+fn check_index(is_there: bool, space: Words, index: u32, offset: u64) -> Result<()>
     ensures answer { Tells result (IsTrue is_there) }
     ensures refused { IfErr result (λ e. (e.kind ≡ Other) × (e.offset ≡ offset) × (is_there ≡ false)) }
 {
@@ -48,12 +45,12 @@ fn check_global<R: WasmModuleResources>(
     ensures at { IfErr result (λ e. e.offset ≡ offset) }
 {
     let Some(global) = resources.global_at(index) else {
-        return Err(unknown("global", index, offset));
+        return Err(unknown(Words::Module(ModuleWords::Global), index, offset));
     };
     require(
         !global.mutable || settings.features().mutable_global(),
         WasmFeatures::MUTABLE_GLOBAL,
-        "mutable global support is not enabled",
+        Words::Module(ModuleWords::MutableGlobalSupportIsNotEnabled),
         offset,
     )
 }
@@ -78,23 +75,33 @@ pub fn check_export<R: WasmModuleResources>(
     match kind {
         ExternalKind::Func => {
             let is_there = resources.type_index_of_function(index).is_some();
-            check_index(is_there, "function", index, offset)
+            check_index(
+                is_there,
+                Words::Module(ModuleWords::Function),
+                index,
+                offset,
+            )
         }
         ExternalKind::FuncExact => {
             let is_there = resources.type_index_of_function(index).is_some();
-            check_index(is_there, "function", index, offset)
+            check_index(
+                is_there,
+                Words::Module(ModuleWords::Function),
+                index,
+                offset,
+            )
         }
         ExternalKind::Table => {
             let is_there = resources.table_at(index).is_some();
-            check_index(is_there, "table", index, offset)
+            check_index(is_there, Words::Module(ModuleWords::Table), index, offset)
         }
         ExternalKind::Memory => {
             let is_there = resources.memory_at(index).is_some();
-            check_index(is_there, "memory", index, offset)
+            check_index(is_there, Words::Module(ModuleWords::Memory), index, offset)
         }
         ExternalKind::Tag => {
             let is_there = resources.tag_at(index).is_some();
-            check_index(is_there, "tag", index, offset)
+            check_index(is_there, Words::Module(ModuleWords::Tag), index, offset)
         }
         ExternalKind::Global => check_global(resources, index, settings, offset),
     }

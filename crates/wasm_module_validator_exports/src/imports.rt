@@ -16,7 +16,7 @@ use wasm_module_validator_checks::externs::{
     check_tag_type, func_type_at, function_of, require,
 };
 use wasm_sections_items::imports::TypeRef;
-use wasm_types::{GlobalType, Result, TagType, WasmFeatures};
+use wasm_types::{GlobalType, ModuleWords, Result, TagType, WasmFeatures, Words};
 
 // Whether a function type stands at an index: nearly always, so no error is thought of here.
 #[inline]
@@ -74,7 +74,7 @@ fn check_exact_function<R: WasmModuleResources>(
     require(
         settings.features().custom_descriptors(),
         WasmFeatures::CUSTOM_DESCRIPTORS,
-        "custom descriptors required for exact function imports",
+        Words::Module(ModuleWords::CustomDescriptorsRequiredForExactFunctionImports),
         offset,
     )?;
     func_type_at(resources, type_index, offset)?;
@@ -106,7 +106,7 @@ fn check_global<R: WasmModuleResources>(
     require(
         !ty.mutable || settings.features().mutable_global(),
         WasmFeatures::MUTABLE_GLOBAL,
-        "mutable global support is not enabled",
+        Words::Module(ModuleWords::MutableGlobalSupportIsNotEnabled),
         offset,
     )
 }

@@ -10,7 +10,7 @@ ghost use Rattle.wasm_module_validator_exports.specs.Sizes.{IsAllBelow, IsSumBel
 
 use wasm_module_validator_checks::externs::{Settings, WasmModuleResources, function_of};
 use wasm_sections_items::imports::{ExternalKind, TypeRef};
-use wasm_types::{Error, FuncType, Result};
+use wasm_types::{Error, FuncType, ModuleWords, Result, Text, Words};
 
 // The refusal of a sum that is not below the limit.
 #[cold]
@@ -19,8 +19,12 @@ fn too_large(limit: u32, offset: u64) -> Error
     ensures kind { result.kind ≡ Other }
     ensures at { result.offset ≡ offset }
 {
-    Error::fmt(
-        format_args!("effective type size exceeds the limit of {limit}"),
+    Error::with(
+        Text::Number(
+            Words::Module(ModuleWords::EffectiveTypeSizeExceedsTheLimitOf),
+            limit,
+            Words::Nothing,
+        ),
         offset,
     )
 }

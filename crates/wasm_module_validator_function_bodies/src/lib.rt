@@ -3,8 +3,7 @@
 //! A [`FuncToValidate`] says which function is to be judged, and [`FuncToValidate::into_validator`] makes its [`FuncValidator`]:
 //! [`FuncValidator::validate`] judges a whole [`FunctionBody`]. It is Ok exactly if the bytes spell a valid function of the type,
 //! read by the validator's own features and limits, out of memory aside. Or its parts are called one by one, locals first, then operators.
-//! A [`BodyJudge`] judges one body after the other in one memory, and does not say why one is refused. A [`PlainJudge`] of one module does so
-//! faster, in one loop, and leaves more bodies open. [`judge_function`] tries them in turn.
+//! A [`PlainJudge`] of one module judges most valid bodies faster, in one loop, and leaves others open. [`judge_function`] tries it first.
 //!
 //! ```text
 //! let allocs = FuncValidatorAllocations::new(alloc);
@@ -24,7 +23,6 @@ mod beginning;
 pub mod code;
 mod heights;
 mod held;
-mod judging;
 pub mod laws;
 mod locals;
 mod operators;
@@ -34,7 +32,6 @@ mod visiting;
 mod ways;
 
 pub use beginning::{FuncToValidate, FuncValidatorAllocations};
-pub use judging::BodyJudge;
 pub use plain::{PlainJudge, entries_for};
 pub use validator::FuncValidator;
 pub use wasm_operator_validator_driver::{

@@ -15,7 +15,7 @@ use crate::FuncValidator;
 use std::alloc::Global;
 use wasm_operator_validator_driver::WasmModuleResources;
 use wasm_operator_validator_locals::too_many_locals;
-use wasm_types::{BinaryReader, Error, Result, ValType};
+use wasm_types::{BinaryReader, Error, ModuleWords, Result, ValType, Words};
 
 impl<R: WasmModuleResources> FuncValidator<R> {
     /// Reads the locals at the front of a body, and puts them behind those that there are. The reader stands behind them then, where
@@ -169,5 +169,8 @@ fn failed_before(offset: u64) -> Error
     ensures kind { result.kind ≡ Failed }
     ensures offset { result.offset ≡ offset }
 {
-    Error::failed("the function was refused before", offset)
+    Error::failed(
+        Words::Module(ModuleWords::TheFunctionWasRefusedBefore),
+        offset,
+    )
 }

@@ -17,17 +17,20 @@ use wasm_types::{Limits, WasmFeatures};
 use wasm_types_decoding::short_u32_at;
 
 /// Judges bodies of one module in one loop over codes of operands, and says of each no more than that it is valid, or nothing. It keeps
-/// tables of the module, made once, and says nothing of a body that uses what they do not tell: then a [`BodyJudge`](crate::BodyJudge) may.
+/// tables of the module, made once, and says nothing of a body that uses what they do not tell: then a [`FuncValidator`](crate::FuncValidator) does.
 #[derive(Drop)]
 pub struct PlainJudge {
     pub(crate) tables: Tables,
     room: Room,
     pub(crate) usable: bool,
+    // Whether a growth was refused while the tables were made, and whether one was then or while the last body was judged.
+    lacks_tables: bool,
+    lacks: bool,
 }
 
 impl PlainJudge {
     /// One for a module, as far as so many entries of each of its tables tell. It says nothing of any body if a feature that the loop asks is
-    /// off, or there is no memory.
+    /// off, or a growth was refused: then [`PlainJudge::lacks_memory`] tells that of each body.
     pub fn new<R: WasmModuleResources>(
         alloc: Global,
         resources: &R,
@@ -36,12 +39,15 @@ impl PlainJudge {
     ) -> PlainJudge
         ensures { IsJudgeOf (R.meaning resources.now).«module» features.0 result }
     {
+        let mut lacks = false;
         if allows(features) {
-            if let Some(known) = known_of(alloc, resources, most) {
+            if let Some(known) = known_of(alloc, resources, most, &mut lacks) {
                 return PlainJudge {
                     tables: first_tables(alloc, known, features),
                     room: Room::new(alloc),
-                    usable: true,
+                    usable: !lacks,
+                    lacks_tables: lacks,
+                    lacks,
                 };
             }
         }
@@ -49,12 +55,13 @@ impl PlainJudge {
             tables: first_tables(alloc, nothing_known(alloc), features),
             room: Room::new(alloc),
             usable: false,
+            lacks_tables: lacks,
+            lacks,
         }
     }
 
     /// Whether the bytes of a body spell a valid function of the type at an index of the module's types, by these features and limits. It may
-    /// say no of a valid one too: then [`BodyJudge::accepts`](crate::BodyJudge::accepts) may tell, or
-    /// [`FuncValidator::validate`](crate::FuncValidator::validate).
+    /// say no of a valid one too: then [`FuncValidator::validate`](crate::FuncValidator::validate) tells.
     pub fn accepts<R: WasmModuleResources>(
         &mut self,
         resources: &R,
@@ -68,6 +75,7 @@ impl PlainJudge {
             → SpellsValidFunction (judged_by features.0 limits) (R.meaning resources.now).«module» ty body.now.rest }
         ensures stays { IsJudgeOf (R.meaning resources.now).«module» features.0 self.new }
     {
+        self.lacks = self.lacks_tables;
         let Some(sub_type) = resources.sub_type_at(ty) else {
             return false;
         };
@@ -79,10 +87,17 @@ impl PlainJudge {
         {
             return false;
         }
-        let Some(start) = begin(&mut self.tables, ty, bytes, limits) else {
+        let Some(start) = begin(&mut self.tables, ty, bytes, limits, &mut self.lacks) else {
             return false;
         };
-        self.room.accepts(&self.tables, bytes, start)
+        let valid = self.room.accepts(&self.tables, bytes, start);
+        self.lacks = self.room.lacks_memory();
+        valid
+    }
+
+    /// Whether a growth was refused while the tables were made or the last body was judged. Then it tells nothing of the body.
+    pub fn lacks_memory(&self) -> bool {
+        self.lacks
     }
 }
 
@@ -187,7 +202,13 @@ fn allows_lists(limits: Limits) -> bool
 
 // Makes the tables those of a body of the type at an index, and gives the offset behind its locals. It does not where there are many more
 // locals behind the parameters than bytes: so what a body takes is as long as its bytes and its parameters.
-fn begin(tables: &mut Tables, ty: u32, bytes: &[u8], limits: Limits) -> Option<usize>
+fn begin(
+    tables: &mut Tables,
+    ty: u32,
+    bytes: &[u8],
+    limits: Limits,
+    lacks: &mut bool,
+) -> Option<usize>
     ensures begun { IfSome result (Begins tables.old tables.new ty bytes.now limits.locals) }
     ensures same { AreOfSame tables.old tables.new }
 {
@@ -204,9 +225,10 @@ fn begin(tables: &mut Tables, ty: u32, bytes: &[u8], limits: Limits) -> Option<u
     let most = bytes.len().saturating_add(64).saturating_add(given);
     tables.locals.clear();
     let Ok(()) = tables.locals.extend_from_slice(params) else {
+        *lacks = true;
         return None;
     };
-    let Some(start) = take_locals(tables, bytes, most) else {
+    let Some(start) = take_locals(tables, bytes, most, lacks) else {
         return None;
     };
     if tables.locals.as_slice().len() > limits.locals as usize {
@@ -219,7 +241,7 @@ fn begin(tables: &mut Tables, ty: u32, bytes: &[u8], limits: Limits) -> Option<u
 
 // Puts the locals at the front of a body behind those that there are, as codes, and gives the offset behind them, where there are no more
 // than so many then.
-fn take_locals(tables: &mut Tables, bytes: &[u8], most: usize) -> Option<usize>
+fn take_locals(tables: &mut Tables, bytes: &[u8], most: usize, lacks: &mut bool) -> Option<usize>
     ensures taken { IfSome result (TakesAll tables.old bytes.now tables.old.locals.items tables.new.locals.items) }
     ensures same { AreOfSame tables.old tables.new }
 {
@@ -228,7 +250,7 @@ fn take_locals(tables: &mut Tables, bytes: &[u8], most: usize) -> Option<usize>
     };
     let mut end = first;
     for _ in 0..count {
-        let Some(next) = take_group(tables, bytes, end, most) else {
+        let Some(next) = take_group(tables, bytes, end, most, lacks) else {
             return None;
         };
         end = next;
@@ -237,7 +259,13 @@ fn take_locals(tables: &mut Tables, bytes: &[u8], most: usize) -> Option<usize>
 }
 
 // Puts one group of locals behind those that there are.
-fn take_group(tables: &mut Tables, bytes: &[u8], at: usize, most: usize) -> Option<usize>
+fn take_group(
+    tables: &mut Tables,
+    bytes: &[u8],
+    at: usize,
+    most: usize,
+    lacks: &mut bool,
+) -> Option<usize>
     requires { at ≤ length bytes.now }
     ensures taken { IfSome result (TakesGroup tables.old bytes.now at tables.old.locals.items tables.new.locals.items) }
     ensures same { AreOfSame tables.old tables.new }
@@ -253,6 +281,7 @@ fn take_group(tables: &mut Tables, bytes: &[u8], at: usize, most: usize) -> Opti
         return None;
     }
     if !put_times(&mut tables.locals, count, code) {
+        *lacks = true;
         return None;
     }
     Some(end)
@@ -273,7 +302,7 @@ fn certain_of(locals: &[u32], params: usize) -> usize
     certain
 }
 
-// Puts so many of one code behind the others.
+// Puts so many of one code behind the others. False if there is no memory.
 fn put_times(locals: &mut Vec<u32>, count: u32, code: u32) -> bool
     ensures { result ≡ true → locals.new.items ≡ locals.old.items ++ replicate count code }
 {

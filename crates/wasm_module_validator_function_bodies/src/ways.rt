@@ -1,36 +1,34 @@
-//! The three ways in which a function's body is judged, one after the other.
+//! The two ways in which a function's body is judged, one after the other.
 //!
-//! The loop (`PlainJudge`) is the fastest, and leaves open what it does not know. The complete way without a reason (`BodyJudge`) knows every
-//! operator, and says of a body no more than that it is valid. The complete way with a reason (`FuncValidator`) decides.
+//! The loop (`PlainJudge`) is fast, and leaves open what it does not know. The complete way (`FuncValidator`) decides.
 
-ghost use Rattle.std.specs.Prelude.{◌≡◌, true};
+ghost use Rattle.std.specs.Prelude.{◌≡◌};
 ghost use Rattle.wasm_types.specs.decoding.Denials.{Tells};
 ghost use Rattle.wasm_types.specs.settings.Limits.{IsWithinCeilings};
 ghost use Rattle.wasm_types.specs.settings.Settings.{Settings};
 ghost use Rattle.wasm_module_validator_section_order.specs.items.Bodies.{IsReadBy};
-ghost use Rattle.wasm_module_validator_function_bodies.specs.Locals.{judged_by};
-ghost use Rattle.wasm_module_validator_function_bodies.specs.Functions.{SpellsValidFunction};
 ghost use Rattle.wasm_module_validator_function_bodies.specs.Plain.{IsJudgeOf};
 ghost use Rattle.wasm_module_validator_function_bodies.specs.code.Code.{IsFunctionOf};
 
 use crate::plain::PlainJudge;
-use crate::{
-    BodyJudge, FuncToValidate, FuncValidatorAllocations, FunctionBody, WasmModuleResources,
-};
+use crate::{FuncToValidate, FuncValidatorAllocations, FunctionBody, WasmModuleResources};
 use std::alloc::Global;
-use wasm_types::Result;
+use std::mem::replace;
+use wasm_types::{Error, Result};
 
-/// Judges the body of a function, which is usually valid: first in the loop, then completely without a reason, and if neither accepts it by a
-/// validator of its own, which says why it is refused. The loop's tables are those of the function's module.
+/// Judges the body of a function, which is usually valid: first in the loop, and if that does not accept it by a validator of its own, which
+/// says why it is refused. The loop's tables are those of the function's module. If the loop was refused memory, that is the answer, at the
+/// offset of the body's locals.
 ///
 /// # Errors
 ///
 /// The module has no function type at the function's index, or the body spells no valid function of it, by the function's features and
 /// limits; or there is no memory.
+#[inline(always)]
 pub fn judge_function<R: WasmModuleResources + Drop>(
     alloc: Global,
     in_loop: &mut PlainJudge,
-    complete: &mut BodyJudge,
+    complete: &mut FuncValidatorAllocations,
     function: FuncToValidate<R>,
     body: &FunctionBody<'_>,
 ) -> Result<()>
@@ -40,37 +38,28 @@ pub fn judge_function<R: WasmModuleResources + Drop>(
         → Tells result (IsFunctionOf z (R.meaning function.resources).«module» function.ty body.now.rest) }
     ensures stays { IsJudgeOf (R.meaning function.resources).«module» function.features.0 in_loop.new }
 {
-    if accepts(in_loop, complete, &function, body) {
-        return Ok(());
-    }
-    judge_with_reason(alloc, function, body)
-}
-
-/// Whether one of the two ways without a reason says that a body is valid.
-fn accepts<R: WasmModuleResources>(
-    in_loop: &mut PlainJudge,
-    complete: &mut BodyJudge,
-    function: &FuncToValidate<R>,
-    body: &FunctionBody<'_>,
-) -> bool
-    requires within { IsWithinCeilings function.now.limits }
-    requires tables { IsJudgeOf (R.meaning function.now.resources).«module» function.now.features.0 in_loop.old }
-    ensures valid { result ≡ true → SpellsValidFunction (judged_by function.now.features.0 function.now.limits)
-        (R.meaning function.now.resources).«module» function.now.ty body.now.rest }
-    ensures stays { IsJudgeOf (R.meaning function.now.resources).«module» function.now.features.0 in_loop.new }
-{
     let (features, limits) = (function.features, function.limits);
     if in_loop.accepts(&function.resources, function.ty, features, limits, body) {
-        return true;
+        return Ok(());
     }
-    complete.accepts(&function.resources, function.ty, features, limits, body)
+    if in_loop.lacks_memory() {
+        return Err(Error::out_of_memory(locals_of(body)));
+    }
+    judge_with_reason(alloc, complete, function, body)
 }
 
-/// Judges a body completely, by a validator of its own. That its function has more parameters than locals are allowed is told at the offset of the
-/// body's locals.
+/// The offset of a body's locals.
+#[inline(never)]
+fn locals_of(body: &FunctionBody<'_>) -> u64 {
+    body.get_binary_reader().original_position()
+}
+
+/// Judges a body completely, by a validator of its own, in memory that the next uses again. That its function has more parameters than locals are
+/// allowed is told at the offset of the body's locals.
 #[inline(never)]
 fn judge_with_reason<R: WasmModuleResources + Drop>(
     alloc: Global,
+    memory: &mut FuncValidatorAllocations,
     function: FuncToValidate<R>,
     body: &FunctionBody<'_>,
 ) -> Result<()>
@@ -78,11 +67,13 @@ fn judge_with_reason<R: WasmModuleResources + Drop>(
     ensures { (z : Settings) → z.limits ≡ function.limits → IsReadBy z function.features.0 body.now
         → Tells result (IsFunctionOf z (R.meaning function.resources).«module» function.ty body.now.rest) }
 {
-    let locals = body.get_binary_reader().original_position();
-    let allocs = FuncValidatorAllocations::new(alloc);
+    let locals = locals_of(body);
+    let allocs = replace(memory, FuncValidatorAllocations::new(alloc));
     let mut validator = match function.begin_at(locals, allocs) {
         Ok(validator) => validator,
         Err(error) => return Err(error),
     };
-    validator.validate(body)
+    let judged = validator.validate(body);
+    *memory = validator.into_allocations();
+    judged
 }

@@ -4,7 +4,7 @@ use Rattle.wasm_types.specs.settings.Settings.{Settings}
 use Rattle.wasm_sections_items.specs.declared.imports.kind.ExternalKind.{ExternalKind}
 use Rattle.wasm_sections_items.specs.declared.imports.kind.ExternalKind.TheVariants as kind
 use Rattle.wasm_sections_items.specs.declared.imports.type_ref.TypeRef.{TypeRef}
-use Rattle.wasm_sections_items.specs.imports.Spells.{ImportTree, ExportTree, SpelledKind, SpelledTypeRef, SpelledImport, SpelledExport, kind_of}
+use Rattle.wasm_sections_items.specs.imports.Spells.{ImportTree, ExportTree, SpelledExportKind, SpelledTypeRef, SpelledImport, SpelledExport, kind_of}
 use Rattle.wasm_module_validator_import_export_places.specs.declared.rows.ImportRow.{ImportRow}
 use Rattle.wasm_module_validator_import_export_places.specs.declared.rows.ExportRow.{ExportRow}
 
@@ -87,7 +87,7 @@ abbrev pub IsKindOf : ℕ → TypeRef → Type 0
 IsKindOf n t = n ≡ kind_number (kind_of t)
 
 abbrev pub IsExportKind : Settings → ExternalKind → List ℕ → Type 0
-IsExportKind z k text = SpelledKind k text
+IsExportKind z k text = SpelledExportKind k text
 
 abbrev pub IsKindNumber : ℕ → ExternalKind → Type 0
 IsKindNumber n k = n ≡ kind_number k

@@ -14,14 +14,16 @@ use crate::{Function, Module};
 use wasm_module_validator_canonical_types::InternRecGroup;
 use wasm_module_validator_checks::limits::too_many;
 use wasm_module_validator_type_list::TypeList;
-use wasm_types::{GlobalType, MemoryType, RecGroup, RefType, Result, TableType};
+use wasm_types::{
+    GlobalType, MemoryType, ModuleWords, RecGroup, RefType, Result, TableType, Words,
+};
 
 // One thing more, where there are fewer than this many.
 fn push_within<X: Copy>(
     items: &mut Vec<X>,
     item: X,
     most: u32,
-    name: &str,
+    name: Words,
     offset: u64,
 ) -> Result<()>
     ensures answer { Tells result (length items.old.items < most) }
@@ -97,7 +99,13 @@ impl Module {
             is_exact: true,
             is_referenced: false,
         };
-        push_within(&mut self.functions, function, most, "functions", offset)
+        push_within(
+            &mut self.functions,
+            function,
+            most,
+            Words::Module(ModuleWords::Functions),
+            offset,
+        )
     }
 
     /// Adds a function that is imported, exactly or not, by the index of its type.
@@ -122,7 +130,13 @@ impl Module {
             is_exact,
             is_referenced: false,
         };
-        push_within(&mut self.functions, function, most, "functions", offset)?;
+        push_within(
+            &mut self.functions,
+            function,
+            most,
+            Words::Module(ModuleWords::Functions),
+            offset,
+        )?;
         self.imported_functions += 1;
         Ok(())
     }
@@ -139,7 +153,13 @@ impl Module {
         ensures stays { OnErr result (self.new ≡ self.old) }
         ensures at { RefusedAt offset result }
     {
-        push_within(&mut self.tables, ty, most, "tables", offset)
+        push_within(
+            &mut self.tables,
+            ty,
+            most,
+            Words::Module(ModuleWords::Tables),
+            offset,
+        )
     }
 
     /// Adds a memory, where there are fewer than so many (`Settings::max_memories` of `wasm_module_validator_checks`).
@@ -153,7 +173,13 @@ impl Module {
         ensures stays { OnErr result (self.new ≡ self.old) }
         ensures at { RefusedAt offset result }
     {
-        push_within(&mut self.memories, ty, most, "memories", offset)
+        push_within(
+            &mut self.memories,
+            ty,
+            most,
+            Words::Module(ModuleWords::Memories),
+            offset,
+        )
     }
 
     /// Adds a global that the module has itself, its type over ids.
@@ -168,7 +194,13 @@ impl Module {
         ensures at { RefusedAt offset result }
     {
         let most = self.types.limits().globals;
-        push_within(&mut self.globals, ty, most, "globals", offset)
+        push_within(
+            &mut self.globals,
+            ty,
+            most,
+            Words::Module(ModuleWords::Globals),
+            offset,
+        )
     }
 
     /// Adds a global that is imported, its type over ids.
@@ -184,7 +216,13 @@ impl Module {
         ensures at { RefusedAt offset result }
     {
         let most = self.types.limits().globals;
-        push_within(&mut self.globals, ty, most, "globals", offset)?;
+        push_within(
+            &mut self.globals,
+            ty,
+            most,
+            Words::Module(ModuleWords::Globals),
+            offset,
+        )?;
         self.imported_globals += 1;
         Ok(())
     }
@@ -204,7 +242,13 @@ impl Module {
     {
         let most = self.types.limits().tags;
         let id = self.types.type_ids()[type_index as usize];
-        push_within(&mut self.tags, id, most, "tags", offset)
+        push_within(
+            &mut self.tags,
+            id,
+            most,
+            Words::Module(ModuleWords::Tags),
+            offset,
+        )
     }
 
     /// Adds an element segment, by the type of its elements over ids.
@@ -223,7 +267,7 @@ impl Module {
             &mut self.element_types,
             ty,
             most,
-            "element segments",
+            Words::Module(ModuleWords::ElementSegments),
             offset,
         )
     }

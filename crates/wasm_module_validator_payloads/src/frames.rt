@@ -17,15 +17,19 @@ use wasm_module_validator_section_order::items::add_items;
 use wasm_module_validator_state::invariant::ModuleState;
 use wasm_operators_bodies::FunctionBody;
 use wasm_sections_items::limited::SectionLimited;
-use wasm_types::{Error, Result};
+use wasm_types::{Error, ModuleWords, Result, Text, Words};
 
 // The refusal of a body of more bytes than the limit.
 #[cold]
 fn long_body(most: u32, offset: u64) -> Error
     ensures { (result.kind ≡ Other) × (result.offset ≡ offset) }
 {
-    Error::fmt(
-        format_args!("function body size count exceeds limit of {most}"),
+    Error::with(
+        Text::Number(
+            Words::Module(ModuleWords::FunctionBodySizeCountExceedsLimitOf),
+            most,
+            Words::Nothing,
+        ),
         offset,
     )
 }
@@ -35,7 +39,10 @@ fn long_body(most: u32, offset: u64) -> Error
 fn too_many_bodies(offset: u64) -> Error
     ensures { (result.kind ≡ Other) × (result.offset ≡ offset) }
 {
-    Error::new("code section entry exceeds number of functions", offset)
+    Error::new(
+        Words::Module(ModuleWords::CodeSectionEntryExceedsNumberOfFunctions),
+        offset,
+    )
 }
 
 /// The index of the function that the body behind so many others is of, and that of its type.
@@ -74,7 +81,10 @@ pub(crate) fn check_body_behind(
     let reader = body.get_binary_reader();
     let offset = reader.original_position();
     if last != 12 {
-        return Err(Error::new("code section entry out of order", offset));
+        return Err(Error::new(
+            Words::Module(ModuleWords::CodeSectionEntryOutOfOrder),
+            offset,
+        ));
     }
     let most = state.settings().limits().body_bytes;
     if reader.bytes_remaining() > most as usize {
@@ -93,7 +103,7 @@ impl InProgress {
         let last = self.last;
         self.last = place;
         if place <= last {
-            return Err(Error::new("section out of order", offset));
+            return Err(Error::new(Words::SectionOutOfOrder, offset));
         }
         Ok(())
     }

@@ -15,7 +15,7 @@ use wasm_module_validator_declarations::{add_import_item, add_short_import};
 use wasm_module_validator_section_order::items::{AddLent, add_lent_items};
 use wasm_sections::ImportSectionReader;
 use wasm_sections_items::imports::Import;
-use wasm_types::{Limits, Result};
+use wasm_types::{Error, Limits, Result};
 
 impl<'a> AddLent<'a, Import<'a>> for Collected {
     ghost use Rattle.wasm_module_validator_section_order.specs.rules_in_order.Sections as section;
@@ -42,6 +42,9 @@ impl<'a> AddLent<'a, Import<'a>> for Collected {
     ghost grows = { λ k l. Grows k l };
 
     fn add_lent(&mut self, item: &Import<'a>, offset: u64) -> Result<()> {
+        if self.state.lacks_memory() {
+            return Err(Error::out_of_memory(offset));
+        }
         add_import_item(&mut self.state, &self.types, item, offset)
     }
 

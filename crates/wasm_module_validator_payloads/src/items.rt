@@ -23,7 +23,7 @@ use std::alloc::Global;
 use wasm_module_validator_section_order::items::AddItem;
 use wasm_module_validator_state::invariant::ModuleState;
 use wasm_module_validator_type_list::TypeList;
-use wasm_types::{FromReader, Limits, Result};
+use wasm_types::{Error, FromReader, Limits, Result};
 
 /// An item of a section: what is asked where the section begins, and how an item is added.
 pub trait SectionItem<'a>: FromReader<'a> {
@@ -147,6 +147,9 @@ impl<'a, T: SectionItem<'a>> AddItem<'a, T> for Collected {
     ghost full = { λ k x e. FullIn T.section k.groups k.items x e };
 
     fn add(&mut self, item: T, offset: u64) -> Result<()> {
+        if self.state.lacks_memory() {
+            return Err(Error::out_of_memory(offset));
+        }
         add_or_forget(
             item,
             self.alloc,

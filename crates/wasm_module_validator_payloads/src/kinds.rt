@@ -37,7 +37,9 @@ use wasm_operators_bodies::ConstExpr;
 use wasm_sections_items::elements::ElementOf;
 use wasm_sections_items::imports::Export;
 use wasm_sections_items::segments::{DataOf, GlobalOf, TableOf};
-use wasm_types::{Error, Limits, MemoryType, RecGroup, Result, TagType, WasmFeatures};
+use wasm_types::{
+    Error, Limits, MemoryType, ModuleWords, RecGroup, Result, TagType, WasmFeatures, Words,
+};
 
 impl<'a> SectionItem<'a> for RecGroup {
     ghost use Rattle.wasm_module_validator_section_order.specs.rules_in_order.Sections as section;
@@ -274,7 +276,7 @@ impl<'a> SectionItem<'a> for TagType {
         if !state.settings().features().exceptions() {
             return Err(Error::missing_feature(
                 WasmFeatures::EXCEPTIONS,
-                "exceptions proposal not enabled",
+                Words::Module(ModuleWords::ExceptionsProposalNotEnabled),
                 offset,
             ));
         }

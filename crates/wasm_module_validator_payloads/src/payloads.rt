@@ -19,7 +19,7 @@ use crate::{Body, InProgress};
 use wasm_module_validator_declarations::{take_data_count, take_start};
 use wasm_sections::Payload;
 use wasm_sections_parser::Encoding;
-use wasm_types::{Error, Result, WasmFeatures};
+use wasm_types::{Error, ModuleWords, Result, Text, WasmFeatures, Words};
 
 /// Refuses what is no module of the version that there is.
 ///
@@ -53,13 +53,15 @@ fn component(features: &WasmFeatures, offset: u64) -> Error
 {
     if features.component_model() {
         return Error::new(
-            "component model validation support disabled at compile time",
+            Words::Module(ModuleWords::ComponentModelValidationSupportDisabledAtCompileTime),
             offset,
         );
     }
     Error::missing_feature(
         WasmFeatures::COMPONENT_MODEL,
-        "encoded as a component but the WebAssembly component model feature is not enabled",
+        Words::Module(
+            ModuleWords::EncodedAsAComponentButTheWebAssemblyComponentModelFeatureIsNotEnabled,
+        ),
         offset,
     )
 }
@@ -69,7 +71,14 @@ fn component(features: &WasmFeatures, offset: u64) -> Error
 fn unknown_version(num: u16, offset: u64) -> Error
     ensures { IsNotMemory result.kind × (result.offset ≡ offset) }
 {
-    Error::fmt(format_args!("unknown binary version: {num:#x}"), offset)
+    Error::with(
+        Text::Hex(
+            Words::Module(ModuleWords::UnknownBinaryVersion0x),
+            num as u32,
+            Words::Nothing,
+        ),
+        offset,
+    )
 }
 
 // The refusal of a section of another id.
@@ -77,7 +86,14 @@ fn unknown_version(num: u16, offset: u64) -> Error
 fn unknown_section(id: u8, offset: u64) -> Error
     ensures { IsNotMemory result.kind × (result.offset ≡ offset) }
 {
-    Error::fmt(format_args!("malformed section id: {id}"), offset)
+    Error::with(
+        Text::Number(
+            Words::Module(ModuleWords::MalformedSectionId),
+            id as u32,
+            Words::Nothing,
+        ),
+        offset,
+    )
 }
 
 impl InProgress {

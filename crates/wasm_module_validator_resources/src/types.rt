@@ -19,7 +19,8 @@ use crate::named::{Named, Shape};
 use crate::resources::OperatorValidatorResources;
 use wasm_module_validator_type_list::TypeList;
 use wasm_types::{
-    AbstractHeapType, CompositeInnerType, CoreTypeId, Error, Result, SubType, UnpackedIndex,
+    AbstractHeapType, CompositeInnerType, CoreTypeId, Error, ModuleWords, Result, SubType, Text,
+    UnpackedIndex, Words,
 };
 
 // The refusal of an index that is none of a module.
@@ -28,7 +29,10 @@ fn foreign_index(offset: u64) -> Error
     ensures kind { result.kind ≡ Other }
     ensures at { result.offset ≡ offset }
 {
-    Error::new("a module writes indices of its own types alone", offset)
+    Error::new(
+        Words::Module(ModuleWords::AModuleWritesIndicesOfItsOwnTypesAlone),
+        offset,
+    )
 }
 
 // The abstract type of a constructor.
@@ -97,8 +101,8 @@ impl<'a> OperatorValidatorResources<'a> {
         let _count = self.types.type_count();
         match self.module.type_id(number) {
             Some(id) => Ok(id),
-            None => Err(Error::fmt(
-                format_args!("unknown type {number}: type index out of bounds"),
+            None => Err(Error::with(
+                Text::Number(Words::UnknownType, number, Words::TypeIndexOutOfBounds),
                 offset,
             )),
         }

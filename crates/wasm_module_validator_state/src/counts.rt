@@ -8,7 +8,7 @@ ghost use Rattle.wasm_module_validator_checks.specs.rules.Valid.{most_tables, mo
 
 use crate::ModuleState;
 use wasm_module_validator_checks::externs::{check_max, too_many};
-use wasm_types::Result;
+use wasm_types::{ModuleWords, Result, Words};
 
 impl ModuleState {
     /// Refuses more groups of types than there is room for beside the types that are there.
@@ -21,7 +21,13 @@ impl ModuleState {
         ensures refused { IfErr result (λ e. (e.kind ≡ Other) × (e.offset ≡ offset)) }
     {
         let most = self.settings().limits().types;
-        check_max(self.module.type_ids().len(), count, most, "types", offset)
+        check_max(
+            self.module.type_ids().len(),
+            count,
+            most,
+            Words::Module(ModuleWords::Types),
+            offset,
+        )
     }
 
     /// Refuses more imports than the limit, beside so many that are there.
@@ -34,7 +40,13 @@ impl ModuleState {
         ensures refused { IfErr result (λ e. (e.kind ≡ Other) × (e.offset ≡ offset)) }
     {
         let most = self.settings().limits().imports;
-        check_max(imports, count, most, "imports", offset)
+        check_max(
+            imports,
+            count,
+            most,
+            Words::Module(ModuleWords::Imports),
+            offset,
+        )
     }
 
     /// Refuses more functions than the limit.
@@ -49,7 +61,13 @@ impl ModuleState {
     {
         let most = self.settings().limits().functions;
         let functions = self.module.function_count() as usize;
-        check_max(functions, count, most, "functions", offset)
+        check_max(
+            functions,
+            count,
+            most,
+            Words::Module(ModuleWords::Functions),
+            offset,
+        )
     }
 
     /// Refuses more tables than the limit, and more than one where the features ask for that.
@@ -64,7 +82,7 @@ impl ModuleState {
         let most = self.settings().max_tables();
         // A module tells what stands at an index: where something stands at the first that has to be free there are too many.
         if count > most || self.module.table_at(most - count).is_some() {
-            return Err(too_many(most, "tables", offset));
+            return Err(too_many(most, Words::Module(ModuleWords::Tables), offset));
         }
         Ok(())
     }
@@ -81,7 +99,7 @@ impl ModuleState {
     {
         let most = self.settings().max_memories();
         if count > most || self.module.memory_at(most - count).is_some() {
-            return Err(too_many(most, "memories", offset));
+            return Err(too_many(most, Words::Module(ModuleWords::Memories), offset));
         }
         Ok(())
     }
@@ -97,7 +115,7 @@ impl ModuleState {
     {
         let most = self.settings().limits().tags;
         if count > most || self.module.tag_at(most - count).is_some() {
-            return Err(too_many(most, "tags", offset));
+            return Err(too_many(most, Words::Module(ModuleWords::Tags), offset));
         }
         Ok(())
     }
@@ -114,7 +132,7 @@ impl ModuleState {
     {
         let most = self.settings().limits().globals;
         if count > most || self.module.global_at(most - count).is_some() {
-            return Err(too_many(most, "globals", offset));
+            return Err(too_many(most, Words::Module(ModuleWords::Globals), offset));
         }
         Ok(())
     }
@@ -130,7 +148,13 @@ impl ModuleState {
     {
         let most = self.settings().limits().exports;
         let exports = self.exports.len();
-        check_max(exports, count, most, "exports", offset)
+        check_max(
+            exports,
+            count,
+            most,
+            Words::Module(ModuleWords::Exports),
+            offset,
+        )
     }
 
     /// Refuses more element segments than the limit.
@@ -145,7 +169,13 @@ impl ModuleState {
     {
         let most = self.settings().limits().element_segments;
         let segments = self.module.element_count() as usize;
-        check_max(segments, count, most, "element segments", offset)
+        check_max(
+            segments,
+            count,
+            most,
+            Words::Module(ModuleWords::ElementSegments),
+            offset,
+        )
     }
 
     /// Refuses more data segments than the limit.
@@ -158,6 +188,12 @@ impl ModuleState {
         ensures refused { IfErr result (λ e. (e.kind ≡ Other) × (e.offset ≡ offset)) }
     {
         let most = self.settings().limits().data_segments;
-        check_max(0, count, most, "data segments", offset)
+        check_max(
+            0,
+            count,
+            most,
+            Words::Module(ModuleWords::DataSegments),
+            offset,
+        )
     }
 }

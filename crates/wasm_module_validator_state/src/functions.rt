@@ -55,6 +55,7 @@ impl ModuleState {
             .module
             .import_function_named(imports, module, name, type_index)
         else {
+            self.lacks = self.module.function_count() < self.module.limits().functions;
             return None;
         };
         self.type_size = type_size;
@@ -89,7 +90,10 @@ impl ModuleState {
         match self.exports.add(name, ExternalKind::Func, index) {
             Tried::Added => (),
             Tried::Taken => return None,
-            Tried::NoMemory => return None,
+            Tried::NoMemory => {
+                self.lacks = true;
+                return None;
+            }
         }
         self.module.refer_to_function(index);
         self.type_size = type_size;

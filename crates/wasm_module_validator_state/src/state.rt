@@ -13,7 +13,7 @@ use wasm_module_validator_exports::{Exports, Imports};
 use wasm_module_validator_resources::{Module, OperatorValidatorResources};
 use wasm_module_validator_type_list::TypeList;
 use wasm_operator_validator_stacks::OperatorValidatorAllocations;
-use wasm_types::{Limits, WasmFeatures};
+use wasm_types::{Error, ErrorKind, Limits, WasmFeatures};
 
 /// A module whose items are checked and added one by one. A contract sees what was added (`specs/Items.antt`).
 #[derive(Drop)]
@@ -27,6 +27,8 @@ pub struct ModuleState {
     pub(crate) code_section_index: Option<u32>,
     // The memory of constants that were checked, for those to come.
     pub(crate) const_expr_allocs: OperatorValidatorAllocations,
+    // Whether memory was refused to an item that its bytes alone tell.
+    pub(crate) lacks: bool,
 }
 
 impl Model for ModuleState {
@@ -55,7 +57,30 @@ impl ModuleState {
             type_size: 1,
             code_section_index: None,
             const_expr_allocs: OperatorValidatorAllocations::new(alloc),
+            lacks: false,
         }
+    }
+
+    /// Notes that an item which its bytes alone tell was refused by this error, if that was for want of memory. No contract sees it.
+    #[cold]
+    pub fn note(&mut self, error: &Error)
+        ensures { self.new ≡ self.old }
+    {
+        if error.kind() == ErrorKind::OutOfMemory {
+            self.lacks = true;
+        }
+    }
+
+    /// Notes that memory was refused while such an item was judged, if so.
+    pub fn note_lack(&mut self, lacks: bool)
+        ensures { self.new ≡ self.old }
+    {
+        self.lacks = self.lacks || lacks;
+    }
+
+    /// Whether either was noted: then the item is refused for want of memory when it is read again.
+    pub fn lacks_memory(&self) -> bool {
+        self.lacks
     }
 
     /// The module as far as it was read.

@@ -10,7 +10,8 @@ ghost use Rattle.wasm_module_validator_streaming.specs.Judges.{IsJudgeKept};
 
 use std::alloc::Global;
 use wasm_module_validator_function_bodies::{
-    BodyJudge, FuncToValidate, FunctionBody, PlainJudge, WasmModuleResources, judge_function,
+    FuncToValidate, FuncValidatorAllocations, FunctionBody, PlainJudge, WasmModuleResources,
+    judge_function,
 };
 use wasm_types::Result;
 
@@ -20,11 +21,12 @@ use wasm_types::Result;
 /// # Errors
 ///
 /// Those of [`judge_function`].
+#[inline(always)]
 pub(crate) fn judge_next<R: WasmModuleResources + Drop>(
     alloc: Global,
     in_loop: &mut Option<PlainJudge>,
     entries: u32,
-    complete: &mut BodyJudge,
+    complete: &mut FuncValidatorAllocations,
     function: FuncToValidate<R>,
     body: &FunctionBody<'_>,
 ) -> Result<()>
@@ -37,6 +39,24 @@ pub(crate) fn judge_next<R: WasmModuleResources + Drop>(
     if let Some(judge) = in_loop {
         return judge_function(alloc, judge, complete, function, body);
     }
+    judge_first(alloc, in_loop, entries, complete, function, body)
+}
+
+/// The same of the first body of a module.
+#[inline(never)]
+fn judge_first<R: WasmModuleResources + Drop>(
+    alloc: Global,
+    in_loop: &mut Option<PlainJudge>,
+    entries: u32,
+    complete: &mut FuncValidatorAllocations,
+    function: FuncToValidate<R>,
+    body: &FunctionBody<'_>,
+) -> Result<()>
+    requires within { IsWithinCeilings function.limits }
+    ensures told { (z : Settings) → z.limits ≡ function.limits → IsReadBy z function.features.0 body.now
+        → Tells result (IsFunctionOf z (R.meaning function.resources).«module» function.ty body.now.rest) }
+    ensures stays { IsJudgeKept (R.meaning function.resources).«module» function.features.0 in_loop.new }
+{
     let mut judge = PlainJudge::new(alloc, &function.resources, function.features, entries);
     let judged = judge_function(alloc, &mut judge, complete, function, body);
     *in_loop = Some(judge);

@@ -2,7 +2,7 @@
 
 ghost use Rattle.std.specs.Prelude.{◌≡◌, []};
 ghost use Rattle.wasm_types.specs.settings.Limits.{IsWithinCeilings};
-ghost use Rattle.wasm_sections.specs.declared.payload.Payload.TheVariants.{CodeSectionEntry};
+ghost use Rattle.wasm_sections.specs.declared.payload.Payload.TheVariants.{CodeSectionEntry, CustomSection};
 ghost use Rattle.wasm_module_validator.specs.declared.validator.State.TheVariants.{Unparsed};
 ghost use Rattle.wasm_module_validator_streaming.specs.laws.Running.{begins};
 ghost use Rattle.wasm_module_validator_streaming.specs.Judges.{HasItsJudge};
@@ -12,17 +12,19 @@ use crate::functions::judge_next;
 use crate::taking::Taken;
 use std::alloc::Global;
 use wasm_module_validator::{Types, ValidPayload, Validator};
-use wasm_module_validator_function_bodies::{BodyJudge, FunctionBody, PlainJudge, entries_for};
+use wasm_module_validator_function_bodies::{
+    FuncValidatorAllocations, FunctionBody, PlainJudge, entries_for,
+};
 use wasm_module_validator_index_spaces::view::ValidatorId;
-use wasm_sections::{Parser, Payload};
+use wasm_sections::{CustomSectionReader, Parser, Payload};
 use wasm_types::{Limits, WasmFeatures};
 
-/// A validator of one module, with the parser that gives its payloads and the judges of its bodies.
+/// A validator of one module, with the parser that gives its payloads and the judge of its bodies.
 #[derive(Drop)]
 pub(crate) struct Judging {
     pub(crate) validator: Validator,
     pub(crate) parser: Parser,
-    pub(crate) complete: BodyJudge,
+    pub(crate) complete: FuncValidatorAllocations,
     /// The judge that asks tables of the module, from its first body to its last.
     pub(crate) in_loop: Option<PlainJudge>,
     /// How many entries these tables may have, by the bodies and bytes of the code section, as the module says itself.
@@ -59,7 +61,7 @@ impl Judging {
         Judging {
             validator: Validator::new_with_limits(alloc, id, features, limits),
             parser,
-            complete: BodyJudge::new(alloc, features),
+            complete: FuncValidatorAllocations::new(alloc),
             in_loop: None,
             entries: 0,
             passing: 0,
@@ -102,6 +104,26 @@ impl Judging {
                 self.has_refused_body = true;
                 Taken::Refused(error)
             }
+        }
+    }
+
+    /// Takes a custom section of so many bytes: as `take_payload` does the payload that it is, but without one.
+    #[inline(always)]
+    pub(crate) fn take_custom(
+        &mut self,
+        consumed: usize,
+        section: CustomSectionReader<'_>,
+    ) -> Taken<Types>
+        requires { HasItsJudge self.old }
+        ensures steps { StepsPayload (CustomSection section.entry) consumed self.old.validator result self.new.validator }
+        ensures judge { HasItsJudge self.new }
+        ensures parser { self.new.parser ≡ self.old.parser }
+        ensures idle { self.new.passing ≡ self.old.passing }
+    {
+        self.in_loop = None;
+        match self.validator.custom_section(&section) {
+            Ok(()) => Taken::Item(consumed),
+            Err(error) => Taken::Refused(error),
         }
     }
 

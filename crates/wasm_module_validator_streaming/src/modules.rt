@@ -25,6 +25,9 @@ impl Judging {
         if let Some((body, consumed)) = self.parser.next_body(bytes) {
             return self.take_body(consumed, body);
         }
+        if let Some((section, consumed)) = self.parser.next_custom(bytes) {
+            return self.take_custom(consumed, section);
+        }
         self.take_other(bytes, eof)
     }
 

@@ -166,14 +166,5 @@ fn refused_again(error: &Error) -> Error
     ensures kind { result.kind ≡ error.now.kind }
     ensures offset { result.offset ≡ error.now.offset }
 {
-    let offset = error.offset();
-    match error.kind() {
-        ErrorKind::EndOfData { needed_hint } => Error::eof(offset, needed_hint),
-        ErrorKind::MissingFeature(feature) => {
-            Error::missing_feature(feature, error.message(), offset)
-        }
-        ErrorKind::OutOfMemory => Error::out_of_memory(offset),
-        ErrorKind::Failed => Error::failed(error.message(), offset),
-        ErrorKind::Other => Error::new(error.message(), offset),
-    }
+    error.again()
 }

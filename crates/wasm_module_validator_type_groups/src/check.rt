@@ -14,7 +14,7 @@ use crate::supertypes::{check_subtyping, check_supertype};
 use std::ops::Range;
 use wasm_module_validator_canonical_types::matches::stored_type;
 use wasm_module_validator_type_list::TypeList;
-use wasm_types::{CoreTypeId, Error, PackedIndex, Result, WasmFeatures};
+use wasm_types::{CoreTypeId, Error, ModuleWords, PackedIndex, Result, WasmFeatures, Words};
 
 // Whether a type has a descriptor, and its supertype none.
 fn lacks(types: &TypeList, own: Option<PackedIndex>, upper: Option<PackedIndex>) -> bool
@@ -52,21 +52,23 @@ fn check_below(
     let upper = &upper.composite_type;
     if lacks(types, own.descriptor_idx, upper.descriptor_idx) {
         return Err(Error::new(
-            "sub type with descriptor must have super type with descriptor",
+            Words::Module(ModuleWords::SubTypeWithDescriptorMustHaveSuperTypeWithDescriptor),
             offset,
         ));
     }
     check_joined(features, ty, offset)?;
     let descriptors = Along {
-        apart: "supertype of described type must be described by supertype of descriptor",
-        missing: "supertype of type without descriptor cannot have descriptor",
-        added: "sub type with descriptor must have super type with descriptor",
+        apart: Words::Module(
+            ModuleWords::SupertypeOfDescribedTypeMustBeDescribedBySupertypeOfDescriptor,
+        ),
+        missing: Words::Module(ModuleWords::SupertypeOfTypeWithoutDescriptorCannotHaveDescriptor),
+        added: Words::Module(ModuleWords::SubTypeWithDescriptorMustHaveSuperTypeWithDescriptor),
     };
     descriptors.check(types, own.descriptor_idx, upper.descriptor_idx, offset)?;
     let described = Along {
-        apart: "supertype of descriptor does not match",
-        missing: "supertype of non-descriptor type cannot be a descriptor",
-        added: "supertype of descriptor must be a descriptor",
+        apart: Words::Module(ModuleWords::SupertypeOfDescriptorDoesNotMatch),
+        missing: Words::Module(ModuleWords::SupertypeOfNonDescriptorTypeCannotBeADescriptor),
+        added: Words::Module(ModuleWords::SupertypeOfDescriptorMustBeADescriptor),
     };
     described.check(types, own.describes_idx, upper.describes_idx, offset)
 }

@@ -14,8 +14,8 @@ use crate::composites::require;
 use wasm_module_validator_canonical_types::matches::stored_type;
 use wasm_module_validator_type_list::TypeList;
 use wasm_types::{
-    CompositeInnerType, CoreTypeId, Error, PackedIndex, Result, SubType, UnpackedIndex,
-    WasmFeatures,
+    CompositeInnerType, CoreTypeId, Error, ModuleWords, PackedIndex, Result, SubType,
+    UnpackedIndex, WasmFeatures, Words,
 };
 
 /// Refuses a type that has a descriptor or describes a type, where the feature is missing or the type is no struct.
@@ -31,16 +31,24 @@ pub(crate) fn check_joined(features: WasmFeatures, ty: &SubType, offset: u64) ->
     require(
         features.custom_descriptors(),
         WasmFeatures::CUSTOM_DESCRIPTORS,
-        "custom descriptors proposal must be enabled to use descriptor and describes",
+        Words::Module(
+            ModuleWords::CustomDescriptorsProposalMustBeEnabledToUseDescriptorAndDescribes,
+        ),
         offset,
     )?;
     if let CompositeInnerType::Struct(_) = &ty.composite_type.inner {
         return Ok(());
     }
     if has_descriptor {
-        return Err(Error::new("descriptor clause on non-struct type", offset));
+        return Err(Error::new(
+            Words::Module(ModuleWords::DescriptorClauseOnNonStructType),
+            offset,
+        ));
     }
-    Err(Error::new("describes clause on non-struct type", offset))
+    Err(Error::new(
+        Words::Module(ModuleWords::DescribesClauseOnNonStructType),
+        offset,
+    ))
 }
 
 // The id that an index is.
@@ -79,13 +87,13 @@ fn names(found: Option<PackedIndex>, id: CoreTypeId) -> bool
 /// How the types differ that a type and its supertype are joined to: the first is not declared right below the second, or
 /// only one of the two is there.
 #[derive(Clone, Copy)]
-pub(crate) struct Along<'a> {
-    pub apart: &'a str,
-    pub missing: &'a str,
-    pub added: &'a str,
+pub(crate) struct Along {
+    pub apart: Words,
+    pub missing: Words,
+    pub added: Words,
 }
 
-impl<'a> Along<'a> {
+impl Along {
     /// Refuses types that are joined to a type and to its supertype and don't go along.
     pub(crate) fn check(
         &self,
@@ -136,7 +144,10 @@ fn check_described(
     };
     let described = stored_type(types, id_in(describes, types.type_count()));
     if !names(described.composite_type.descriptor_idx, id) {
-        return Err(Error::new("describes with no matching descriptor", offset));
+        return Err(Error::new(
+            Words::Module(ModuleWords::DescribesWithNoMatchingDescriptor),
+            offset,
+        ));
     }
     Ok(())
 }
@@ -163,12 +174,15 @@ pub(crate) fn check_joins(
     };
     let descriptor = stored_type(types, id_in(descriptor, types.type_count()));
     if !names(descriptor.composite_type.describes_idx, id) {
-        return Err(Error::new("descriptor with no matching describes", offset));
+        return Err(Error::new(
+            Words::Module(ModuleWords::DescriptorWithNoMatchingDescribes),
+            offset,
+        ));
     }
     check_described(types, id, describes, offset)?;
     if stored_type(types, id).is_final != descriptor.is_final {
         return Err(Error::new(
-            "descriptor and described type must have the same finality",
+            Words::Module(ModuleWords::DescriptorAndDescribedTypeMustHaveTheSameFinality),
             offset,
         ));
     }

@@ -13,7 +13,7 @@ ghost use Rattle.wasm_module_validator_type_groups.specs.ValidTypes.{IsSubtyping
 use crate::composites::require;
 use wasm_module_validator_canonical_types::matches::{stored_type, types_match};
 use wasm_module_validator_type_list::TypeList;
-use wasm_types::{CoreTypeId, Error, Result, SubType, WasmFeatures};
+use wasm_types::{CoreTypeId, Error, ModuleWords, Result, SubType, Text, WasmFeatures, Words};
 
 /// Refuses a type that is open or has a supertype, where garbage collection is not allowed.
 pub(crate) fn check_subtyping(features: WasmFeatures, ty: &SubType, offset: u64) -> Result<()>
@@ -24,7 +24,7 @@ pub(crate) fn check_subtyping(features: WasmFeatures, ty: &SubType, offset: u64)
     require(
         features.gc() || (ty.is_final && ty.supertype_idxs.as_slice().is_empty()),
         WasmFeatures::GC,
-        "gc proposal must be enabled to use subtypes",
+        Words::Module(ModuleWords::GcProposalMustBeEnabledToUseSubtypes),
         offset,
     )
 }
@@ -67,12 +67,7 @@ fn too_deep(most: u32, offset: u64) -> Error
     ensures offset { result.offset ≡ offset }
 {
     let depth = u64::from(most) + 1;
-    Error::fmt(
-        format_args!(
-            "sub type hierarchy too deep: found depth {depth}, cannot exceed depth {most}"
-        ),
-        offset,
-    )
+    Error::with(Text::TooDeep(depth, most), offset)
 }
 
 /// Refuses a supertype that is final, one that the type does not match, and one with too many types above it.
@@ -93,10 +88,16 @@ pub(crate) fn check_supertype(
     ensures memory { NeedsNoMemory result }
 {
     if stored_type(types, above).is_final {
-        return Err(Error::new("sub type cannot have a final super type", offset));
+        return Err(Error::new(
+            Words::Module(ModuleWords::SubTypeCannotHaveAFinalSuperType),
+            offset,
+        ));
     }
     if !types_match(types, id, above) {
-        return Err(Error::new("sub type must match super type", offset));
+        return Err(Error::new(
+            Words::Module(ModuleWords::SubTypeMustMatchSuperType),
+            offset,
+        ));
     }
     if !is_within_depth(types, above, most) {
         return Err(too_deep(most, offset));

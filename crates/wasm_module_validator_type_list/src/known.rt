@@ -9,7 +9,7 @@ use crate::RecGroupId;
 use crate::beside::Beside;
 use std::alloc::{AllocError, Global};
 use std::collections::BTreeMap;
-use wasm_module_validator_type_storage::ordered::Ordered;
+use wasm_module_validator_type_storage::ordered::{Ordered, SearchEnd};
 use wasm_module_validator_type_storage::snapshots::SnapshotList;
 use wasm_types::laws::{equality_is_of_declarations, order_is_of_types};
 use wasm_types::{RecGroup, SubType};
@@ -43,15 +43,19 @@ impl Known {
         self.numbers.get(group).copied()
     }
 
-    /// The id of the only type of this group, where it is by that id that the group is kept.
-    pub(crate) fn id_of(&self, types: &SnapshotList<SubType>, group: &RecGroup) -> Option<u32>
+    /// The id of the only type of this group, if it is by that id that the group is kept, and where the search for it ended.
+    pub(crate) fn id_of(
+        &self,
+        types: &SnapshotList<SubType>,
+        group: &RecGroup,
+    ) -> (Option<u32>, SearchEnd)
         requires { AllPairs (Precedes types.now.items) self.now.alone }
-        ensures { MatchOption result (NoneDeclares types.now.items self.now.alone (declared_types group.now))
+        ensures { MatchOption result.0 (NoneDeclares types.now.items self.now.alone (declared_types group.now))
             (λ n. Declares types.now.items self.now.alone (declared_types group.now) n) }
     {
         equality_is_of_declarations();
         if group.types().len() != 1 {
-            return None;
+            return (None, SearchEnd::of_none());
         }
         let ty = &group.types()[0];
         self.alone.find(&Beside { types, ty })
@@ -65,6 +69,7 @@ impl Known {
         start: u32,
         group: RecGroup,
         id: RecGroupId,
+        end: SearchEnd,
     ) -> Result<(), AllocError>
         requires ordered { AllPairs (Precedes types.now.items) self.old.alone }
         requires new { NoneDeclares types.now.items self.old.alone (declared_types group) }
@@ -73,7 +78,7 @@ impl Known {
     {
         equality_is_of_declarations();
         match only_type(group.types(), stored) {
-            Some(ty) => self.alone.insert(&Beside { types, ty }, start),
+            Some(ty) => self.alone.insert(&Beside { types, ty }, start, end),
             None => keep_whole(&mut self.numbers, group, id),
         }
     }
@@ -120,7 +125,7 @@ fn keep_whole(
 }
 
 /// Keeps a group of this number, where it is in canonical form and anything is known. Its types are stored so from the id `start`
-/// on, behind those of the list.
+/// on, behind those of the list. A search for it ended at `end`.
 pub(crate) fn learn(
     known: &mut Option<Known>,
     is_canonical: bool,
@@ -129,6 +134,7 @@ pub(crate) fn learn(
     start: u32,
     group: RecGroup,
     id: RecGroupId,
+    end: SearchEnd,
 ) -> Result<(), AllocError>
     requires { CanLearn is_canonical types.now.items group known.old }
     ensures ok { OnOk result (KnowsMore is_canonical types.now.items stored.now start group id
@@ -140,7 +146,7 @@ pub(crate) fn learn(
         return Ok(());
     }
     match known {
-        Some(known) => known.keep(types, stored, start, group, id),
+        Some(known) => known.keep(types, stored, start, group, id, end),
         None => Ok(()),
     }
 }

@@ -19,9 +19,12 @@ use crate::stored::{copies, stored_supertypes, stored_types};
 use std::alloc::{AllocError, Global};
 use std::marker::Model;
 use std::ops::Range;
+use wasm_module_validator_type_storage::ordered::SearchEnd;
 use wasm_module_validator_type_storage::snapshots::SnapshotList;
 use wasm_types::laws::order_is_of_types;
-use wasm_types::{CoreTypeId, Error, Limits, RecGroup, Result as Reading, SubType};
+use wasm_types::{
+    CoreTypeId, Error, Limits, ModuleWords, RecGroup, Result as Reading, SubType, Text, Words,
+};
 
 /// The most types that a list has: each id fits the 20 bits of an index.
 pub const MAX_TYPES: usize = 1 << 20;
@@ -57,8 +60,12 @@ fn unknown_place(index: u32, offset: u64) -> Error
     ensures kind { result.kind ≡ Other }
     ensures offset { result.offset ≡ offset }
 {
-    Error::fmt(
-        format_args!("unknown type {index}: type index out of rec group bounds"),
+    Error::with(
+        Text::Number(
+            Words::UnknownType,
+            index,
+            Words::Module(ModuleWords::TypeIndexOutOfRecGroupBounds),
+        ),
         offset,
     )
 }
@@ -118,31 +125,46 @@ impl TypeList {
         ensures depths { KeepsDepths self.now.groups self.now.depths self.now.depths }
     {
         if further > MAX_TYPES - self.type_count() {
-            return Err(Error::new("implementation limit: too many core types", offset));
+            return Err(Error::new(
+                Words::Module(ModuleWords::ImplementationLimitTooManyCoreTypes),
+                offset,
+            ));
         }
         let Ok(number) = u32::try_from(self.group_count()) else {
-            return Err(Error::new("implementation limit: too many recursion groups", offset));
+            return Err(Error::new(
+                Words::Module(ModuleWords::ImplementationLimitTooManyRecursionGroups),
+                offset,
+            ));
         };
         Ok(RecGroupId::new(number))
     }
 
-    // The number of a group in canonical form, if the list has it.
-    fn find(&self, group: &RecGroup) -> Option<RecGroupId>
+    // The number of a group in canonical form, if the list has it, and where the search for its only type ended.
+    fn find(&self, group: &RecGroup) -> (Option<RecGroupId>, SearchEnd)
         requires { IsTrue self.now.can_intern }
-        ensures { MatchOption result (IsMissing self.now.groups (group_in true group.now))
+        ensures { MatchOption result.0 (IsMissing self.now.groups (group_in true group.now))
             (λ k. group_at self.now.groups k.0 ≡ Some (group_in true group.now)) }
     {
         match &self.known {
-            Some(known) => match known.id_of(&self.lists.types, group) {
-                Some(id) => Some(self.rec_group_id_of(CoreTypeId::new(id))),
-                None => known.number_of(group),
-            },
+            Some(known) => {
+                let (id, end) = known.id_of(&self.lists.types, group);
+                match id {
+                    Some(id) => (Some(self.rec_group_id_of(CoreTypeId::new(id))), end),
+                    None => (known.number_of(group), end),
+                }
+            }
             None => unreachable!(),
         }
     }
 
-    // Adds a group. Where there is no memory, nothing changes.
-    fn add(&mut self, is_canonical: bool, group: RecGroup, id: RecGroupId) -> Result<(), AllocError>
+    // Adds a group, for which a search ended at `end`. Where there is no memory, nothing changes.
+    fn add(
+        &mut self,
+        is_canonical: bool,
+        group: RecGroup,
+        id: RecGroupId,
+        end: SearchEnd,
+    ) -> Result<(), AllocError>
         requires can_intern { IsTrue self.old.can_intern }
         requires formed { IsGroupFormed (count self.old.groups) (group_in is_canonical group) }
         requires added { IsAdded self.old.groups (group_in is_canonical group) }
@@ -169,6 +191,7 @@ impl TypeList {
             start,
             group,
             id,
+            end,
         )?;
         let elements = Range {
             start: CoreTypeId::new(start),
@@ -203,12 +226,15 @@ impl TypeList {
         ensures limits { self.new.limits ≡ self.old.limits }
     {
         let id = self.next_id(rec_group.types().len(), offset)?;
+        let mut end = SearchEnd::of_none();
         if needs_type_canonicalization {
-            if let Some(known) = self.find(&rec_group) {
+            let (known, ended) = self.find(&rec_group);
+            if let Some(known) = known {
                 return Ok((false, known));
             }
+            end = ended;
         }
-        self.add(needs_type_canonicalization, rec_group, id)?;
+        self.add(needs_type_canonicalization, rec_group, id, end)?;
         Ok((true, id))
     }
 

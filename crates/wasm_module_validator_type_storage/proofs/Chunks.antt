@@ -7,12 +7,13 @@ use Rattle.std.specs.declared.cmp.Ordering.TheVariants.{Less, Equal, Greater}
 use Rattle.std.proofs.Common.{refl, sym, ap, subst, ◌∙◌, inl, inr, ⊎_elim, get_or, set, arith}
 use Rattle.std.proofs.lemmas.Bool.{cases_lt}
 use Rattle.std.proofs.lemmas.List.{append_assoc, append-nil, length-append, get_or_append_left, get_or-append-add, get_or_default, take_more, drop_more, take_all}
-use Rattle.std.proofs.lemmas.List.{take-append-drop, drop_all, set_split, take_at, get_or-map, length-map, map-set, set-get_or}
+use Rattle.std.proofs.Math.Seq.{take-append-add, drop-append-add}
+use Rattle.std.proofs.lemmas.List.{take-append-le, drop-append-le, take-append-drop, drop_all, set_split, take_at, get_or-map, length-map, map-set, set-get_or}
 use Rattle.std.proofs.lemmas.List.Elements.{All-append, All-nil, All-same, All-weaker, All-set, All-push, Contains-append_left, Contains-append_right}
-use Rattle.wasm_module_validator_type_storage.specs.ordered.Order.{Ascends, Misses, Finds, IsPut}
+use Rattle.wasm_module_validator_type_storage.specs.ordered.Order.{Ascends, Misses, Finds, IsPlace, IsPut}
 use Rattle.wasm_module_validator_type_storage.specs.ordered.OrderLaws.{all_left, all_right, put_length}
-use Rattle.wasm_module_validator_type_storage.specs.ordered.Chunks.{IsChunk, AreChunks, Belongs, Takes, chunk_at, last_of, most}
-use Rattle.wasm_module_validator_type_storage.proofs.Splits.{less_to}
+use Rattle.wasm_module_validator_type_storage.specs.ordered.Chunks.{IsChunk, AreChunks, Belongs, IsInside, Takes, chunk_at, last_of, most}
+use Rattle.wasm_module_validator_type_storage.proofs.Splits.{less_to, greater_from}
 
 pub concat-append : (xs ys : List (List ℕ)) → concat (xs ++ ys) ≡ concat xs ++ concat ys
 concat-append [] ys = refl
@@ -109,6 +110,43 @@ module _ (order : ℕ → Ordering) (front c back : List ℕ) where
       regroup : (after : List ℕ) → front ++ (put.before ++ after ++ back) ≡ front ++ put.before ++ (after ++ back)
       regroup after = ap (λ l. front ++ l) (append_assoc put.before after back) ∙ sym (append_assoc front put.before (after ++ back))
 
+-- a place inside a part: all before it are less, and all from it on are greater
+module _ (order : ℕ → Ordering) (front c back : List ℕ) (p : ℕ) (h : Ascends order (front ++ (c ++ back))) (inside : IsInside order c p) where
+  less_before : All (λ n. order n ≡ Less) (front ++ take p c)
+  less_before =
+      let within = inside.within in
+      let some = inside.some in
+      let all = length-append front (c ++ back) in
+      let long = length-append c back in
+      let back_to : length front + p - 1 ≡ length front + (p - 1) = omega arith in
+      let last : get_or (front ++ (c ++ back)) (length front + p - 1) 0 ≡ get_or c (p - 1) 0 =
+      ap (λ i. get_or (front ++ (c ++ back)) i 0) back_to ∙ get_or-append-add front (c ++ back) (p - 1) 0 ∙ get_or_append_left c back 0 (p - 1) (omega arith) in
+      All-same (λ n. order n ≡ Less) (front ++ take p c) (take (length front + p) (front ++ (c ++ back)))
+      (sym (take-append-add front (c ++ back) p ∙ ap (λ l. front ++ l) (take-append-le p c back (omega arith))))
+      (less_to order (front ++ (c ++ back)) (length front + p) (omega arith) h (λ lt. ap order last ∙ inside.less))
+
+  greater_after : All (λ n. order n ≡ Greater) (drop p c ++ back)
+  greater_after =
+      let within = inside.within in
+      let here : get_or (front ++ (c ++ back)) (length front + p) 0 ≡ get_or c p 0 =
+      get_or-append-add front (c ++ back) p 0 ∙ get_or_append_left c back 0 p (omega arith) in
+      All-same (λ n. order n ≡ Greater) (drop p c ++ back) (drop (length front + p) (front ++ (c ++ back)))
+      (sym (drop-append-add front (c ++ back) p ∙ drop-append-le p c back (omega arith)))
+      (greater_from order (front ++ (c ++ back)) (length front + p) h (ap order here ∙ inside.greater))
+
+  pub is_place : IsPlace order c p
+  is_place = record {
+    within = let within = inside.within in omega arith;
+    less = all_right (λ n. order n ≡ Less) front (take p c) less_before;
+    greater = all_left (λ n. order n ≡ Greater) (drop p c) back greater_after;
+  }
+
+  pub front_less : All (λ n. order n ≡ Less) front
+  front_less = all_left (λ n. order n ≡ Less) front (take p c) less_before
+
+  pub back_greater : All (λ n. order n ≡ Greater) back
+  back_greater = all_right (λ n. order n ≡ Greater) (drop p c) back greater_after
+
 module _ (order : ℕ → Ordering) (cs : List (List ℕ)) where
   -- what a search for a chunk ends with
   pub belongs : (at high : ℕ) → high ≡ at → at ≤ length cs → AreChunks cs → Ascends order (concat cs)
@@ -158,6 +196,18 @@ module _ (order : ℕ → Ordering) (cs : List (List ℕ)) where
   }
 
   module _ (at : ℕ) (within : at < length cs) where
+    pub belongs_inside : (p : ℕ) → Ascends order (concat cs) → IsInside order (chunk_at cs at) p → Belongs order cs at
+    belongs_inside p h inside =
+        let a = subst (Ascends order) (split cs at within) h in
+        record {
+          less = front_less order (concat (take at cs)) (chunk_at cs at) (concat (drop (at + 1) cs)) p a inside;
+          greater = back_greater order (concat (take at cs)) (chunk_at cs at) (concat (drop (at + 1) cs)) p a inside;
+        }
+
+    pub place_inside : (p : ℕ) → Ascends order (concat cs) → IsInside order (chunk_at cs at) p → IsPlace order (chunk_at cs at) p
+    place_inside p h inside =
+        is_place order (concat (take at cs)) (chunk_at cs at) (concat (drop (at + 1) cs)) p (subst (Ascends order) (split cs at within) h) inside
+
     pub ascends_at : Ascends order (concat cs) → Ascends order (chunk_at cs at)
     ascends_at h = ascends_within order (concat (take at cs)) (chunk_at cs at) (concat (drop (at + 1) cs)) (subst (Ascends order) (split cs at within) h)
 
@@ -177,6 +227,13 @@ module _ (order : ℕ → Ordering) (cs : List (List ℕ)) where
         let whole = put_within order (concat (take at cs)) (chunk_at cs at) (concat (drop (at + 1) cs)) n now b.less b.greater put in
         subst (λ ns. IsPut order n ns (concat (slice_set cs at now))) (sym (split cs at within))
         (subst (IsPut order n (concat (take at cs) ++ (chunk_at cs at ++ concat (drop (at + 1) cs)))) (sym (concat-set cs at now within)) whole)
+
+-- a chunk that is the only one is where all belongs
+pub only_belongs : (order : ℕ → Ordering) (cs : List (List ℕ)) → length cs ≡ 1 → Belongs order cs 0
+only_belongs order cs one = record {
+  less = All-nil (λ n. order n ≡ Less);
+  greater = All-same (λ n. order n ≡ Greater) (concat (drop 1 cs)) [] (ap concat (drop_all 1 cs (omega (arith, one)))) (All-nil (λ n. order n ≡ Greater));
+}
 
 -- a chunk that has room takes a number more
 pub sized_put : (order : ℕ → Ordering) (cs : List (List ℕ)) (at n : ℕ) (now : List ℕ) → AreChunks cs → length (chunk_at cs at) < most

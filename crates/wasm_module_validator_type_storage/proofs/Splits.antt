@@ -1,12 +1,12 @@
 -- Where the numbers that are less end, and what stands on both sides.
-use Rattle.std.specs.Prelude.{◌≡◌, ◌≢◌, ℕ, ◌+◌, ◌-◌, ◌<◌, ◌≤◌, List, ◌++◌, length, All, take, drop, insert}
+use Rattle.std.specs.Prelude.{◌≡◌, ◌≢◌, ℕ, ◌+◌, ◌-◌, ◌<◌, ◌≤◌, List, [], ◌++◌, length, All, take, drop, insert}
 use Rattle.std.specs.declared.cmp.Ordering.{Ordering}
 use Rattle.std.specs.declared.cmp.Ordering.TheVariants.{Less, Equal, Greater}
-use Rattle.std.proofs.Common.{refl, sym, ap, subst, ◌∙◌, ⊎_elim, get_or, arith}
+use Rattle.std.proofs.Common.{refl, sym, ap, subst, ◌∙◌, inl, inr, ⊎_elim, get_or, arith}
 use Rattle.std.proofs.lemmas.Bool.{cases_lt}
-use Rattle.std.proofs.lemmas.List.{length-take-le, length-drop, get_or-take, get_or-drop, get_or_default, take-append-drop, take_all}
-use Rattle.std.proofs.lemmas.List.Elements.{All-append, All-same, All-weaker}
-use Rattle.wasm_module_validator_type_storage.specs.ordered.Order.{Ascends, Misses, IsPut}
+use Rattle.std.proofs.lemmas.List.{length-take-le, length-drop, get_or-take, get_or-drop, get_or_default, take-append-drop, take_all, drop_all}
+use Rattle.std.proofs.lemmas.List.Elements.{All-append, All-nil, All-same, All-weaker}
+use Rattle.wasm_module_validator_type_storage.specs.ordered.Order.{Ascends, Misses, IsPlace, IsPut}
 use Rattle.wasm_module_validator_type_storage.specs.ordered.OrderLaws.{all_right}
 
 -- an answer is one of three
@@ -83,3 +83,18 @@ module _ (order : ℕ → Ordering) (ns : List ℕ) where
         less = less;
         greater = λ k d lt. greater_left _ (rest k d lt) (none k d lt);
       }
+
+  -- a search that finds nothing ends at the place where what is sought belongs
+  pub place_between : (low high : ℕ) → high ≡ low → low ≤ length ns → Ascends order ns → (0 < low → order (get_or ns (low - 1) 0) ≡ Less)
+      → (high < length ns → order (get_or ns high 0) ≡ Greater) → IsPlace order ns low
+  place_between low high same within ascends before from = record {
+    within = within;
+    less = less_to low within ascends before;
+    greater = elim (cases_lt low (length ns)) [
+      | inl lt ↦ greater_from low ascends (subst (λ i. i < length ns → order (get_or ns i 0) ≡ Greater) same from lt)
+      | inr le ↦ All-same (λ n. order n ≡ Greater) (drop low ns) [] (drop_all low ns le) (All-nil (λ n. order n ≡ Greater))
+    ];
+  }
+
+  pub place_misses : (at : ℕ) → IsPlace order ns at → Misses order ns
+  place_misses at place = misses_around at place.less place.greater

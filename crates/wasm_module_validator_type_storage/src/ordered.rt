@@ -11,7 +11,7 @@ mod adding;
 mod finding;
 pub mod laws;
 
-use adding::insert_among;
+use adding::insert_near;
 use finding::find_among;
 use std::alloc::{AllocError, Global};
 use std::cmp::Ordering;
@@ -24,6 +24,20 @@ pub trait Compare {
     /// Whether what the number stands for is less than what is sought, equal to it, or greater.
     fn compare(&self, number: u32) -> Ordering
         ensures { result ≡ order self.now number };
+}
+
+/// Where a search ended that found nothing: in a chunk, at a place of it. To add what was sought looks there first.
+#[derive(Clone, Copy)]
+pub struct SearchEnd {
+    pub(crate) chunk: usize,
+    pub(crate) place: usize,
+}
+
+impl SearchEnd {
+    /// Of no search.
+    pub fn of_none() -> SearchEnd {
+        SearchEnd { chunk: 0, place: 0 }
+    }
 }
 
 /// Numbers in order. They lie in chunks of 1 to 512, so that one is added at the cost of moving a chunk, however many there are.
@@ -54,22 +68,28 @@ impl Ordered {
         }
     }
 
-    /// The number that is equal to what is sought, if there is one.
-    pub fn find<C: Compare>(&self, sought: &C) -> Option<u32>
+    /// The number that is equal to what is sought, if there is one, and where the search ended.
+    pub fn find<C: Compare>(&self, sought: &C) -> (Option<u32>, SearchEnd)
         requires { Ascends (C.order sought.now) self.now }
-        ensures { MatchOption result (Misses (C.order sought.now) self.now)
+        ensures { MatchOption result.0 (Misses (C.order sought.now) self.now)
             (λ n. Finds (C.order sought.now) self.now n) }
     {
         find_among(self.chunks.as_slice(), sought)
     }
 
-    /// Adds a number where what is sought belongs. Where there is no memory for it, nothing changes.
-    pub fn insert<C: Compare>(&mut self, sought: &C, number: u32) -> Result<(), AllocError>
+    /// Adds a number where what is sought belongs: without a further search, if one for it ended inside a chunk that has room and
+    /// nothing was added since. If there is no memory for it, nothing changes.
+    pub fn insert<C: Compare>(
+        &mut self,
+        sought: &C,
+        number: u32,
+        end: SearchEnd,
+    ) -> Result<(), AllocError>
         requires ascends { Ascends (C.order sought.now) self.old }
         requires misses { Misses (C.order sought.now) self.old }
         ensures ok { OnOk result (IsPut (C.order sought.now) number self.old self.new) }
         ensures err { OnErr result (self.new ≡ self.old) }
     {
-        insert_among(&mut self.chunks, sought, number)
+        insert_near(&mut self.chunks, sought, number, end)
     }
 }

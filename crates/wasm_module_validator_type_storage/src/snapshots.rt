@@ -13,7 +13,7 @@ use std::alloc::{AllocError, AllocFailed, Global};
 use std::marker::Model;
 use std::mem;
 use std::ops::Index;
-use std::rc::Rc;
+use std::sync::Arc;
 
 // Items that were committed together, and how many stand before them.
 #[derive(Drop)]
@@ -25,7 +25,7 @@ struct Snapshot<T> {
 /// A list whose items are shared once they are committed.
 #[derive(Drop)]
 pub struct SnapshotList<T> {
-    snapshots: Vec<Rc<Snapshot<T>>>,
+    snapshots: Vec<Arc<Snapshot<T>>>,
     total: usize,
     current: Vec<T>,
 }
@@ -85,7 +85,7 @@ fn item_at<T>(items: &[T], index: usize) -> Option<&T>
 }
 
 // Which snapshot an index falls into: the last that begins at it or before it.
-fn snapshot_of<T>(snapshots: &[Rc<Snapshot<T>>], index: usize) -> usize
+fn snapshot_of<T>(snapshots: &[Arc<Snapshot<T>>], index: usize) -> usize
     requires some { 0 < length snapshots.now }
     requires first { slice_index (map (λ s. s.value.prior) snapshots.now) 0 ≤ index }
     ensures within { result < length snapshots.now }
@@ -132,7 +132,7 @@ fn append_all<X: Drop>(items: &mut Vec<X>, others: &mut Vec<X>) -> Result<(), Al
 // Puts what was pushed since the last commit among the snapshots, which then have this many items. Where there is no memory
 // for it, both stay.
 fn seal<T: Drop>(
-    snapshots: &mut Vec<Rc<Snapshot<T>>>,
+    snapshots: &mut Vec<Arc<Snapshot<T>>>,
     total: usize,
     current: &mut Vec<T>,
 ) -> Result<usize, AllocError>
@@ -158,7 +158,7 @@ fn seal<T: Drop>(
         prior: total,
         items,
     };
-    match Rc::new(alloc, snapshot) {
+    match Arc::new(alloc, snapshot) {
         Ok(shared) => {
             push_in_room(snapshots, shared);
             Ok(total + count)

@@ -9,4 +9,3 @@ pub mod laws
 -- The rules of crates below, under their names: crates above cite them here.
 pub use Rattle.wasm_operator_validator_driver.specs.arity as arity
 pub use Rattle.wasm_operator_validator_expression.specs as expression
-pub use Rattle.wasm_operator_validator_driver.specs.straight_line as straight_line

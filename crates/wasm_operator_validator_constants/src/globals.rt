@@ -23,7 +23,7 @@ pub(crate) fn check_global<R: WasmModuleResources>(
 {
     let Some(global) = resources.global_at(global_index) else {
         return Err(ConstantRefusal::Invalid(Refusal::Unknown {
-            space: Space::Global,
+            space: Space::ConstantGlobal,
             index: global_index,
         }));
     };

@@ -10,10 +10,10 @@ ghost use Rattle.wasm_operator_validator_constants.specs.Operators.{allowing, Is
 use crate::ConstantRefusal;
 use crate::globals::check_global;
 use wasm_operator_validator_stacks::{BulkOperator, MemoryOperator, WasmModuleResources};
-use wasm_operators_reader::SimdOperator;
 use wasm_operators_reader::walks::{
     ControlOperator, DescriptorOperator, GcOperator, NumericOperator, Operator, SharedOperator,
 };
+use wasm_operators_reader::{ParametricOperator, SimdOperator};
 use wasm_types::WasmFeatures;
 
 /// Whether an operator is constant, by these features, in this module, of whose globals the first so many are imported (WebAssembly
@@ -41,7 +41,7 @@ pub fn is_constant_operator<R: WasmModuleResources>(
     }
     if !is_listed(op) {
         return Err(ConstantRefusal::NonConstant {
-            name: op.info().name,
+            name: visit_name(op),
         });
     }
     if !is_allowed(op, features) {
@@ -51,6 +51,25 @@ pub fn is_constant_operator<R: WasmModuleResources>(
         });
     }
     Ok(())
+}
+
+/// The name of an operator's visit, with `.` for some `_`.
+fn visit_name(op: &Operator<'_>) -> &'static str {
+    match op {
+        Operator::Parametric(ParametricOperator::TypedSelect { .. }) => "typed_select",
+        Operator::Parametric(ParametricOperator::TypedSelectMulti { .. }) => "typed_select_multi",
+        Operator::Gc(GcOperator::RefTestNonNull { .. }) => "ref_test_non_null",
+        Operator::Gc(GcOperator::RefTestNullable { .. }) => "ref_test_nullable",
+        Operator::Gc(GcOperator::RefCastNonNull { .. }) => "ref_cast_non_null",
+        Operator::Gc(GcOperator::RefCastNullable { .. }) => "ref_cast_nullable",
+        Operator::Descriptor(DescriptorOperator::RefCastDescEqNonNull { .. }) => {
+            "ref_cast_desc_eq_non_null"
+        }
+        Operator::Descriptor(DescriptorOperator::RefCastDescEqNullable { .. }) => {
+            "ref_cast_desc_eq_nullable"
+        }
+        _ => op.info().name,
+    }
 }
 
 /// The global that an operator reads.

@@ -6,7 +6,7 @@ ghost use Rattle.wasm_operator_validator_state.specs.Refusals.{OfContent};
 ghost use Rattle.wasm_operator_validator_constants.specs.Refusals.{kind_of_constant};
 
 use wasm_operator_validator_stacks::Refusal;
-use wasm_types::{Error, WasmFeatures};
+use wasm_types::{Error, Text, WasmFeatures, Words};
 
 /// Why an operator is refused in a constant expression. It has no text and no offset.
 #[derive(Clone, Copy)]
@@ -40,30 +40,28 @@ impl ConstantRefusal {
     {
         match *self {
             ConstantRefusal::Invalid(refusal) => refusal.error(offset),
-            ConstantRefusal::NonConstant { name } => non_constant(name, offset),
+            ConstantRefusal::NonConstant { name } => not_a_constant(name, offset),
             ConstantRefusal::NotEnabled { feature, name } => not_enabled(feature, name, offset),
             ConstantRefusal::LocalGlobal { feature } => Error::missing_feature(
                 feature,
-                "constant expression required: global.get of locally defined global",
+                Words::ConstantExpressionRequiredGlobalGetOfLocallyDefinedGlobal,
                 offset,
             ),
             ConstantRefusal::MutableGlobal => Error::new(
-                "constant expression required: global.get of mutable global",
+                Words::ConstantExpressionRequiredGlobalGetOfMutableGlobal,
                 offset,
             ),
         }
     }
 }
 
+// The error of an operator that is constant by no features, by the name of its visit.
 #[cold]
-fn non_constant(name: &'static str, offset: u64) -> Error
+fn not_a_constant(name: &'static str, offset: u64) -> Error
     ensures kind { result.kind ≡ Other }
     ensures at { result.offset ≡ offset }
 {
-    Error::fmt(
-        format_args!("constant expression required: non-constant operator: {name}"),
-        offset,
-    )
+    Error::with(Text::no_visit_of_constants(name), offset)
 }
 
 // The same words, of an operator that a feature allows.
@@ -72,6 +70,5 @@ fn not_enabled(feature: WasmFeatures, name: &'static str, offset: u64) -> Error
     ensures kind { result.kind ≡ MissingFeature feature }
     ensures at { result.offset ≡ offset }
 {
-    let words = non_constant(name, offset);
-    Error::missing_feature(feature, words.message(), offset)
+    Error::missing_with(feature, Text::non_constant(name), offset)
 }

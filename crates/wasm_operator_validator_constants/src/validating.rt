@@ -9,17 +9,14 @@ ghost use Rattle.wasm_operator_validator_constants.specs.Checked.{Surroundings, 
 
 use crate::ConstantRefusal;
 use std::alloc::Global;
-use wasm_operators_reader::walks::{
-    TellOperator, TellPlain, TellSimdOperator, tell_whole_with_offset,
-};
-use wasm_types::{BinaryReader, Error, Result};
+use wasm_operators_reader::walks::{TellOperator, TellSimdOperator, tell_whole_with_offset};
+use wasm_types::{BinaryReader, Error, Result, Words};
 
 /// A visitor that tests each operator, and validates those that are constant.
 pub trait ValidatingConstants<'a>: TellOperator<
     'a,
     Output = std::result::Result<(), ConstantRefusal>,
 >
-    + TellPlain<'a, ConstantRefusal>
     + TellSimdOperator<'a> {
     ghost use Rattle.wasm_operator_validator_constants.specs.declared.refusal.ConstantRefusal.{ConstantRefusal as Why};
 
@@ -75,7 +72,7 @@ fn frames_remain(offset: u64) -> Error
     ensures at { result.offset ≡ offset }
 {
     Error::new(
-        "control frames remain at end of function body or expression",
+        Words::ControlFramesRemainAtEndOfFunctionBodyOrExpression,
         offset,
     )
 }

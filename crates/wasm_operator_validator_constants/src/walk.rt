@@ -14,7 +14,7 @@ use wasm_operator_validator_driver::ValidatingWalk;
 use wasm_operator_validator_expression::TellSimdOperator;
 use wasm_operator_validator_stacks::{Reason, Refusal, WasmModuleResources};
 use wasm_operators_enums::is_simd;
-use wasm_operators_reader::walks::{Operator, TellOperator, TellPlain, Visitor};
+use wasm_operators_reader::walks::{Operator, TellOperator, Visitor};
 use wasm_types::WasmFeatures;
 
 /// The walk that validates, where each operator has to be constant first.
@@ -108,14 +108,6 @@ fn is_not_listed(refusal: &ConstantRefusal) -> bool
     ensures { result ≡ true → kind_of_constant refusal.now ≡ Other }
 {
     matches!(refusal, ConstantRefusal::NonConstant { .. })
-}
-
-impl<'a, 'v, 'r, R: WasmModuleResources> TellPlain<'a, ConstantRefusal>
-    for ConstantWalk<'v, 'r, R> {
-    // Each operator is tested, so it is told of one after the other.
-    fn tell_plain(&mut self, bytes: &'a [u8], at: usize, features: WasmFeatures) -> usize {
-        at
-    }
 }
 
 impl<'a, 'v, 'r, R: WasmModuleResources> ValidatingConstants<'a> for ConstantWalk<'v, 'r, R> {

@@ -5,7 +5,7 @@ ghost use Rattle.wasm_operators_enums.specs.Op.{Op};
 ghost use Rattle.wasm_operator_validator_state.specs.Refusals.{refused};
 ghost use Rattle.wasm_operator_validator_state.specs.State.{Checks};
 
-use crate::callees::{callee, callee_type, reference_at};
+use crate::callees::{callee, callee_type, reference_at, through_reference};
 use crate::tables::function_table;
 use crate::{OperatorValidator, Proposal, Refusal, WasmModuleResources};
 
@@ -74,7 +74,7 @@ pub fn check_call_ref<R: WasmModuleResources>(
     }
     let function = match callee_type(validator, resources, type_index) {
         Ok(function) => function,
-        Err(refusal) => return Err(refusal),
+        Err(refusal) => return Err(through_reference(refusal)),
     };
     let reference = match reference_at(resources, type_index) {
         Ok(reference) => reference,

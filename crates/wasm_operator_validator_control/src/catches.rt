@@ -1,18 +1,19 @@
 //! `try_table` with its clauses (WebAssembly 3.0, validation, control instructions).
 
-ghost use Rattle.std.specs.Prelude.{◌++◌, ◌∷◌, [], false};
+ghost use Rattle.std.specs.Prelude.{◌≡◌, ◌++◌, ◌∷◌, [], false};
+ghost use Rattle.wasm_types.specs.decoding.declared.error.ErrorKind.TheVariants.{Other};
 ghost use Rattle.wasm_operators_immediates.specs.Tables.{catch_table_of};
 ghost use Rattle.wasm_operators_enums.specs.Op.{Op, ExceptionTree};
 ghost use Rattle.wasm_operator_validator_rules.specs.Exceptions.{exception, Carries, Catches, EachCatches};
-ghost use Rattle.wasm_operator_validator_state.specs.Refusals.{refused};
+ghost use Rattle.wasm_operator_validator_state.specs.Refusals.{kind_of, refused};
 ghost use Rattle.wasm_operator_validator_state.specs.State.{Checks, types_in, context};
 ghost use Rattle.wasm_operator_validator_control.specs.Fitting.{Answers};
 
 use crate::exceptions::{exception_tag, exception_type};
 use crate::frames::open_frame;
 use crate::{
-    FrameKind, OperatorValidator, Proposal, Reason, Refusal, WasmModuleResources, are_below,
-    check_block_type, label_types,
+    FrameKind, MaybeType, OperatorValidator, Proposal, Reason, Refusal, WasmModuleResources,
+    are_below, check_block_type, label_types,
 };
 use wasm_operators_immediates::{Catch, TryTable};
 use wasm_types::ValType;
@@ -70,24 +71,41 @@ fn check_clause<R: WasmModuleResources>(
 {
     match clause {
         Catch::One { tag, label } => match exception_tag(resources, tag) {
-            Ok(tag) => carries(validator, resources, tag.params(), label),
+            Ok(tag) => carries(
+                validator,
+                resources,
+                tag.params(),
+                label,
+                Reason::CatchCount,
+            ),
             Err(refusal) => Err(refusal),
         },
         Catch::OneRef { tag, label } => match exception_tag(resources, tag) {
-            Ok(tag) => carries_reference(validator, resources, tag.params(), label),
+            Ok(tag) => {
+                carries_reference(
+                    validator,
+                    resources,
+                    tag.params(),
+                    label,
+                    Reason::CatchRefCount,
+                )
+            }
             Err(refusal) => Err(refusal),
         },
-        Catch::All { label } => carries(validator, resources, &[], label),
-        Catch::AllRef { label } => carries_reference(validator, resources, &[], label),
+        Catch::All { label } => carries(validator, resources, &[], label, Reason::CatchAllCount),
+        Catch::AllRef { label } => {
+            carries_reference(validator, resources, &[], label, Reason::CatchAllRefCount)
+        }
     }
 }
 
-/// Whether values of these types fit a label.
+/// Whether values of these types fit a label. `miscounted` is why not where it takes more or fewer.
 fn carries<R: WasmModuleResources>(
     validator: &OperatorValidator,
     resources: &R,
     types: &[ValType],
     label: u32,
+    miscounted: Reason,
 ) -> Result<(), Refusal>
     ensures { Answers result (Carries (context (R.meaning resources.now) validator.now.given validator.now.opens)
         (types_in (R.meaning resources.now) types.now) label) }
@@ -97,9 +115,33 @@ fn carries<R: WasmModuleResources>(
     };
     let expected = label_types(resources, &block_type, kind);
     if !are_below(resources, types, expected) {
-        return Err(Refusal::Because(Reason::CatchTypes));
+        return Err(unfit(resources, types, expected, miscounted));
     }
     Ok(())
+}
+
+/// Why values of these types don't fit those that are expected: there are more or fewer, or the first that does not fit.
+#[cold]
+fn unfit<R: WasmModuleResources>(
+    resources: &R,
+    types: &[ValType],
+    expected: &[ValType],
+    miscounted: Reason,
+) -> Refusal
+    ensures { kind_of result ≡ Other }
+{
+    if types.len() != expected.len() {
+        return Refusal::Because(miscounted);
+    }
+    for place in 0..types.len() {
+        if !resources.is_subtype(types[place], expected[place]) {
+            return Refusal::TypeMismatch {
+                expected: expected[place],
+                found: MaybeType::Known(types[place]),
+            };
+        }
+    }
+    Refusal::Because(Reason::CatchTypes)
 }
 
 /// The same of these and a reference to the exception behind them.
@@ -108,6 +150,7 @@ fn carries_reference<R: WasmModuleResources>(
     resources: &R,
     types: &[ValType],
     label: u32,
+    miscounted: Reason,
 ) -> Result<(), Refusal>
     ensures { Answers result (Carries (context (R.meaning resources.now) validator.now.given validator.now.opens)
         (types_in (R.meaning resources.now) types.now ++ exception false ∷ []) label) }
@@ -117,14 +160,28 @@ fn carries_reference<R: WasmModuleResources>(
     };
     let expected = label_types(resources, &block_type, kind);
     let Some((last, others)) = expected.split_last() else {
-        return Err(Refusal::Because(Reason::CatchTypes));
+        return Err(Refusal::Because(miscounted));
     };
     if !are_below(resources, types, others) {
-        return Err(Refusal::Because(Reason::CatchTypes));
+        return Err(unfit(resources, types, others, miscounted));
     }
     let caught = exception_type(false);
     if !resources.is_subtype(caught, *last) {
-        return Err(Refusal::Because(Reason::CatchTypes));
+        return Err(unfit_reference(exception_type(false), *last, miscounted));
     }
     Ok(())
+}
+
+/// Why a reference to the exception is not what a label takes last.
+#[cold]
+fn unfit_reference(caught: ValType, expected: ValType, miscounted: Reason) -> Refusal
+    ensures { kind_of result ≡ Other }
+{
+    match miscounted {
+        Reason::CatchAllRefCount => Refusal::Because(Reason::CatchAllRefType),
+        _ => Refusal::TypeMismatch {
+            expected,
+            found: MaybeType::Known(caught),
+        },
+    }
 }

@@ -3,7 +3,7 @@
 ghost use Rattle.std.specs.Prelude.{◌≡◌, ◌↔◌, IsTrue};
 ghost use Rattle.wasm_operators_immediates.specs.declared.frames.FrameKind.TheVariants.{LegacyTry};
 ghost use Rattle.wasm_operators_enums.specs.Op.{Op, ExceptionTree};
-ghost use Rattle.wasm_operator_validator_state.specs.Refusals.{refused};
+ghost use Rattle.wasm_operator_validator_state.specs.Refusals.{kind_of, refused};
 ghost use Rattle.wasm_operator_validator_state.specs.State.{Checks};
 ghost use Rattle.wasm_operator_validator_state.specs.laws.Clauses.{IsTry};
 
@@ -25,13 +25,24 @@ pub fn check_try<R: WasmModuleResources>(
 {
     match validator.begin(Proposal::LegacyExceptions, false) {
         Ok(()) => {}
-        Err(refusal) => return Err(refusal),
+        Err(refusal) => return Err(unallowed_try(refusal)),
     }
     let block_type = match check_block_type(resources, validator.features(), blockty) {
         Ok(block_type) => block_type,
         Err(refusal) => return Err(refusal),
     };
     open_frame(validator, resources, FrameKind::LegacyTry, &block_type)
+}
+
+/// Why `try` may not begin, for a reason for which no legacy operator may.
+#[cold]
+fn unallowed_try(refusal: Refusal) -> Refusal
+    ensures { kind_of result ≡ kind_of refusal }
+{
+    match refusal {
+        Refusal::NotEnabled { feature } => Refusal::TryNotEnabled { feature },
+        _ => refusal,
+    }
 }
 
 /// Checks `catch`.

@@ -1,19 +1,21 @@
 //! Operators that open, turn or end a frame.
 
 ghost use Rattle.std.specs.Prelude.{◌≡◌, ◌↔◌, IsTrue};
+ghost use Rattle.wasm_types.specs.decoding.declared.error.ErrorKind.TheVariants.{Other};
 ghost use Rattle.wasm_operators_immediates.specs.declared.frames.FrameKind.TheVariants.{If};
 ghost use Rattle.wasm_operator_validator_rules.specs.Operands.{stack};
 ghost use Rattle.wasm_operator_validator_rules.specs.Typed.{MayClose};
 ghost use Rattle.wasm_operators_enums.specs.declared.control.ControlOperator.{ControlOperator};
 ghost use Rattle.wasm_operators_enums.specs.Op.{Op};
-ghost use Rattle.wasm_operator_validator_state.specs.Refusals.{Does, refused};
+ghost use Rattle.wasm_operator_validator_state.specs.Refusals.{Does, kind_of, refused};
 ghost use Rattle.wasm_operator_validator_state.specs.State.{Checks, signature_of};
 ghost use Rattle.wasm_operator_validator_state.specs.Steps.{IsOpen, MayPop};
 ghost use Rattle.wasm_operator_validator_control.specs.Opening.{Opened};
 ghost use Rattle.wasm_operator_validator_control.specs.Ending.{Finishes, MayFinish};
 
 use wasm_operator_validator_stacks::determined::{
-    BlockType, FrameKind, OperatorValidator, Proposal, Reason, Refusal, WasmModuleResources,
+    BlockType, FrameKind, MaybeType, OperatorValidator, Proposal, Reason, Refusal,
+    WasmModuleResources,
 };
 use wasm_operator_validator_state::blocks::{
     are_below, block_params, block_results, check_block_type,
@@ -162,7 +164,11 @@ pub fn check_end<R: WasmModuleResources>(
         Err(refusal) => return Err(refusal),
     }
     if !may_close(resources, &block_type, kind) {
-        return Err(Refusal::Because(Reason::NoElse));
+        return Err(no_else(
+            resources,
+            block_params(resources, &block_type),
+            block_results(resources, &block_type),
+        ));
     }
     if validator.is_done() {
         return Ok(());
@@ -192,6 +198,32 @@ pub(crate) fn finish_frame<R: WasmModuleResources>(
         Ok(_) => Ok(()),
         Err(refusal) => Err(refusal),
     }
+}
+
+/// Why an `if` that takes these may not give those without an `else`: the last that does not fit, or is missing, or what is left over.
+#[cold]
+fn no_else<R: WasmModuleResources>(resources: &R, takes: &[ValType], gives: &[ValType]) -> Refusal
+    ensures { kind_of result ≡ Other }
+{
+    for i in 0..gives.len() {
+        let last = gives.len() - 1 - i;
+        if takes.len() <= i {
+            return Refusal::EmptyStack {
+                expected: gives[last],
+            };
+        }
+        let found = takes.len() - 1 - i;
+        if !resources.is_subtype(takes[found], gives[last]) {
+            return Refusal::TypeMismatch {
+                expected: gives[last],
+                found: MaybeType::Known(takes[found]),
+            };
+        }
+    }
+    if takes.len() <= gives.len() {
+        return Refusal::Because(Reason::NoElse);
+    }
+    Refusal::ValuesRemain
 }
 
 /// Whether a frame may end without an `else`: an `if` must give what it takes.

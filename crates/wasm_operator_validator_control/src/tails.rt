@@ -5,7 +5,7 @@ ghost use Rattle.wasm_operators_enums.specs.Op.{Op};
 ghost use Rattle.wasm_operator_validator_state.specs.Refusals.{refused};
 ghost use Rattle.wasm_operator_validator_state.specs.State.{Checks};
 
-use crate::callees::{callee, callee_type, gives_results, reference_at};
+use crate::callees::{callee, callee_type, gives_results, reference_at, through_reference};
 use crate::tables::function_table;
 use crate::{OperatorValidator, Proposal, Reason, Refusal, WasmModuleResources, jump_with};
 
@@ -89,7 +89,7 @@ pub fn check_return_call_ref<R: WasmModuleResources>(
     };
     let function = match callee_type(validator, resources, type_index) {
         Ok(function) => function,
-        Err(refusal) => return Err(refusal),
+        Err(refusal) => return Err(through_reference(refusal)),
     };
     if !gives_results(resources, function, &body) {
         return Err(Refusal::Because(Reason::ResultsDiffer));

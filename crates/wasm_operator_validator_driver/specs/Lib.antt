@@ -1,3 +1,2 @@
 -- The rules of crates below, under their names: crates above cite them here.
 pub use Rattle.wasm_operator_validator_visits.specs.arity as arity
-pub use Rattle.wasm_operator_validator_straight_line.specs as straight_line

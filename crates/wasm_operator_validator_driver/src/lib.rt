@@ -2,7 +2,6 @@
 //!
 //! [`validate_expression`] drives the visitor that validates (`wasm_operator_validator_visits`) along an expression, by the walk of
 //! `wasm_operator_validator_expression`. `specs/Validating.antt` there defines which bytes are accepted, and why others are refused.
-//! [`accepts_expression`] does the same, and does not say why.
 #![tactic(auto)]
 
 mod objects;
@@ -10,8 +9,7 @@ mod operators;
 mod short;
 mod walk;
 
-pub use walk::{ValidatingWalk, accepts_expression, validate_expression};
-pub use wasm_operator_validator_expression::OperatorsReaderAllocations;
+pub use walk::{ValidatingWalk, validate_expression};
 pub use wasm_operator_validator_stacks::{
     BlockType, Frame, FrameKind, LocalInits, Locals, MaybeType, OperatorValidator,
     OperatorValidatorAllocations, WasmModuleResources,

@@ -1,7 +1,6 @@
 //! What the walk drives, and the call.
 
 ghost use Rattle.std.proofs.Common.{◌≡◌, ◌∙◌, ap, refl};
-ghost use Rattle.std.specs.Prelude.{true, Ok};
 ghost use Rattle.wasm_operator_validator_state.specs.State.{Visits};
 ghost use Rattle.wasm_operator_validator_state.specs.Refusals.{refused};
 ghost use Rattle.wasm_operator_validator_expression.specs.Validating.{Validates};
@@ -19,11 +18,9 @@ use crate::short::{
 };
 use std::alloc::Global;
 use wasm_operator_validator_expression::{
-    OperatorsReaderAllocations, Refused, TellOperator, TellPlain, TellSimdOperator, Validating,
-    accepts_operators, validate_operators,
+    Refused, TellOperator, TellSimdOperator, Validating, validate_operators,
 };
 use wasm_operator_validator_stacks::{OperatorValidator, Refusal, WasmModuleResources};
-use wasm_operator_validator_straight_line::run_plain;
 use wasm_operator_validator_visits::{AsRefusal, ValidatingVisitor};
 use wasm_operators_visit::{Operator, Visitor};
 use wasm_types::{BinaryReader, WasmFeatures};
@@ -254,15 +251,6 @@ impl<'a, 'v, 'r, R: WasmModuleResources> TellSimdOperator<'a> for NotingWalk<'v,
     }
 }
 
-impl<'a, 'v, 'r, R: WasmModuleResources> TellPlain<'a, Refused> for NotingWalk<'v, 'r, R> {
-    // A run changes operands alone, which it has at hand; and none is refused.
-    #[inline(always)]
-    fn tell_plain(&mut self, bytes: &'a [u8], at: usize, features: WasmFeatures) -> usize {
-        let resources = self.walk.visitor.resources;
-        run_plain(self.walk.visitor.inner, resources, bytes, at, features)
-    }
-}
-
 impl<'a, 'v, 'r, R: WasmModuleResources> Validating<'a> for NotingWalk<'v, 'r, R> {
     ghost meaning = { λ w. R.meaning w.walk.visitor.resources.now };
 
@@ -342,46 +330,6 @@ fn validate_walk<R: WasmModuleResources>(
     ensures resources { walk.new.walk.visitor.resources.now ≡ walk.old.walk.visitor.resources.now }
 {
     validate_operators(alloc, reader, walk)
-}
-
-/// Whether an expression is valid, as `validate_expression` says it, and nothing of why not: the validator may have taken some operators
-/// then. The memory of the reader's frames is used again.
-pub fn accepts_expression<R: WasmModuleResources>(
-    alloc: Global,
-    frames: &mut OperatorsReaderAllocations,
-    reader: BinaryReader<'_>,
-    validator: &mut OperatorValidator,
-    resources: &R,
-) -> bool
-    ensures { result ≡ true → Validates (R.meaning resources.now) validator.old reader.entry (Ok tt) validator.new }
-{
-    let mut walk = NotingWalk {
-        walk: ValidatingWalk {
-            visitor: ValidatingVisitor {
-                inner: validator,
-                resources,
-                answer: AsRefusal,
-            },
-        },
-        refusal: Refusal::OutOfMemory,
-    };
-    let accepts = accepts_walk(alloc, frames, reader, &mut walk);
-    let _validator = lent_validator(walk);
-    accepts
-}
-
-/// The same, at a walk: where it says yes, it keeps the validator that it was lent.
-fn accepts_walk<R: WasmModuleResources>(
-    alloc: Global,
-    frames: &mut OperatorsReaderAllocations,
-    reader: BinaryReader<'_>,
-    walk: &mut NotingWalk<'_, '_, R>,
-) -> bool
-    ensures validates { result ≡ true → Validates (R.meaning walk.old.walk.visitor.resources.now)
-        walk.old.walk.visitor.inner.now reader.entry (Ok tt) walk.new.walk.visitor.inner.now }
-    ensures lent { result ≡ true → walk.new.walk.visitor.inner.ghost_name ≡ walk.old.walk.visitor.inner.ghost_name }
-{
-    accepts_operators(alloc, frames, reader, walk)
 }
 
 /// The validator that a walk was lent. A walk ends here: taken apart in the function that made it, it would not tell the proof what the

@@ -1,13 +1,11 @@
 //! Expressions that are validated as they are read.
 //!
 //! [`validate_operators`] drives a visitor that validates ([`Validating`]) along an expression. `specs/Validating.antt` defines which
-//! bytes are accepted, and why others are refused. [`accepts_operators`] does the same, and does not say why.
+//! bytes are accepted, and why others are refused.
 #![tactic(auto)]
 
 pub mod laws;
 mod validating;
 
-pub use validating::{Refused, Validating, accepts_operators, validate_operators};
-pub use wasm_operators_reader::walks::{
-    OperatorsReaderAllocations, TellOperator, TellPlain, TellSimdOperator,
-};
+pub use validating::{Refused, Validating, validate_operators};
+pub use wasm_operators_reader::walks::{TellOperator, TellSimdOperator};

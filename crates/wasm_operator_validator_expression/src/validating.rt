@@ -9,11 +9,8 @@ ghost use Rattle.wasm_operator_validator_expression.specs.Validating.{Validates}
 
 use std::alloc::Global;
 use wasm_operator_validator_state::Refusal;
-use wasm_operators_reader::walks::{
-    OperatorsReaderAllocations, TellOperator, TellPlain, TellSimdOperator, tell_whole_with_offset,
-    tells_whole_with_vectors,
-};
-use wasm_types::{BinaryReader, Error, Result};
+use wasm_operators_reader::walks::{TellOperator, TellSimdOperator, tell_whole_with_offset};
+use wasm_types::{BinaryReader, Error, Result, Words};
 
 /// That an operator is refused. Whoever is told of operators keeps why, so that an answer is one bit.
 #[derive(Clone, Copy, Debug, PartialEq, Eq)]
@@ -21,7 +18,6 @@ pub struct Refused;
 
 /// A visitor that validates all operators, and keeps a refusal of few bytes.
 pub trait Validating<'a>: TellOperator<'a, Output = std::result::Result<(), Refused>>
-    + TellPlain<'a, Refused>
     + TellSimdOperator<'a> {
     ghost use Rattle.wasm_operator_validator_state.specs.declared.refusal.Refusal.{Refusal as Why};
     ghost use Rattle.wasm_operator_validator_expression.specs.declared.validating.Refused.{Refused as Sign};
@@ -86,7 +82,7 @@ pub fn validate_operators<'a, V: Validating<'a>>(
 {
     let whole = reader.remaining_range();
     if visitor.has_failed() {
-        return Err(Error::failed("an operator was refused before", whole.start));
+        return Err(Error::failed(Words::AnOperatorWasRefusedBefore, whole.start));
     }
     let end = match tell_whole_with_offset(alloc, reader, visitor) {
         Ok(end) => end,
@@ -107,27 +103,6 @@ pub fn validate_operators<'a, V: Validating<'a>>(
     Ok(())
 }
 
-/// Whether an expression is valid, as `validate_operators` says it, and nothing of why not: the visitor may have taken some operators then.
-/// The memory of the frames is used again.
-pub fn accepts_operators<'a, V: Validating<'a>>(
-    alloc: Global,
-    frames: &mut OperatorsReaderAllocations,
-    reader: BinaryReader<'a>,
-    visitor: &mut V,
-) -> bool
-    ensures validates { result ≡ true → Validates (V.meaning visitor.old) (V.state visitor.old) reader.entry (Ok tt)
-        (V.state visitor.new) }
-    ensures keeps { result ≡ true → V.keeps visitor.old visitor.new }
-{
-    if visitor.has_failed() {
-        return false;
-    }
-    if !tells_whole_with_vectors(alloc, frames, reader, visitor) {
-        return false;
-    }
-    visitor.is_done()
-}
-
 /// The refusal of an expression behind which a frame is still open.
 #[cold]
 fn frames_remain(offset: u64) -> Error
@@ -135,7 +110,7 @@ fn frames_remain(offset: u64) -> Error
     ensures at { result.offset ≡ offset }
 {
     Error::new(
-        "control frames remain at end of function body or expression",
+        Words::ControlFramesRemainAtEndOfFunctionBodyOrExpression,
         offset,
     )
 }

@@ -1,2 +1,3 @@
--- Proofs: classes of one code.
+-- Proofs: classes of one code, and where steps end.
 pub mod Classes
+pub mod Settling

@@ -1,6 +1,6 @@
 //! The loop.
 
-ghost use Rattle.std.specs.Prelude.{◌≡◌, ◌<◌, ◌≤◌, ◌+◌, ◌∷◌, ℕ, List, true, length, drop, take, IfSome, None};
+ghost use Rattle.std.specs.Prelude.{◌≡◌, ◌<◌, ◌≤◌, ◌+◌, ◌∷◌, ℕ, List, true, length, drop, take, IfSome, None, Some, ◌⊎◌};
 ghost use Rattle.wasm_types.specs.settings.Settings.{Settings};
 ghost use Rattle.wasm_types.specs.trees.Trees.{TypeTree};
 ghost use Rattle.wasm_operators_encoding.specs.expressions.Code.{Code};
@@ -42,6 +42,7 @@ use wasm_operator_validator_fast_objects::references::ref_func;
 use wasm_operator_validator_fast_objects::references::ref_is_null;
 use wasm_operator_validator_fast_objects::references::ref_null;
 use wasm_operator_validator_fast_objects::references::select_typed;
+use wasm_operator_validator_fast_objects::structs::near_struct_get;
 use wasm_operator_validator_fast_objects::structs::struct_get;
 use wasm_operator_validator_fast_objects::structs::struct_get_s;
 use wasm_operator_validator_fast_objects::structs::struct_get_u;
@@ -77,6 +78,7 @@ use wasm_operator_validator_fast_steps::constants::f32_const;
 use wasm_operator_validator_fast_steps::constants::f64_const;
 use wasm_operator_validator_fast_steps::constants::i32_const;
 use wasm_operator_validator_fast_steps::constants::i64_const;
+use wasm_operator_validator_fast_steps::indices::near_index_at;
 use wasm_operator_validator_fast_steps::late::late_get;
 use wasm_operator_validator_fast_steps::late::late_set;
 use wasm_operator_validator_fast_steps::late::late_tee;
@@ -89,8 +91,9 @@ use wasm_operator_validator_fast_steps::memory::memory_init;
 use wasm_operator_validator_fast_steps::memory::memory_size;
 use wasm_operator_validator_fast_steps::memory::store;
 use wasm_operator_validator_fast_steps::numbers::change;
+use wasm_operator_validator_fast_steps::numbers::change_as;
 use wasm_operator_validator_fast_steps::numbers::change_prefixed;
-use wasm_operator_validator_fast_steps::numbers::combine;
+use wasm_operator_validator_fast_steps::numbers::combine_as;
 use wasm_operator_validator_fast_steps::parametric::drop_top;
 use wasm_operator_validator_fast_steps::parametric::nop;
 use wasm_operator_validator_fast_steps::parametric::select;
@@ -113,7 +116,8 @@ use wasm_operator_validator_fast_tables::Tables;
 use wasm_operator_validator_state::FrameKind;
 use wasm_types_decoding::short_u32_at;
 
-/// Takes the next operator.
+/// Takes the next operator, or goes behind all bytes. Each arm ends in an offset of its own: an option that all share would be a flag that each
+/// of them sets, and that is asked behind them.
 #[inline(always)]
 fn next(
     tables: &Tables,
@@ -122,59 +126,134 @@ fn next(
     at: usize,
     stack: &mut Stack,
     opens: &mut Opens,
-) -> Option<usize>
+) -> usize
     requires more { at + 1 < length bytes.now }
     requires locals { locals.now ≡ take tables.now.certain tables.now.locals.items }
-    ensures leads { IfSome result (λ end. Leads bytes.now tables.now at (all opens.old) stack.old
-        end (all opens.new) stack.new) }
-    ensures forward { IfSome result (λ end. at < end) }
-    ensures inside { IfSome result (λ end. end ≤ length bytes.now) }
+    ensures leads { result < length bytes.now → Leads bytes.now tables.now at (all opens.old) stack.old
+        result (all opens.new) stack.new }
+    ensures forward { at < result }
+    ensures inside { result ≤ length bytes.now }
 {
     let code = bytes[at];
     match class_of(code) {
-        Class::Unreachable => unreachable(tables, bytes, at, stack, opens),
-        Class::Nop => nop(tables, bytes, at, stack, opens),
-        Class::Block => block(tables, bytes, at, stack, opens),
-        Class::Loop => begin_loop(tables, bytes, at, stack, opens),
-        Class::If => begin_if(tables, bytes, at, stack, opens),
-        Class::Else => turn(tables, bytes, at, stack, opens),
-        Class::End => end(tables, bytes, at, stack, opens),
-        Class::Br => br(tables, bytes, at, stack, opens),
-        Class::BrIf => br_if(tables, bytes, at, stack, opens),
-        Class::BrTable => br_table(tables, bytes, at, stack, opens),
-        Class::Return => return_all(tables, bytes, at, stack, opens),
-        Class::Call => call(tables, bytes, at, stack, opens),
-        Class::CallIndirect => call_indirect(tables, bytes, at, stack, opens),
-        Class::ReturnCall => return_call(tables, bytes, at, stack, opens),
-        Class::ReturnCallIndirect => return_call_indirect(tables, bytes, at, stack, opens),
-        Class::Drop => drop_top(tables, bytes, at, stack, opens),
-        Class::Select => select(tables, bytes, at, stack, opens),
+        Class::Unreachable => settled(unreachable(tables, bytes, at, stack, opens), bytes, opens),
+        Class::Nop => settled(nop(tables, bytes, at, stack, opens), bytes, opens),
+        Class::Block => settled(block(tables, bytes, at, stack, opens), bytes, opens),
+        Class::Loop => settled(begin_loop(tables, bytes, at, stack, opens), bytes, opens),
+        Class::If => settled(begin_if(tables, bytes, at, stack, opens), bytes, opens),
+        Class::Else => settled(turn(tables, bytes, at, stack, opens), bytes, opens),
+        Class::End => settled(end(tables, bytes, at, stack, opens), bytes, opens),
+        Class::Br => settled(br(tables, bytes, at, stack, opens), bytes, opens),
+        Class::BrIf => settled(br_if(tables, bytes, at, stack, opens), bytes, opens),
+        Class::BrTable => settled(br_table(tables, bytes, at, stack, opens), bytes, opens),
+        Class::Return => settled(return_all(tables, bytes, at, stack, opens), bytes, opens),
+        Class::Call => settled(call(tables, bytes, at, stack, opens), bytes, opens),
+        Class::CallIndirect => settled(
+            call_indirect(tables, bytes, at, stack, opens),
+            bytes,
+            opens,
+        ),
+        Class::ReturnCall => settled(return_call(tables, bytes, at, stack, opens), bytes, opens),
+        Class::ReturnCallIndirect => settled(
+            return_call_indirect(tables, bytes, at, stack, opens),
+            bytes,
+            opens,
+        ),
+        Class::Drop => settled(drop_top(tables, bytes, at, stack, opens), bytes, opens),
+        Class::Select => settled(select(tables, bytes, at, stack, opens), bytes, opens),
         Class::LocalGet => match local_at(tables, locals, bytes, at + 1) {
-            Some(local) => local_get(tables, local, bytes, at, stack, opens),
-            None => None,
+            Some(local) => settled(
+                local_get(tables, local, bytes, at, stack, opens),
+                bytes,
+                opens,
+            ),
+            None => settled(away(tables, bytes, at, stack, opens), bytes, opens),
         },
         Class::LocalSet => match local_at(tables, locals, bytes, at + 1) {
-            Some(local) => local_set(tables, local, bytes, at, stack, opens),
-            None => None,
+            Some(local) => settled(
+                local_set(tables, local, bytes, at, stack, opens),
+                bytes,
+                opens,
+            ),
+            None => settled(away(tables, bytes, at, stack, opens), bytes, opens),
         },
         Class::LocalTee => match local_at(tables, locals, bytes, at + 1) {
-            Some(local) => local_tee(tables, local, bytes, at, stack, opens),
-            None => None,
+            Some(local) => settled(
+                local_tee(tables, local, bytes, at, stack, opens),
+                bytes,
+                opens,
+            ),
+            None => settled(away(tables, bytes, at, stack, opens), bytes, opens),
         },
-        Class::GlobalGet => global_get(tables, bytes, at, stack, opens),
-        Class::GlobalSet => global_set(tables, bytes, at, stack, opens),
-        Class::MemorySize => memory_size(tables, bytes, at, stack, opens),
-        Class::MemoryGrow => memory_grow(tables, bytes, at, stack, opens),
-        Class::I32Const => i32_const(tables, bytes, at, stack, opens),
-        Class::I64Const => i64_const(tables, bytes, at, stack, opens),
-        Class::F32Const => f32_const(tables, bytes, at, stack, opens),
-        Class::F64Const => f64_const(tables, bytes, at, stack, opens),
-        Class::Prefixed => prefixed(tables, bytes, at, stack, opens),
-        Class::Load => load(code, tables, bytes, at, stack, opens),
-        Class::Store => store(code, tables, bytes, at, stack, opens),
-        Class::Change => change(code, tables, bytes, at, stack, opens),
-        Class::Combine => combine(code, tables, bytes, at, stack, opens),
-        Class::Other => away(tables, bytes, at, stack, opens),
+        Class::GlobalGet => settled(global_get(tables, bytes, at, stack, opens), bytes, opens),
+        Class::GlobalSet => settled(global_set(tables, bytes, at, stack, opens), bytes, opens),
+        Class::MemorySize => settled(memory_size(tables, bytes, at, stack, opens), bytes, opens),
+        Class::MemoryGrow => settled(memory_grow(tables, bytes, at, stack, opens), bytes, opens),
+        Class::I32Const => settled(i32_const(tables, bytes, at, stack, opens), bytes, opens),
+        Class::I64Const => settled(i64_const(tables, bytes, at, stack, opens), bytes, opens),
+        Class::F32Const => settled(f32_const(tables, bytes, at, stack, opens), bytes, opens),
+        Class::F64Const => settled(f64_const(tables, bytes, at, stack, opens), bytes, opens),
+        Class::Prefixed => settled(prefixed(tables, bytes, at, stack, opens), bytes, opens),
+        Class::Load => settled(load(code, tables, bytes, at, stack, opens), bytes, opens),
+        Class::Store => settled(store(code, tables, bytes, at, stack, opens), bytes, opens),
+        Class::Change => settled(change(code, tables, bytes, at, stack, opens), bytes, opens),
+        Class::LoadI32 => settled(load(0x28, tables, bytes, at, stack, opens), bytes, opens),
+        Class::LoadI64 => settled(load(0x29, tables, bytes, at, stack, opens), bytes, opens),
+        Class::LoadByte => settled(load(0x2d, tables, bytes, at, stack, opens), bytes, opens),
+        Class::StoreI32 => settled(store(0x36, tables, bytes, at, stack, opens), bytes, opens),
+        Class::StoreI64 => settled(store(0x37, tables, bytes, at, stack, opens), bytes, opens),
+        Class::ChangeI32 => settled(
+            change_as(0, 0, code, tables, bytes, at, stack, opens),
+            bytes,
+            opens,
+        ),
+        Class::Shorten => settled(
+            change_as(1, 0, code, tables, bytes, at, stack, opens),
+            bytes,
+            opens,
+        ),
+        Class::Lengthen => settled(
+            change_as(0, 1, code, tables, bytes, at, stack, opens),
+            bytes,
+            opens,
+        ),
+        Class::CombineI32 => settled(
+            combine_as(0, 0, code, tables, bytes, at, stack, opens),
+            bytes,
+            opens,
+        ),
+        Class::CombineI64 => settled(
+            combine_as(1, 1, code, tables, bytes, at, stack, opens),
+            bytes,
+            opens,
+        ),
+        Class::CombineF32 => settled(
+            combine_as(2, 2, code, tables, bytes, at, stack, opens),
+            bytes,
+            opens,
+        ),
+        Class::CombineF64 => settled(
+            combine_as(3, 3, code, tables, bytes, at, stack, opens),
+            bytes,
+            opens,
+        ),
+        Class::CompareI64 => settled(
+            combine_as(1, 0, code, tables, bytes, at, stack, opens),
+            bytes,
+            opens,
+        ),
+        Class::CompareF32 => settled(
+            combine_as(2, 0, code, tables, bytes, at, stack, opens),
+            bytes,
+            opens,
+        ),
+        Class::CompareF64 => settled(
+            combine_as(3, 0, code, tables, bytes, at, stack, opens),
+            bytes,
+            opens,
+        ),
+        Class::Object => settled(near_object(tables, bytes, at, stack, opens), bytes, opens),
+        Class::Other => settled(away(tables, bytes, at, stack, opens), bytes, opens),
     }
 }
 
@@ -200,7 +279,7 @@ fn away(
     end
 }
 
-/// Takes an operator on references, objects, exceptions, tables, segments or vectors, or an atomic one.
+/// Takes an operator on references, objects, exceptions, tables, segments or vectors, an atomic one, or one on locals that may have no value.
 #[inline(never)]
 fn referring(
     tables: &Tables,
@@ -223,6 +302,9 @@ fn referring(
         0x15 => return_call_ref(tables, bytes, at, stack, opens),
         0x1c => select_typed(tables, bytes, at, stack, opens),
         0x1f => try_table(tables, bytes, at, stack, opens),
+        0x20 => late_get(tables, bytes, at, stack, opens),
+        0x21 => late_set(tables, bytes, at, stack, opens),
+        0x22 => late_tee(tables, bytes, at, stack, opens),
         0x25 => table_get(tables, bytes, at, stack, opens),
         0x26 => table_set(tables, bytes, at, stack, opens),
         0xd0 => ref_null(tables, bytes, at, stack, opens),
@@ -287,6 +369,36 @@ fn object(
         0x1d => i31_get(true, middle, tables, bytes, at, stack, opens),
         0x1e => i31_get(false, middle, tables, bytes, at, stack, opens),
         _ => None,
+    }
+}
+
+/// Takes an operator behind the prefix `fb`: reads of structures, which are the most frequent, in the loop.
+#[inline(always)]
+fn near_object(
+    tables: &Tables,
+    bytes: &[u8],
+    at: usize,
+    stack: &mut Stack,
+    opens: &mut Opens,
+) -> Option<usize>
+    requires begins { Begins bytes.now at 0xfb }
+    requires more { at + 1 < length bytes.now }
+    ensures leads { IfSome result (λ end. Leads bytes.now tables.now at (all opens.old) stack.old
+        end (all opens.new) stack.new) }
+    ensures forward { IfSome result (λ end. at < end) }
+    ensures inside { IfSome result (λ end. end ≤ length bytes.now) }
+{
+    let Some((code, middle)) = near_index_at(bytes, at + 1) else {
+        return None;
+    };
+    match code {
+        0x02 => {
+            if middle >= bytes.len() {
+                return None;
+            }
+            near_struct_get(middle, tables, bytes, at, stack, opens)
+        }
+        _ => away(tables, bytes, at, stack, opens),
     }
 }
 
@@ -359,24 +471,12 @@ fn behind(bytes: &[u8], opens: &mut Opens) -> usize
     bytes.len()
 }
 
-/// Takes the next operator, or goes behind all bytes. So each turn asks for the offset alone.
+/// The offset at which a step ended, or the one behind all bytes. So each turn asks for the offset alone.
 #[inline(always)]
-fn step(
-    tables: &Tables,
-    locals: &[u32],
-    bytes: &[u8],
-    at: usize,
-    stack: &mut Stack,
-    opens: &mut Opens,
-) -> usize
-    requires more { at + 1 < length bytes.now }
-    requires locals { locals.now ≡ take tables.now.certain tables.now.locals.items }
-    ensures leads { result < length bytes.now → Leads bytes.now tables.now at (all opens.old) stack.old
-        result (all opens.new) stack.new }
-    ensures forward { at < result }
-    ensures inside { result ≤ length bytes.now }
+fn settled(end: Option<usize>, bytes: &[u8], opens: &mut Opens) -> usize
+    ensures { (result ≡ length bytes.now) ⊎ ((end ≡ Some result) × (opens.new ≡ opens.old)) }
 {
-    match next(tables, locals, bytes, at, stack, opens) {
+    match end {
         Some(end) => end,
         None => behind(bytes, opens),
     }
@@ -385,123 +485,6 @@ fn step(
 /// Takes all operators.
 #[inline(always)]
 fn run(tables: &Tables, bytes: &[u8], start: usize, stack: &mut Stack, opens: &mut Opens) -> bool
-    requires inside { start ≤ length bytes.now }
-    requires sure { length tables.now.locals.items ≤ tables.now.certain }
-    ensures { result ≡ true → (ids : List TypeTree) (z : Settings) (g : Context) → Fits ids z bytes.now tables.now g
-        → Goes ids z bytes.now tables.now g start (all opens.old) stack.old }
-{
-    if bytes.len() == 0 {
-        return false;
-    }
-    let last = bytes.len() - 1;
-    let locals = tables.locals.as_slice();
-    let mut at = start;
-    while at < last {
-        at = step(tables, locals, bytes, at, stack, opens);
-    }
-    finish(tables, bytes, at, stack, opens)
-}
-
-/// Takes an operator on locals, which may have no value.
-#[inline(never)]
-fn late_at(
-    tables: &Tables,
-    bytes: &[u8],
-    at: usize,
-    stack: &mut Stack,
-    opens: &mut Opens,
-) -> Option<usize>
-    requires { at < length bytes.now }
-    ensures leads { IfSome result (λ end. Leads bytes.now tables.now at (all opens.old) stack.old
-        end (all opens.new) stack.new) }
-    ensures forward { IfSome result (λ end. at < end) }
-    ensures inside { IfSome result (λ end. end ≤ length bytes.now) }
-{
-    match bytes[at] {
-        0x20 => late_get(tables, bytes, at, stack, opens),
-        0x21 => late_set(tables, bytes, at, stack, opens),
-        0x22 => late_tee(tables, bytes, at, stack, opens),
-        _ => None,
-    }
-}
-
-/// The same, with the operands as in [`away`].
-#[inline(always)]
-fn late(
-    tables: &Tables,
-    bytes: &[u8],
-    at: usize,
-    stack: &mut Stack,
-    opens: &mut Opens,
-) -> Option<usize>
-    requires { at < length bytes.now }
-    ensures leads { IfSome result (λ end. Leads bytes.now tables.now at (all opens.old) stack.old
-        end (all opens.new) stack.new) }
-    ensures forward { IfSome result (λ end. at < end) }
-    ensures inside { IfSome result (λ end. end ≤ length bytes.now) }
-{
-    let mut own = mem::replace(stack, Stack::new(*tables.known.flat.allocator()));
-    let end = late_at(tables, bytes, at, &mut own, opens);
-    *stack = own;
-    end
-}
-
-/// Takes the next operator of a body with locals that may have no value.
-#[inline(always)]
-fn next_late(
-    tables: &Tables,
-    locals: &[u32],
-    bytes: &[u8],
-    at: usize,
-    stack: &mut Stack,
-    opens: &mut Opens,
-) -> Option<usize>
-    requires more { at + 1 < length bytes.now }
-    requires locals { locals.now ≡ take tables.now.certain tables.now.locals.items }
-    ensures leads { IfSome result (λ end. Leads bytes.now tables.now at (all opens.old) stack.old
-        end (all opens.new) stack.new) }
-    ensures forward { IfSome result (λ end. at < end) }
-    ensures inside { IfSome result (λ end. end ≤ length bytes.now) }
-{
-    let code = bytes[at];
-    if code >= 0x20 && code <= 0x22 {
-        return late(tables, bytes, at, stack, opens);
-    }
-    next(tables, locals, bytes, at, stack, opens)
-}
-
-/// Takes the next operator of such a body, or goes behind all bytes.
-#[inline(always)]
-fn step_late(
-    tables: &Tables,
-    locals: &[u32],
-    bytes: &[u8],
-    at: usize,
-    stack: &mut Stack,
-    opens: &mut Opens,
-) -> usize
-    requires more { at + 1 < length bytes.now }
-    requires locals { locals.now ≡ take tables.now.certain tables.now.locals.items }
-    ensures leads { result < length bytes.now → Leads bytes.now tables.now at (all opens.old) stack.old
-        result (all opens.new) stack.new }
-    ensures forward { at < result }
-    ensures inside { result ≤ length bytes.now }
-{
-    match next_late(tables, locals, bytes, at, stack, opens) {
-        Some(end) => end,
-        None => behind(bytes, opens),
-    }
-}
-
-/// Takes all operators of such a body. It is apart from [`run`], where an operator on locals is one on locals that have values.
-#[inline(always)]
-fn run_late(
-    tables: &Tables,
-    bytes: &[u8],
-    start: usize,
-    stack: &mut Stack,
-    opens: &mut Opens,
-) -> bool
     requires { start ≤ length bytes.now }
     ensures { result ≡ true → (ids : List TypeTree) (z : Settings) (g : Context) → Fits ids z bytes.now tables.now g
         → Goes ids z bytes.now tables.now g start (all opens.old) stack.old }
@@ -513,7 +496,7 @@ fn run_late(
     let locals = &tables.locals.as_slice()[..tables.certain];
     let mut at = start;
     while at < last {
-        at = step_late(tables, locals, bytes, at, stack, opens);
+        at = next(tables, locals, bytes, at, stack, opens);
     }
     finish(tables, bytes, at, stack, opens)
 }
@@ -536,11 +519,12 @@ fn body_frame(results: Sig) -> Open
     }
 }
 
-/// What bodies are judged in: operands and frames, in memory that the next body uses again.
+/// What bodies are judged in: operands and frames, in memory that the next body uses again; and whether the last body was refused memory.
 #[derive(Drop)]
 pub struct Room {
     stack: Stack,
     frames: Pile<Open>,
+    lacks: bool,
     alloc: Global,
 }
 
@@ -550,58 +534,41 @@ impl Room {
         Room {
             stack: Stack::new(alloc),
             frames: Pile::new(alloc),
+            lacks: false,
             alloc,
         }
     }
 
     /// Whether the bytes from an offset on spell the body of a function, as these tables tell of it. It may say no of one that they do
-    /// spell.
+    /// spell: [`Room::lacks_memory`] tells whether for want of memory.
     pub fn accepts(&mut self, tables: &Tables, bytes: &[u8], start: usize) -> bool
         requires { start ≤ length bytes.now }
         ensures { result ≡ true → (ids : List TypeTree) (z : Settings) (g : Context) → Fits ids z bytes.now tables.now g
             → (params : ℕ) → BeginSet tables.now params
             → (c : Code) × SpelledExpression z c (drop start bytes.now) × IsBody g params c }
     {
-        if tables.certain < tables.locals.as_slice().len() {
-            return self.accepts_late(tables, bytes, start);
-        }
         // a body that has more operands at a time is left to the validator of operators
         let places = (bytes.len() - start + 64).min(8192);
         if !self.stack.begin(places) {
+            self.lacks = true;
             return false;
         }
         // taken out, so that no pointer leads to what the loop counts by, and it can stay in registers
         let frames = mem::replace(&mut self.frames, Pile::new(self.alloc));
         let Some(mut opens) = Opens::begin(frames, body_frame(tables.results)) else {
+            self.lacks = true;
             return false;
         };
         let mut stack = mem::replace(&mut self.stack, Stack::new(self.alloc));
         let valid = run(tables, bytes, start, &mut stack, &mut opens);
         self.stack = stack;
         self.frames = opens.into_memory();
+        self.lacks = self.frames.lacks_memory();
         valid
     }
 
-    /// The same of a body with locals that may have no value.
-    #[inline(never)]
-    fn accepts_late(&mut self, tables: &Tables, bytes: &[u8], start: usize) -> bool
-        requires { start ≤ length bytes.now }
-        ensures { result ≡ true → (ids : List TypeTree) (z : Settings) (g : Context) → Fits ids z bytes.now tables.now g
-            → (params : ℕ) → BeginSet tables.now params
-            → (c : Code) × SpelledExpression z c (drop start bytes.now) × IsBody g params c }
-    {
-        let places = (bytes.len() - start + 64).min(8192);
-        if !self.stack.begin(places) {
-            return false;
-        }
-        let frames = mem::replace(&mut self.frames, Pile::new(self.alloc));
-        let Some(mut opens) = Opens::begin(frames, body_frame(tables.results)) else {
-            return false;
-        };
-        let mut stack = mem::replace(&mut self.stack, Stack::new(self.alloc));
-        let valid = run_late(tables, bytes, start, &mut stack, &mut opens);
-        self.stack = stack;
-        self.frames = opens.into_memory();
-        valid
+    /// Whether a growth was refused while the last body was judged.
+    pub fn lacks_memory(&self) -> bool {
+        self.lacks
     }
 }

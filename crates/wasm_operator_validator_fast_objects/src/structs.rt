@@ -13,7 +13,7 @@ ghost use Rattle.wasm_operator_validator_fast_objects.specs.Objects.{
   HaveDefaults,
 };
 
-use wasm_operator_validator_fast_steps::indices::index_at;
+use wasm_operator_validator_fast_steps::indices::{index_at, near_index_at};
 use wasm_operator_validator_fast_tables::{
     Defined, Field, NO_CODE, Opens, Order, Stack, Tables, has_default,
 };
@@ -92,6 +92,60 @@ fn field_named(tables: &Tables, bytes: &[u8], at: usize) -> Option<(u32, Field, 
         return None;
     }
     Some((code, fields[place], end))
+}
+
+// The same in the loop, since structures are mostly read.
+#[inline(always)]
+fn near_field_named(tables: &Tables, bytes: &[u8], at: usize) -> Option<(u32, Field, usize)>
+    requires { at < length bytes.now }
+    ensures { IfSome result (λ r. NamesField bytes.now tables.now at r.0 r.1 r.2) }
+{
+    let Some((index, middle)) = near_index_at(bytes, at) else {
+        return None;
+    };
+    let Some((code, fields)) = struct_at(tables, index) else {
+        return None;
+    };
+    if middle >= bytes.len() {
+        return None;
+    }
+    let Some((place, end)) = near_index_at(bytes, middle) else {
+        return None;
+    };
+    let place = place as usize;
+    if place >= fields.len() {
+        return None;
+    }
+    Some((code, fields[place], end))
+}
+
+/// A field is read that is not packed, in the loop.
+#[inline(always)]
+pub fn near_struct_get(
+    middle: usize,
+    tables: &Tables,
+    bytes: &[u8],
+    at: usize,
+    stack: &mut Stack,
+    opens: &Opens,
+) -> Option<usize>
+    requires begins { BeginsPrefixed bytes.now at 0xfb 0x02 middle }
+    requires more { middle < length bytes.now }
+    ensures leads { IfSome result (λ end. Leads bytes.now tables.now at (all opens.now) stack.old
+        end (all opens.now) stack.new) }
+    ensures forward { IfSome result (λ end. at < end) }
+    ensures inside { IfSome result (λ end. end ≤ length bytes.now) }
+{
+    let Some((code, field, end)) = near_field_named(tables, bytes, middle) else {
+        return None;
+    };
+    if field.packed
+        || !stack.change_below(&tables.known.order, code)
+        || !stack.change(code, field.code)
+    {
+        return None;
+    }
+    Some(end)
 }
 
 /// A field is read that is not packed.

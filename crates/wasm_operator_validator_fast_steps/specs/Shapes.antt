@@ -54,7 +54,7 @@ pub record IsAccessAt (kind : Number → Access) (code natural ty : ℕ) : Type 
       → TableRow g (op.Memory (operator a)) popped pushed
       → GroupRow g set (op.Memory (operator a)) popped pushed
 
--- a code of one byte has this class, which may be one of several codes
+-- a code of one byte has this class: it is that of one operator, or what it takes and gives is known
 abbrev pub IsClass : Class → ℕ → Type 0
 IsClass class.Unreachable code = code ≡ 0x00
 IsClass class.Nop code = code ≡ 0x01
@@ -85,6 +85,22 @@ IsClass class.I64Const code = code ≡ 0x42
 IsClass class.F32Const code = code ≡ 0x43
 IsClass class.F64Const code = code ≡ 0x44
 IsClass class.Prefixed code = code ≡ 0xfc
+IsClass class.Object code = code ≡ 0xfb
+IsClass class.LoadI32 code = code ≡ 0x28
+IsClass class.LoadI64 code = code ≡ 0x29
+IsClass class.LoadByte code = code ≡ 0x2d
+IsClass class.StoreI32 code = code ≡ 0x36
+IsClass class.StoreI64 code = code ≡ 0x37
+IsClass class.ChangeI32 code = IsNumberAt None code (0 ∷ []) (0 ∷ [])
+IsClass class.Shorten code = IsNumberAt None code (1 ∷ []) (0 ∷ [])
+IsClass class.Lengthen code = IsNumberAt None code (0 ∷ []) (1 ∷ [])
+IsClass class.CombineI32 code = IsNumberAt None code (0 ∷ 0 ∷ []) (0 ∷ [])
+IsClass class.CombineI64 code = IsNumberAt None code (1 ∷ 1 ∷ []) (1 ∷ [])
+IsClass class.CombineF32 code = IsNumberAt None code (2 ∷ 2 ∷ []) (2 ∷ [])
+IsClass class.CombineF64 code = IsNumberAt None code (3 ∷ 3 ∷ []) (3 ∷ [])
+IsClass class.CompareI64 code = IsNumberAt None code (1 ∷ 1 ∷ []) (0 ∷ [])
+IsClass class.CompareF32 code = IsNumberAt None code (2 ∷ 2 ∷ []) (0 ∷ [])
+IsClass class.CompareF64 code = IsNumberAt None code (3 ∷ 3 ∷ []) (0 ∷ [])
 IsClass _ code = Unit {0}
 
 -- what an argument begins with stands from one offset to another: its flags, and the index of a memory if they name one; an offset is to follow

@@ -35,6 +35,7 @@ pub(crate) fn tables_of<R: WasmModuleResources>(
     alloc: Global,
     resources: &R,
     most: u32,
+    lacks: &mut bool,
 ) -> Vec<Indexed>
     ensures { let m = R.meaning resources.now in AreTablesIn m.ids m.«module» result.items }
 {
@@ -44,6 +45,7 @@ pub(crate) fn tables_of<R: WasmModuleResources>(
             return tables;
         };
         let Ok(()) = tables.push(indexed_of(table)) else {
+            *lacks = true;
             return tables;
         };
     }
@@ -55,6 +57,7 @@ pub(crate) fn elements_of<R: WasmModuleResources>(
     alloc: Global,
     resources: &R,
     most: u32,
+    lacks: &mut bool,
 ) -> Vec<u32>
     ensures { let m = R.meaning resources.now in AreElementsIn m.ids m.«module» result.items }
 {
@@ -64,6 +67,7 @@ pub(crate) fn elements_of<R: WasmModuleResources>(
             return elements;
         };
         let Ok(()) = elements.push(code_of_reference(ty)) else {
+            *lacks = true;
             return elements;
         };
     }
@@ -75,6 +79,7 @@ pub(crate) fn memories_of<R: WasmModuleResources>(
     alloc: Global,
     resources: &R,
     most: u32,
+    lacks: &mut bool,
 ) -> Vec<u32>
     ensures { AreMemoriesIn (R.meaning resources.now).«module» result.items }
 {
@@ -84,6 +89,7 @@ pub(crate) fn memories_of<R: WasmModuleResources>(
             return memories;
         };
         let Ok(()) = memories.push(address_of(memory.memory64)) else {
+            *lacks = true;
             return memories;
         };
     }

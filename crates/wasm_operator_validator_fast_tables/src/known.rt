@@ -23,12 +23,18 @@ use wasm_types::{AbstractHeapType, HeapType, RefType, ValType};
 // The tables have room for the codes that stand for themselves.
 const LEAST: u32 = 64;
 
-/// What bodies ask of a module, as far as so many entries of each table tell. None if there is no memory for the least.
-pub fn known_of<R: WasmModuleResources>(alloc: Global, resources: &R, most: u32) -> Option<Known>
+/// What bodies ask of a module, as far as so many entries of each table tell and there is memory. None if there is no memory for the least, or so
+/// many entries are too few or too many. If a growth was refused, `lacks` is set.
+pub fn known_of<R: WasmModuleResources>(
+    alloc: Global,
+    resources: &R,
+    most: u32,
+    lacks: &mut bool,
+) -> Option<Known>
     ensures { let m = R.meaning resources.now in IfSome result (Knows m.ids m.«module») }
 {
     let mut flat = Vec::new(alloc);
-    if most < LEAST || most >= NO_CODE || !put_alone(&mut flat) {
+    if most < LEAST || most >= NO_CODE || !put_alone(&mut flat, lacks) {
         return None;
     }
     let mut named = Vec::new(alloc);
@@ -41,27 +47,28 @@ pub fn known_of<R: WasmModuleResources>(alloc: Global, resources: &R, most: u32)
         &mut named,
         &mut fields,
         &mut steps,
+        lacks,
     );
     let mut types = Vec::new(alloc);
-    sign_all(resources, &mut flat, &mut types, most);
+    sign_all(resources, &mut flat, &mut types, most, lacks);
     let mut tags = Vec::new(alloc);
-    sign_tags(resources, &mut flat, &mut tags, most);
-    let functions = functions_of(alloc, resources, most);
-    let callees = callees_of(alloc, functions.as_slice(), types.as_slice());
+    sign_tags(resources, &mut flat, &mut tags, most, lacks);
+    let functions = functions_of(alloc, resources, most, lacks);
+    let callees = callees_of(alloc, functions.as_slice(), types.as_slice(), lacks);
     Some(Known {
         flat,
         types,
         named,
         fields,
         order: Order::new(steps),
-        referenced: referenced_of(alloc, resources, functions.as_slice().len() as u32),
+        referenced: referenced_of(alloc, resources, functions.as_slice().len() as u32, lacks),
         functions,
         callees,
-        globals: globals_of(alloc, resources, most),
+        globals: globals_of(alloc, resources, most, lacks),
         tags,
-        tables: tables_of(alloc, resources, most),
-        elements: elements_of(alloc, resources, most),
-        memories: memories_of(alloc, resources, most),
+        tables: tables_of(alloc, resources, most, lacks),
+        elements: elements_of(alloc, resources, most, lacks),
+        memories: memories_of(alloc, resources, most, lacks),
         data: data_of(resources),
         memory: first_memory(resources),
         table: first_table(resources),
@@ -69,13 +76,14 @@ pub fn known_of<R: WasmModuleResources>(alloc: Global, resources: &R, most: u32)
 }
 
 // The codes of numbers and of abstract types, each at its own place.
-fn put_alone(flat: &mut Vec<u32>) -> bool
+fn put_alone(flat: &mut Vec<u32>, lacks: &mut bool) -> bool
     requires { flat.old.items ≡ [] }
     ensures alone { result ≡ true → StandAlone flat.new.items }
     ensures many { result ≡ true → length flat.new.items ≡ 40 }
 {
     for code in 0..DEFINED {
         let Ok(()) = flat.push(code) else {
+            *lacks = true;
             return false;
         };
     }
@@ -83,7 +91,7 @@ fn put_alone(flat: &mut Vec<u32>) -> bool
 }
 
 // Puts the codes of types behind the others, if all have codes.
-pub(crate) fn put_codes(flat: &mut Vec<u32>, written: &[ValType]) -> bool
+pub(crate) fn put_codes(flat: &mut Vec<u32>, written: &[ValType], lacks: &mut bool) -> bool
     ensures codes { result ≡ true → (cs : List ℕ) × (flat.new.items ≡ flat.old.items ++ cs)
         × ((m : Meaning) → types_in m written.now ≡ types m.ids cs) }
     ensures more { IsMore flat.old.items flat.new.items (length written.now) }
@@ -94,6 +102,7 @@ pub(crate) fn put_codes(flat: &mut Vec<u32>, written: &[ValType]) -> bool
             return false;
         }
         let Ok(()) = flat.push(code) else {
+            *lacks = true;
             return false;
         };
     }
@@ -113,7 +122,13 @@ pub(crate) fn unusable() -> Sig
 }
 
 // The signature of the type at an index, with its types behind the other codes, if codes stand for all and there is room for them.
-fn sig_of<R: WasmModuleResources>(resources: &R, at: u32, flat: &mut Vec<u32>, most: u32) -> Sig
+fn sig_of<R: WasmModuleResources>(
+    resources: &R,
+    at: u32,
+    flat: &mut Vec<u32>,
+    most: u32,
+    lacks: &mut bool,
+) -> Sig
     requires { length flat.old.items ≤ most }
     ensures sig { IsSigIn (R.meaning resources.now).ids (R.meaning resources.now).«module» flat.new.items at result }
     ensures more { IsMore flat.old.items flat.new.items (most - length flat.old.items) }
@@ -128,11 +143,11 @@ fn sig_of<R: WasmModuleResources>(resources: &R, at: u32, flat: &mut Vec<u32>, m
         return unusable();
     }
     let from = flat.as_slice().len();
-    if !put_codes(flat, params) {
+    if !put_codes(flat, params, lacks) {
         return unusable();
     }
     let middle = flat.as_slice().len();
-    if !put_codes(flat, results) {
+    if !put_codes(flat, results, lacks) {
         return unusable();
     }
     Sig {
@@ -149,6 +164,7 @@ fn sign_all<R: WasmModuleResources>(
     flat: &mut Vec<u32>,
     types: &mut Vec<Sig>,
     most: u32,
+    lacks: &mut bool,
 )
     requires none { types.old.items ≡ [] }
     requires within { length flat.old.items ≤ most }
@@ -160,15 +176,21 @@ fn sign_all<R: WasmModuleResources>(
         if resources.sub_type_at(at).is_none() {
             return;
         }
-        let sig = sig_of(resources, at, flat, most);
+        let sig = sig_of(resources, at, flat, most, lacks);
         let Ok(()) = types.push(sig) else {
+            *lacks = true;
             return;
         };
     }
 }
 
 // Functions by the indices of their types, as far as there is memory.
-fn functions_of<R: WasmModuleResources>(alloc: Global, resources: &R, most: u32) -> Vec<u32>
+fn functions_of<R: WasmModuleResources>(
+    alloc: Global,
+    resources: &R,
+    most: u32,
+    lacks: &mut bool,
+) -> Vec<u32>
     ensures types { AreFunctionsIn (R.meaning resources.now).«module» result.items }
     ensures few { length result.items ≤ most }
 {
@@ -178,6 +200,7 @@ fn functions_of<R: WasmModuleResources>(alloc: Global, resources: &R, most: u32)
             return functions;
         };
         let Ok(()) = functions.push(ty) else {
+            *lacks = true;
             return functions;
         };
     }
@@ -185,7 +208,7 @@ fn functions_of<R: WasmModuleResources>(alloc: Global, resources: &R, most: u32)
 }
 
 // Functions by their signatures, as far as there is memory: so a call looks up one thing and not two.
-fn callees_of(alloc: Global, functions: &[u32], types: &[Sig]) -> Vec<Sig>
+fn callees_of(alloc: Global, functions: &[u32], types: &[Sig], lacks: &mut bool) -> Vec<Sig>
     ensures { AreCalleesOf functions.now types.now result.items }
 {
     let mut callees = Vec::new(alloc);
@@ -195,6 +218,7 @@ fn callees_of(alloc: Global, functions: &[u32], types: &[Sig]) -> Vec<Sig>
             return callees;
         }
         let Ok(()) = callees.push(types[ty]) else {
+            *lacks = true;
             return callees;
         };
     }
@@ -202,13 +226,19 @@ fn callees_of(alloc: Global, functions: &[u32], types: &[Sig]) -> Vec<Sig>
 }
 
 // Whether code may refer to each of so many functions, as far as there is memory.
-fn referenced_of<R: WasmModuleResources>(alloc: Global, resources: &R, count: u32) -> Vec<bool>
+fn referenced_of<R: WasmModuleResources>(
+    alloc: Global,
+    resources: &R,
+    count: u32,
+    lacks: &mut bool,
+) -> Vec<bool>
     ensures { AreReferencedIn (R.meaning resources.now).«module» result.items }
 {
     let mut referenced = Vec::new(alloc);
     for at in 0..count {
         let may = resources.is_function_referenced(at);
         let Ok(()) = referenced.push(may) else {
+            *lacks = true;
             return referenced;
         };
     }
@@ -216,7 +246,12 @@ fn referenced_of<R: WasmModuleResources>(alloc: Global, resources: &R, count: u3
 }
 
 // Globals, as far as there is memory.
-fn globals_of<R: WasmModuleResources>(alloc: Global, resources: &R, most: u32) -> Vec<Held>
+fn globals_of<R: WasmModuleResources>(
+    alloc: Global,
+    resources: &R,
+    most: u32,
+    lacks: &mut bool,
+) -> Vec<Held>
     ensures { let m = R.meaning resources.now in AreGlobalsIn m.ids m.«module» result.items }
 {
     let mut globals = Vec::new(alloc);
@@ -229,6 +264,7 @@ fn globals_of<R: WasmModuleResources>(alloc: Global, resources: &R, most: u32) -
             mutable: global.mutable,
         };
         let Ok(()) = globals.push(held) else {
+            *lacks = true;
             return globals;
         };
     }

@@ -17,12 +17,13 @@ use wasm_operator_validator_state::WasmModuleResources;
 use wasm_types::{CompositeInnerType, FieldType, HeapType, SubType, UnpackedIndex};
 
 // A step of each abstract heap type, by its number, as far as there is memory.
-fn put_abstract(steps: &mut Vec<Step>) -> bool
+fn put_abstract(steps: &mut Vec<Step>, lacks: &mut bool) -> bool
     requires { steps.old.items ≡ [] }
     ensures { (ids : List TypeTree) → AreSteps ids steps.new.items }
 {
     for number in 0..16u32 {
         let Ok(()) = steps.push(abstract_step(number)) else {
+            *lacks = true;
             return false;
         };
     }
@@ -101,6 +102,7 @@ pub(crate) fn name_all<R: WasmModuleResources>(
     named: &mut Vec<Named>,
     fields: &mut Vec<Field>,
     steps: &mut Vec<Step>,
+    lacks: &mut bool,
 )
     requires alone { StandAlone flat.old.items }
     requires begun { length flat.old.items ≡ 40 }
@@ -113,7 +115,7 @@ pub(crate) fn name_all<R: WasmModuleResources>(
     ensures within { length flat.new.items ≤ most }
     ensures steps { AreSteps (R.meaning resources.now).ids steps.new.items }
 {
-    if !put_abstract(steps) {
+    if !put_abstract(steps, lacks) {
         return;
     }
     for at in 0..most {
@@ -123,18 +125,18 @@ pub(crate) fn name_all<R: WasmModuleResources>(
         if flat.as_slice().len() + 2 > most as usize || fields.as_slice().len() >= most as usize {
             return;
         }
-        let it = named_of(resources, at, ty, fields);
-        if !put_step(resources, at, ty, it, most, steps) {
+        let it = named_of(resources, at, ty, fields, lacks);
+        if !put_step(resources, at, ty, it, most, steps, lacks) {
             return;
         }
-        if !put_named(it, flat, named) {
+        if !put_named(it, flat, named, lacks) {
             return;
         }
     }
 }
 
 // A type behind those that are named, and its codes behind the others.
-fn put_named(it: Named, flat: &mut Vec<u32>, named: &mut Vec<Named>) -> bool
+fn put_named(it: Named, flat: &mut Vec<u32>, named: &mut Vec<Named>, lacks: &mut bool) -> bool
     requires { length flat.old.items ≡ 40 + 2 * length named.old.items }
     ensures placed { ArePlacedIn flat.old.items named.old.items → ArePlacedIn flat.new.items named.new.items }
     ensures more { IsMore flat.old.items flat.new.items 2 }
@@ -143,12 +145,15 @@ fn put_named(it: Named, flat: &mut Vec<u32>, named: &mut Vec<Named>) -> bool
     ensures none { result ≡ false → named.new.items ≡ named.old.items }
 {
     let Ok(()) = flat.push(it.code) else {
+        *lacks = true;
         return false;
     };
     let Ok(()) = flat.push(code_after(it.code)) else {
+        *lacks = true;
         return false;
     };
     let Ok(()) = named.push(it) else {
+        *lacks = true;
         return false;
     };
     true
@@ -188,6 +193,7 @@ fn named_of<R: WasmModuleResources>(
     at: u32,
     ty: &SubType,
     fields: &mut Vec<Field>,
+    lacks: &mut bool,
 ) -> Named
     requires { let m = R.meaning resources.now in
         Some (entry_in m ty.now) ≡ option_map opened (slice_get m.«module».types at) }
@@ -208,12 +214,12 @@ fn named_of<R: WasmModuleResources>(
     }
     Named {
         code,
-        defined: defined_of(&ty.composite_type.inner, fields),
+        defined: defined_of(&ty.composite_type.inner, fields, lacks),
     }
 }
 
 // What a type is, with its fields behind the others.
-fn defined_of(inner: &CompositeInnerType, fields: &mut Vec<Field>) -> Defined
+fn defined_of(inner: &CompositeInnerType, fields: &mut Vec<Field>, lacks: &mut bool) -> Defined
     ensures is { (m : Meaning) → IsDefined m.ids fields.new.items (inner_in m inner.now) result }
     ensures more { IsLonger fields.old.items fields.new.items }
 {
@@ -225,7 +231,7 @@ fn defined_of(inner: &CompositeInnerType, fields: &mut Vec<Field>) -> Defined
             if from >= NO_CODE as usize || count >= NO_CODE as usize {
                 return Defined::Other;
             }
-            if !put_fields(it.fields.as_slice(), fields) {
+            if !put_fields(it.fields.as_slice(), fields, lacks) {
                 return Defined::Other;
             }
             Defined::Struct(from as u32, count as u32)
@@ -253,7 +259,7 @@ fn field_of(field: &FieldType) -> Field
 }
 
 // Puts fields behind the others, if codes stand for what is read of all of them.
-fn put_fields(written: &[FieldType], fields: &mut Vec<Field>) -> bool
+fn put_fields(written: &[FieldType], fields: &mut Vec<Field>, lacks: &mut bool) -> bool
     ensures fields { result ≡ true → (fs : List Field) × (fields.new.items ≡ fields.old.items ++ fs)
         × ((m : Meaning) → AreFields m.ids (fields_in m written.now) fs) }
     ensures more { IsLonger fields.old.items fields.new.items }
@@ -264,6 +270,7 @@ fn put_fields(written: &[FieldType], fields: &mut Vec<Field>) -> bool
             return false;
         }
         let Ok(()) = fields.push(it) else {
+            *lacks = true;
             return false;
         };
     }
@@ -282,6 +289,7 @@ fn put_step<R: WasmModuleResources>(
     it: Named,
     most: u32,
     steps: &mut Vec<Step>,
+    lacks: &mut bool,
 ) -> bool
     requires there { let m = R.meaning resources.now in
         Some (entry_in m ty.now) ≡ option_map opened (slice_get m.«module».types at) }
@@ -300,7 +308,7 @@ fn put_step<R: WasmModuleResources>(
     if place / STEPS_AN_ENTRY >= most as usize {
         return true;
     }
-    if !lengthen(steps, place) {
+    if !lengthen(steps, place, lacks) {
         return false;
     }
     let (far, depth) = far_above(steps.as_slice(), step.above);
@@ -342,7 +350,7 @@ fn is_halfway(low: u32, middle: u32, high: u32) -> bool {
 }
 
 // Steps that lead nowhere, up to a place.
-fn lengthen(steps: &mut Vec<Step>, place: usize) -> bool
+fn lengthen(steps: &mut Vec<Step>, place: usize, lacks: &mut bool) -> bool
     ensures steps { (ids : List TypeTree) → AreSteps ids steps.old.items → AreSteps ids steps.new.items }
     ensures there { result ≡ true → place < length steps.new.items }
 {
@@ -358,6 +366,7 @@ fn lengthen(steps: &mut Vec<Step>, place: usize) -> bool
             far: at,
             depth: 0,
         }) else {
+            *lacks = true;
             return false;
         };
     }

@@ -5,11 +5,13 @@ ghost use Rattle.std.specs.Prelude.{◌≡◌, true, false, [], ◌∷◌, ◌++
 use std::alloc::Global;
 use std::marker::Model;
 
-/// A stack over places that are there. A contract sees its items, the top first. Above them lie places of items that were taken off.
+/// A stack over places that are there. A contract sees its items, the top first. Above them lie places of items that were taken off. It keeps
+/// a mark, which no contract sees: whether it was refused a place since it began.
 #[derive(Drop)]
 pub struct Pile<T: Copy + Drop> {
     places: Vec<T>,
     count: usize,
+    lacks: bool,
 }
 
 impl<T: Copy + Drop> Model for Pile<T> {
@@ -30,20 +32,28 @@ impl<T: Copy + Drop> Pile<T> {
         Pile {
             places: Vec::new(alloc),
             count: 0,
+            lacks: false,
         }
     }
 
-    /// No items from now on, and places for so many. None where there is no memory.
+    /// No items from now on, and places for so many. False if there is no memory.
     pub fn begin(&mut self, places: usize, item: T) -> bool
         ensures { result ≡ true → self.new ≡ [] }
     {
         self.count = 0;
+        self.lacks = false;
         while self.places.as_slice().len() < places {
             let Ok(()) = self.places.push(item) else {
+                self.lacks = true;
                 return false;
             };
         }
         true
+    }
+
+    /// Whether it was refused a place since it began.
+    pub fn lacks_memory(&self) -> bool {
+        self.lacks
     }
 
     /// How many there are.
@@ -112,6 +122,7 @@ impl<T: Copy + Drop> Pile<T> {
             return false;
         }
         let Ok(()) = self.places.push(item) else {
+            self.lacks = true;
             return false;
         };
         self.count += 1;

@@ -19,7 +19,13 @@ pub(crate) fn data_of<R: WasmModuleResources>(resources: &R) -> u32
 }
 
 // The tag at an index, with its parameters behind the other codes, if codes stand for all and there is room for them.
-fn tag_of<R: WasmModuleResources>(resources: &R, at: u32, flat: &mut Vec<u32>, most: u32) -> Sig
+fn tag_of<R: WasmModuleResources>(
+    resources: &R,
+    at: u32,
+    flat: &mut Vec<u32>,
+    most: u32,
+    lacks: &mut bool,
+) -> Sig
     requires { length flat.old.items ≤ most }
     ensures tag { let m = R.meaning resources.now in (result.param_count ≡ 0xffffffff)
         ⊎ IsUsableTagIn m.ids m.«module» flat.new.items at result }
@@ -34,7 +40,7 @@ fn tag_of<R: WasmModuleResources>(resources: &R, at: u32, flat: &mut Vec<u32>, m
         return unusable();
     }
     let from = flat.as_slice().len();
-    if !put_codes(flat, params) {
+    if !put_codes(flat, params, lacks) {
         return unusable();
     }
     Sig {
@@ -51,6 +57,7 @@ pub(crate) fn sign_tags<R: WasmModuleResources>(
     flat: &mut Vec<u32>,
     tags: &mut Vec<Sig>,
     most: u32,
+    lacks: &mut bool,
 )
     requires none { tags.old.items ≡ [] }
     requires within { length flat.old.items ≤ most }
@@ -62,8 +69,9 @@ pub(crate) fn sign_tags<R: WasmModuleResources>(
         if resources.tag_at(at).is_none() {
             return;
         }
-        let tag = tag_of(resources, at, flat, most);
+        let tag = tag_of(resources, at, flat, most, lacks);
         let Ok(()) = tags.push(tag) else {
+            *lacks = true;
             return;
         };
     }

@@ -8,7 +8,7 @@ ghost use Rattle.wasm_operator_validator_locals.specs.Locals.{IsFront};
 use std::alloc::Global;
 use std::cmp::min;
 use std::marker::Model;
-use wasm_types::{Error, Result, ValType};
+use wasm_types::{Error, Result, ValType, Words};
 
 /// How many of the first locals are found by their index alone.
 const FIRST: usize = 64;
@@ -212,5 +212,5 @@ pub fn too_many_locals(offset: u64) -> Error
     ensures kind { result.kind ≡ Other }
     ensures offset { result.offset ≡ offset }
 {
-    Error::new("too many locals: locals exceed maximum", offset)
+    Error::new(Words::TooManyLocalsLocalsExceedMaximum, offset)
 }

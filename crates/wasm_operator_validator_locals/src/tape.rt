@@ -185,32 +185,6 @@ impl<T: Copy + Drop> Tape<T> {
         self.lost.clear();
     }
 
-    /// Takes all items out, outside an attempt. In one nothing changes.
-    #[inline(always)]
-    pub fn loosen(&mut self) -> Option<Loose<T>>
-        ensures taken { IfSome result (λ items. (self.old ≡ (reverse items, None)) × (self.new ≡ ([], None))) }
-        ensures stays { IfNone result (self.new ≡ self.old) }
-    {
-        if self.attempt {
-            return None;
-        }
-        let places = replace(&mut self.places, Vec::new(self.alloc));
-        let count = self.count;
-        self.count = 0;
-        Some(Loose { places, count })
-    }
-
-    /// Has these items from now on, outside an attempt.
-    #[inline(always)]
-    pub fn fasten(&mut self, items: Loose<T>)
-        ensures { self.new ≡ (reverse items, None) }
-    {
-        let Loose { places, count } = items;
-        self.places = places;
-        self.count = count;
-        self.attempt = false;
-    }
-
     /// Ends an attempt, if one has begun: what was done stays.
     pub fn commit(&mut self)
         ensures { self.new ≡ (self.old.0, None) }
@@ -227,74 +201,6 @@ impl<T: Copy + Drop> Tape<T> {
         }
         self.attempt = false;
         self.count = put_back(&mut self.places, self.kept, &mut self.lost);
-    }
-}
-
-/// The items of a stack outside an attempt, taken out of it, so that a loop has them and their number at hand. A contract sees them,
-/// the top first.
-#[derive(Drop)]
-pub struct Loose<T: Copy + Drop> {
-    places: Vec<T>,
-    count: usize,
-}
-
-impl<T: Copy + Drop> Model for Loose<T> {
-    ghost Value = { List T };
-
-    ghost view = { λ l. reverse (take l.count l.places.items) };
-
-    ghost invariant = { λ l. l.count ≤ length l.places.items };
-}
-
-impl<T: Copy + Drop> Loose<T> {
-    /// How many there are.
-    #[inline(always)]
-    pub fn len(&self) -> usize
-        ensures { result ≡ length self.now }
-    {
-        self.count
-    }
-
-    /// The item that lies under `depth` others.
-    #[inline(always)]
-    pub fn under(&self, depth: usize) -> T
-        requires { depth < length self.now }
-        ensures { slice_get self.now depth ≡ Some result }
-    {
-        self.places[self.count - 1 - depth]
-    }
-
-    /// Puts an item on where there is a place for it, else nothing changes.
-    #[inline(always)]
-    pub fn put(&mut self, item: T) -> bool
-        ensures put { result ≡ true → self.new ≡ item ∷ self.old }
-        ensures stays { result ≡ false → self.new ≡ self.old }
-    {
-        if self.count == self.places.as_slice().len() {
-            return false;
-        }
-        self.places[self.count] = item;
-        self.count += 1;
-        true
-    }
-
-    /// Takes the top off.
-    #[inline(always)]
-    #[tactic(auto, using(crate::proofs::Tops::without_top))]
-    pub fn shorten(&mut self)
-        requires { 0 < length self.old }
-        ensures { self.new ≡ drop 1 self.old }
-    {
-        self.count -= 1;
-    }
-
-    /// Puts this item in the place of the top.
-    #[inline(always)]
-    pub fn replace(&mut self, item: T)
-        requires { 0 < length self.old }
-        ensures { self.new ≡ item ∷ drop 1 self.old }
-    {
-        self.places[self.count - 1] = item;
     }
 }
 

@@ -61,7 +61,7 @@ fn name_far<R: WasmModuleResources>(
     let mut named = *hty;
     match resources.check_heap_type(&mut named, 0) {
         Ok(()) => (),
-        Err(_) => return Err(Refusal::Because(Reason::UnknownType)),
+        Err(_) => return Err(Refusal::unknown_heap(*hty)),
     }
     let reference = match RefType::new(true, named) {
         Some(reference) => reference,

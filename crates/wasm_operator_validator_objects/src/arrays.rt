@@ -141,7 +141,7 @@ pub fn check_array_get<R: WasmModuleResources>(
         Err(refusal) => return Err(refusal),
     };
     if !is_read_so(&field.element_type, packed) {
-        return Err(Refusal::Because(unread(packed)));
+        return Err(Refusal::Because(unread(&op)));
     }
     let read = field.element_type.unpack();
     exchange(

@@ -1,9 +1,10 @@
 //! Branches on casts.
 
 ghost use Rattle.std.specs.Prelude.{◌≡◌, ◌++◌, ◌∷◌, [], MatchOption, MatchResult, false};
+ghost use Rattle.wasm_types.specs.decoding.declared.error.ErrorKind.TheVariants.{Other};
 ghost use Rattle.wasm_operators_immediates.specs.declared.proposal.Proposal.TheVariants.{Gc};
 ghost use Rattle.wasm_operators_enums.specs.Op.{Op};
-ghost use Rattle.wasm_operator_validator_state.specs.Refusals.{refused};
+ghost use Rattle.wasm_operator_validator_state.specs.Refusals.{kind_of, refused};
 ghost use Rattle.wasm_operator_validator_state.specs.State.{Checks};
 ghost use Rattle.wasm_operator_validator_resources.specs.Meaning.{type_in};
 ghost use Rattle.wasm_operator_validator_state.specs.Entering.{MayBegin};
@@ -49,11 +50,11 @@ pub fn check_br_on_cast<R: WasmModuleResources>(
     let types = label_types(resources, &block_type, kind);
     let (last, others) = match split_label(types) {
         Some(split) => split,
-        None => return Err(Refusal::Because(Reason::NoCastLabel)),
+        None => return Err(Refusal::Because(no_label(fails))),
     };
     let (taken, left) = taken_and_left(&first, &second, fails);
     if !resources.is_subtype(taken, last) {
-        return Err(Refusal::Because(Reason::CastLabel));
+        return Err(past_label(types, &first, &second, fails));
     }
     branch(
         validator,
@@ -63,6 +64,35 @@ pub fn check_br_on_cast<R: WasmModuleResources>(
         &ValType::Ref(first),
         &left,
     )
+}
+
+// Why a branch on a cast may not go to a label that takes nothing.
+fn no_label(fails: bool) -> Reason {
+    if fails {
+        return Reason::NoLeftLabel;
+    }
+    Reason::NoCastLabel
+}
+
+// Why it may not go to one that takes these types, where another is on top.
+#[cold]
+fn past_label(types: &[ValType], first: &RefType, second: &RefType, fails: bool) -> Refusal
+    ensures { kind_of result ≡ Other }
+{
+    let Some(expected) = types.last() else {
+        return Refusal::Because(no_label(fails));
+    };
+    let (found, _left) = taken_and_left(first, second, fails);
+    if fails {
+        return Refusal::LeftPastLabel {
+            expected: *expected,
+            found,
+        };
+    }
+    Refusal::CastPastLabel {
+        expected: *expected,
+        found,
+    }
 }
 
 /// The last of these types, as a label takes them, and the others.
@@ -132,7 +162,10 @@ pub fn cast_of<R: WasmModuleResources>(
         Err(refusal) => return Err(refusal),
     };
     if !resources.is_subtype(ValType::Ref(second), ValType::Ref(first)) {
-        return Err(Refusal::Because(Reason::CastTypes));
+        return Err(Refusal::NotBelow {
+            expected: ValType::Ref(first),
+            found: ValType::Ref(second),
+        });
     }
     Ok((first, second))
 }

@@ -72,7 +72,7 @@ fn check_conversion<R: WasmModuleResources>(
     let converted = match converted(resources, &found, from, to) {
         Some(converted) => converted,
         None => {
-            return Err(Refusal::TypeMismatch {
+            return Err(Refusal::NotOfKind {
                 expected: abstract_reference(true, false, from),
                 found,
             });

@@ -65,7 +65,7 @@ fn check_measure<R: WasmModuleResources>(
         Err(refusal) => return Err(refusal),
     };
     if !is_either(resources, &found, kind) {
-        return Err(Refusal::TypeMismatch {
+        return Err(Refusal::NotOfKind {
             expected: abstract_reference(true, false, kind),
             found,
         });
@@ -90,7 +90,7 @@ pub fn check_ref_eq<R: WasmModuleResources>(
         Err(refusal) => return Err(refusal),
     };
     if !is_either(resources, &second, AbstractHeapType::Eq) {
-        return Err(Refusal::TypeMismatch {
+        return Err(Refusal::NotOfKind {
             expected: abstract_reference(true, false, AbstractHeapType::Eq),
             found: second,
         });
@@ -100,7 +100,7 @@ pub fn check_ref_eq<R: WasmModuleResources>(
         Err(refusal) => return Err(refusal),
     };
     if !are_comparable(resources, &first, &second) {
-        return Err(Refusal::TypeMismatch {
+        return Err(Refusal::NotOfKind {
             expected: abstract_reference(true, false, AbstractHeapType::Eq),
             found: first,
         });

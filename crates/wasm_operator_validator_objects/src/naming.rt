@@ -241,7 +241,7 @@ pub fn heap_at<R: WasmModuleResources>(
     let mut named = *written;
     match resources.check_heap_type(&mut named, 0) {
         Ok(()) => (),
-        Err(_) => return Err(Refusal::Because(Reason::UnknownType)),
+        Err(_) => return Err(Refusal::unknown_heap(*written)),
     }
     let reference = match RefType::new(nullable, named) {
         Some(reference) => reference,

@@ -121,7 +121,7 @@ pub fn check_array_init_data<R: WasmModuleResources>(
         return Err(Refusal::Because(Reason::ImmutableArray));
     }
     if is_of_references(&field.element_type) {
-        return Err(Refusal::Because(Reason::ElementsOfReferences));
+        return Err(Refusal::Because(Reason::ElementsOfReferencesFilled));
     }
     match find_data(resources, data_index) {
         Ok(()) => (),

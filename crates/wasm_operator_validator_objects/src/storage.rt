@@ -6,6 +6,7 @@ ghost use Rattle.wasm_types.specs.values.ValueKinds.{is_packed_type};
 ghost use Rattle.wasm_operator_validator_objects.specs.Found.{are_defaultable, is_defaultable_field, is_of_references, storage_in};
 
 use wasm_operator_validator_stacks::determined::{Reason, WasmModuleResources};
+use wasm_operators_visit::GcOperator;
 use wasm_types::{FieldType, StorageType};
 
 /// Whether it has a default value.
@@ -79,10 +80,15 @@ pub(crate) fn is_read_so(storage: &StorageType, packed: bool) -> bool
     !storage.is_packed()
 }
 
-/// Why it is not read so.
-pub(crate) fn unread(packed: bool) -> Reason {
-    if packed {
-        return Reason::UnpackedStorage;
+/// Why it is not read so by this operator.
+pub(crate) fn unread(op: &GcOperator) -> Reason {
+    match op {
+        GcOperator::StructGet { .. } => Reason::PackedStorage,
+        GcOperator::StructGetS { .. } => Reason::UnpackedFieldSigned,
+        GcOperator::StructGetU { .. } => Reason::UnpackedFieldUnsigned,
+        GcOperator::ArrayGet { .. } => Reason::PackedElement,
+        GcOperator::ArrayGetS { .. } => Reason::UnpackedElementSigned,
+        GcOperator::ArrayGetU { .. } => Reason::UnpackedElementUnsigned,
+        _ => Reason::UnpackedStorage,
     }
-    Reason::PackedStorage
 }

@@ -120,7 +120,7 @@ pub fn check_struct_get<R: WasmModuleResources>(
         Err(refusal) => return Err(refusal),
     };
     if !is_read_so(&field.element_type, packed) {
-        return Err(Refusal::Because(unread(packed)));
+        return Err(Refusal::Because(unread(&op)));
     }
     let read = field.element_type.unpack();
     exchange(validator, resources, &op, &[reference], &[read])

@@ -11,7 +11,9 @@ ghost use Rattle.wasm_types.specs.values.Values.{value_of};
 ghost use Rattle.wasm_types.specs.values.Trees.{heap_of, abstract_of};
 ghost use Rattle.wasm_operator_validator_resources.specs.Answers.{IsMissing};
 
-use wasm_types::{AbstractHeapType, Error, HeapType, RefType, Result, ValType, WasmFeatures};
+use wasm_types::{
+    AbstractHeapType, Error, HeapType, RefType, Result, ValType, WasmFeatures, Words,
+};
 
 /// Whether these features allow a value type, whatever its references lead to (WebAssembly 3.0, appendix, history).
 #[tactic(auto, unfolding(crate::specs::Answers::has))]
@@ -25,13 +27,13 @@ pub fn check_value_type_features(features: &WasmFeatures, ty: &ValType, offset: 
         ValType::F32 | ValType::F64 => require(
             features.floats(),
             WasmFeatures::FLOATS,
-            "floating-point support is disabled",
+            Words::FloatingPointSupportIsDisabled,
             offset,
         ),
         ValType::V128 => require(
             features.simd(),
             WasmFeatures::SIMD,
-            "SIMD support is not enabled",
+            Words::SIMDSupportIsNotEnabled,
             offset,
         ),
         ValType::Ref(ty) => check_ref_type_features(features, ty, offset),
@@ -49,7 +51,7 @@ pub fn check_ref_type_features(features: &WasmFeatures, ty: &RefType, offset: u6
     require(
         features.reference_types(),
         WasmFeatures::REFERENCE_TYPES,
-        "reference types support is not enabled",
+        Words::ReferenceTypesSupportIsNotEnabled,
         offset,
     )?;
     match ty.heap_type() {
@@ -57,7 +59,7 @@ pub fn check_ref_type_features(features: &WasmFeatures, ty: &RefType, offset: u6
         HeapType::Exact(_) => require(
             features.custom_descriptors(),
             WasmFeatures::CUSTOM_DESCRIPTORS,
-            "custom descriptors required for exact reference types",
+            Words::CustomDescriptorsRequiredForExactReferenceTypes,
             offset,
         ),
         HeapType::Abstract { shared, ty: kind } => {
@@ -79,7 +81,7 @@ fn check_defined(features: &WasmFeatures, offset: u64) -> Result<()>
     require(
         features.function_references(),
         WasmFeatures::FUNCTION_REFERENCES,
-        "function references required for index reference types",
+        Words::FunctionReferencesRequiredForIndexReferenceTypes,
         offset,
     )
 }
@@ -100,7 +102,7 @@ fn check_abstract(
     require(
         !shared || features.shared_everything_threads(),
         WasmFeatures::SHARED_EVERYTHING_THREADS,
-        "shared reference types require the shared-everything-threads proposal",
+        Words::SharedReferenceTypesRequireTheSharedEverythingThreadsProposal,
         offset,
     )?;
     check_collector(features, ty, offset)?;
@@ -118,7 +120,7 @@ fn check_collector(features: &WasmFeatures, ty: AbstractHeapType, offset: u64) -
     require(
         untraced || features.gc_types(),
         WasmFeatures::GC_TYPES,
-        "gc types are disallowed but found type which requires gc",
+        Words::GcTypesAreDisallowedButFoundTypeWhichRequiresGc,
         offset,
     )
 }
@@ -139,19 +141,19 @@ fn check_kind(
         AbstractHeapType::Func | AbstractHeapType::Extern => require(
             nullable || features.function_references(),
             WasmFeatures::FUNCTION_REFERENCES,
-            "function references required for non-nullable types",
+            Words::FunctionReferencesRequiredForNonNullableTypes,
             offset,
         ),
         AbstractHeapType::Exn | AbstractHeapType::NoExn => require(
             features.exceptions(),
             WasmFeatures::EXCEPTIONS,
-            "exception refs not supported without the exception handling feature",
+            Words::ExceptionRefsNotSupportedWithoutTheExceptionHandlingFeature,
             offset,
         ),
         AbstractHeapType::Cont | AbstractHeapType::NoCont => require(
             features.stack_switching(),
             WasmFeatures::STACK_SWITCHING,
-            "continuation refs not supported without the stack switching feature",
+            Words::ContinuationRefsNotSupportedWithoutTheStackSwitchingFeature,
             offset,
         ),
         AbstractHeapType::Any
@@ -164,14 +166,14 @@ fn check_kind(
         | AbstractHeapType::NoFunc => require(
             features.gc(),
             WasmFeatures::GC,
-            "heap types not supported without the gc feature",
+            Words::HeapTypesNotSupportedWithoutTheGcFeature,
             offset,
         ),
     }
 }
 
 // Asks for a feature that is there or not.
-fn require(has: bool, feature: WasmFeatures, message: &str, offset: u64) -> Result<()>
+fn require(has: bool, feature: WasmFeatures, message: Words, offset: u64) -> Result<()>
     ensures answer { Tells result (IsTrue has) }
     ensures refused { IfErr result (λ e. (e.kind ≡ MissingFeature feature) × (e.offset ≡ offset) × (has ≡ false)) }
 {

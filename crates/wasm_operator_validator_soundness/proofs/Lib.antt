@@ -29,6 +29,12 @@ pub mod Unshared
 pub mod Entering
 pub mod RunsSteps
 pub mod Placing
+pub mod ShownFrames
+pub mod LeadingLaws
+pub mod Showing
+pub mod ShownPlaces
+pub mod ShownPrograms
+pub mod ShownWorked
 pub mod Progress
 pub mod RunsWorkedRuns
 pub mod RunsWorkedStuck

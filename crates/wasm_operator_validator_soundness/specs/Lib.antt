@@ -11,3 +11,5 @@ pub mod worked
 pub mod accepted
 -- Rules and laws: no run of a valid program is stuck.
 pub mod runs
+-- Rules: what a validator shows is a typing, and the values of runs fit it.
+pub mod shown

@@ -8,6 +8,7 @@
 
 pub mod accepted;
 pub mod runs;
+pub mod shown;
 mod worked;
 
 ghost use Rattle.wasm_operator_validator_soundness.specs.Beginning.{CallsMayBegin, NullsAreGiven, NullsAreOne, AnswersExist, TableAnswered};

@@ -8,7 +8,6 @@ pub mod Numbers
 pub mod Peeks
 pub mod Lying
 pub mod Combining
-pub mod Runs
 pub mod Sharing
 pub mod NumberTypes
 -- The parameters of a function as its locals.

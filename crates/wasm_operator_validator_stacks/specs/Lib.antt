@@ -7,8 +7,6 @@ pub mod Heights
 -- Worked frames, and the laws that they come out so.
 pub mod Worked
 pub mod WorkedLaws
--- Definitions: operators one after the other over the operands of the innermost frame.
-pub mod Running
 -- Definitions: locals that a body declares.
 pub mod Defining
 -- Laws, with the proofs: what a type that a module writes stands for, and what an attempt leaves.

@@ -1,6 +1,6 @@
 //! Attempts: an operator is tried, and taken back.
 
-ghost use Rattle.std.specs.Prelude.{◌≡◌, [], true, false, None, length, replicate};
+ghost use Rattle.std.specs.Prelude.{◌≡◌, [], false, None};
 ghost use Rattle.wasm_operator_validator_stacks.specs.Layout.{none_saved, rolled_back, AreFirst, Begins};
 
 use crate::OperatorValidator;
@@ -8,7 +8,7 @@ use wasm_operator_validator_locals::Locals;
 use wasm_operator_validator_locals::inits::LocalInits;
 use wasm_operator_validator_locals::tape::Tape;
 use wasm_operator_validator_state::{Frame, Operand};
-use wasm_types::{ValType, WasmFeatures};
+use wasm_types::WasmFeatures;
 
 impl OperatorValidator {
     /// What is known where no frame is open yet: the locals, of which the first so many are parameters, and which of them have a
@@ -55,34 +55,6 @@ impl OperatorValidator {
         }
     }
 
-    /// What is known where no frame is open yet, in place of all that was known: these parameters are the locals. It says whether it was
-    /// done; else there are more than `most` of them, or there is no memory, and no more is known of the validator.
-    pub fn restart(
-        &mut self,
-        features: WasmFeatures,
-        most: u32,
-        params: &[ValType],
-        shared: bool,
-    ) -> bool
-        ensures { result ≡ true → self.new ≡ record {
-          given = record { bits = features.0; locals = params.now; params = length params.now; shared = shared };
-          inits = [];
-          opens = [];
-          failed = false;
-          saved = none_saved;
-        } }
-    {
-        self.operands.clear();
-        self.control.clear();
-        self.features = features;
-        self.shared = shared;
-        self.failed = false;
-        self.failed_before = false;
-        let done = put_params(&mut self.locals, &mut self.inits, most, params);
-        self.params = self.locals.len_locals();
-        done
-    }
-
     /// Begins an attempt: a rollback gives what stands here.
     pub fn begin_try_op(&mut self)
         ensures { Begins self.old self.new }
@@ -116,22 +88,4 @@ impl OperatorValidator {
         self.control.rollback();
         self.inits.rollback();
     }
-}
-
-// These parameters are the locals from now on, and have a value. It says whether it was done; else there are none.
-fn put_params(locals: &mut Locals, inits: &mut LocalInits, most: u32, params: &[ValType]) -> bool
-    ensures locals { result ≡ true → locals.new ≡ params.now }
-    ensures none { result ≡ false → locals.new ≡ [] }
-    ensures first { inits.new ≡ record { first = replicate (length locals.new) true; set = []; saved = None } }
-{
-    inits.clear();
-    if !locals.put_params(most, params) {
-        return false;
-    }
-    let count = locals.len_locals();
-    let Ok(()) = inits.define_params(count as usize) else {
-        locals.clear();
-        return false;
-    };
-    true
 }

@@ -127,23 +127,6 @@ impl OperatorValidator {
         }
         true
     }
-
-    /// Puts `count` locals of a number's type at the end, as `define_locals` does where a function has at most `most` locals, and says
-    /// whether it did. Else nothing changes: the features do not allow the type, there would be too many, or there is no memory. It
-    /// takes no locals of other types.
-    #[inline]
-    pub fn put_numbers(&mut self, most: u32, count: u32, ty: ValType) -> bool
-        ensures put { result ≡ true → (m : Meaning) → DefinesLocals m most self.old count ty self.new }
-        ensures stays { result ≡ false → self.new ≡ self.old }
-    {
-        if !is_allowed_number(self.features, &ty) {
-            return false;
-        }
-        if !self.locals.may_define(most, count) {
-            return false;
-        }
-        self.put_within(most, count, &ty)
-    }
 }
 
 // Whether it is a type of numbers that these features allow: a module may write it whatever types it has.

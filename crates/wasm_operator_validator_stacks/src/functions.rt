@@ -67,33 +67,6 @@ pub fn new_func<R: WasmModuleResources>(
     Ok(validator)
 }
 
-/// The same in place of all that a validator knew, and whether it was done: nothing says why not, and no more is known of the validator then.
-pub fn begin_func<R: WasmModuleResources>(
-    validator: &mut OperatorValidator,
-    ty: u32,
-    features: WasmFeatures,
-    limits: Limits,
-    resources: &R,
-) -> bool
-    requires within { IsWithinCeilings limits }
-    ensures { result ≡ true → Begins (R.meaning resources.now) features.0 ty validator.new }
-{
-    let Some(sub_type) = resources.sub_type_at(ty) else {
-        return false;
-    };
-    let Some(function) = function_of(sub_type) else {
-        return false;
-    };
-    let shared = sub_type.composite_type.shared;
-    if !validator.restart(features, limits.locals, function.params(), shared) {
-        return false;
-    }
-    let Ok(()) = validator.enter(FrameKind::Block, BlockType::FuncType(ty)) else {
-        return false;
-    };
-    true
-}
-
 /// The refusal of an index that names no function type.
 #[cold]
 fn refused(space: Space, offset: u64, index: u32) -> Error

@@ -3,8 +3,7 @@
 //! A contract sees the state of `wasm_operator_validator_state`: each open frame with operands of its own. In memory all
 //! operands lie in one place, and a frame knows how many lay below it at its beginning (`specs/Layout.antt`).
 //!
-//! A body begins with [`new_func`], or with [`begin_func`], which takes the place of all that a validator knew and does not
-//! say why it could not. From there exactly the operators of well-typed bodies may come (`specs/Functions.antt`,
+//! A body begins with [`new_func`]. From there exactly the operators of well-typed bodies may come (`specs/Functions.antt`,
 //! `bodies_are_accepted` of `wasm_operator_validator_state`).
 //!
 //! [`determined`] has the checks of operators whose types the module determines, as `i32.add`, and how such a check is
@@ -22,14 +21,12 @@ mod functions;
 mod heights;
 pub mod laws;
 mod peeking;
-mod running;
 mod validator;
 
 pub use allocations::OperatorValidatorAllocations;
 pub use fitting::{is_abstract_fit, is_fit};
-pub use functions::{begin_func, new_func};
+pub use functions::new_func;
 pub use heights::heights_are_worked;
-pub use running::{Run, RunBody, RunOperands};
 pub use validator::OperatorValidator;
 pub use wasm_operator_validator_locals::Locals;
 pub use wasm_operator_validator_locals::inits::LocalInits;

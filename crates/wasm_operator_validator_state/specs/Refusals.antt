@@ -13,6 +13,7 @@ kind_of refusals.OutOfMemory = kinds.OutOfMemory
 kind_of refusals.AfterRefusal = kinds.Failed
 kind_of refusals.AfterEnd = kinds.Other
 kind_of (refusals.NotEnabled feature) = kinds.MissingFeature feature
+kind_of (refusals.TryNotEnabled feature) = kinds.MissingFeature feature
 kind_of (refusals.TypeNotEnabled feature t) = kinds.MissingFeature feature
 kind_of r = kinds.Other
 

@@ -5,11 +5,12 @@ ghost use Rattle.wasm_types.specs.decoding.declared.error.ErrorKind.TheVariants.
 ghost use Rattle.wasm_operator_validator_state.specs.Refusals.{kind_of, OfContent};
 
 use crate::texts::{
-    empty_stack, expected_reference, feature_text, mismatch, reason_text, type_feature_text,
-    uninitialized_local, unknown, unknown_local,
+    cast_past_label, empty_stack, expected_reference, feature_text, left_past_label, mismatch,
+    not_below, not_of_kind, reason_text, type_feature_text, uninitialized_local, unknown,
+    unknown_local,
 };
 use crate::{MaybeType, ty_to_str};
-use wasm_types::{Error, ValType, WasmFeatures};
+use wasm_types::{Error, HeapType, OperatorWords, UnpackedIndex, ValType, WasmFeatures, Words};
 
 /// Why an operator is refused. It has no text and no offset, so that it is answered in few registers.
 #[derive(Clone, Copy)]
@@ -22,10 +23,14 @@ pub enum Refusal {
     AfterEnd,
     /// The operator needs a feature.
     NotEnabled { feature: WasmFeatures },
+    /// The same of `try`.
+    TryNotEnabled { feature: WasmFeatures },
     /// A type that the operator names needs a feature.
     TypeNotEnabled { feature: WasmFeatures, ty: ValType },
     /// The operand on top does not fit the type.
     TypeMismatch { expected: ValType, found: MaybeType },
+    /// The operand on top is no reference to what this type refers to, shared or not.
+    NotOfKind { expected: ValType, found: MaybeType },
     /// There is no operand where one of this type is expected.
     EmptyStack { expected: ValType },
     /// There is no operand where one of any type is expected.
@@ -42,6 +47,12 @@ pub enum Refusal {
     Unknown { space: Space, index: u32 },
     /// The operand on top is no reference.
     ExpectedReference { found: MaybeType },
+    /// A cast or a test is to a type that is not below the first.
+    NotBelow { expected: ValType, found: ValType },
+    /// A branch on a cast goes to a label that takes another type on top.
+    CastPastLabel { expected: ValType, found: ValType },
+    /// The same of one that branches where the cast fails.
+    LeftPastLabel { expected: ValType, found: ValType },
     /// For another reason.
     Because(Reason),
 }
@@ -51,6 +62,8 @@ pub enum Refusal {
 pub enum Space {
     /// A type.
     Type,
+    /// A type that a value type names.
+    NamedType,
     /// A type that is a function type.
     FunctionType,
     /// A type that is a struct type.
@@ -69,6 +82,8 @@ pub enum Space {
     Memory,
     /// A global.
     Global,
+    /// A global that a constant reads.
+    ConstantGlobal,
     /// A tag.
     Tag,
     /// An element segment.
@@ -118,14 +133,26 @@ pub enum Reason {
     ImmutableField,
     /// The array's elements are constant.
     ImmutableArray,
-    /// A packed field or element is read as if it were not.
+    /// A packed field is read as if it were not.
     PackedStorage,
+    /// The same of an element.
+    PackedElement,
     /// A field or element is read as if it were packed.
     UnpackedStorage,
+    /// A field is read as if it were packed, with its sign.
+    UnpackedFieldSigned,
+    /// The same without.
+    UnpackedFieldUnsigned,
+    /// An element is read as if it were packed, with its sign.
+    UnpackedElementSigned,
+    /// The same without.
+    UnpackedElementUnsigned,
     /// A field or element has no default value.
     NotDefaultable,
     /// The array's elements are references, which bytes do not hold.
     ElementsOfReferences,
+    /// The same where the array is filled.
+    ElementsOfReferencesFilled,
     /// The struct has a descriptor, and is made with it alone.
     NeedsDescriptor,
     /// A cast or a test is of continuations.
@@ -134,6 +161,8 @@ pub enum Reason {
     CastTypes,
     /// A branch on a cast goes to a label that takes nothing.
     NoCastLabel,
+    /// The same of one that branches where the cast fails.
+    NoLeftLabel,
     /// The label of a branch on a cast takes another type on top.
     CastLabel,
     /// A choice without a type is between references.
@@ -146,6 +175,16 @@ pub enum Reason {
     TagResults,
     /// What a clause of `try_table` catches does not fit its label.
     CatchTypes,
+    /// A clause for a tag goes to a label that takes another number of operands.
+    CatchCount,
+    /// The same of one with the exception behind them.
+    CatchRefCount,
+    /// A clause for whatever is thrown goes to a label that takes something.
+    CatchAllCount,
+    /// The same of one with the exception, whose label takes nothing, or several.
+    CatchAllRefCount,
+    /// A label takes no reference to an exception, where a clause gives one.
+    CatchAllRefType,
     /// A `catch` that ends neither the body of a `try` nor the clause of a tag.
     CatchOutsideTry,
     /// A `catch_all` there.
@@ -183,6 +222,31 @@ pub enum Reason {
 }
 
 impl Refusal {
+    /// That a heap type names a type that the module does not have.
+    #[cold]
+    pub fn unknown_heap(ty: HeapType) -> Refusal
+        ensures { kind_of result ≡ Other }
+    {
+        match ty {
+            HeapType::Concrete(index) => Refusal::unknown_index(index),
+            HeapType::Exact(index) => Refusal::unknown_index(index),
+            HeapType::Abstract { shared: _, ty: _ } => Refusal::Because(Reason::UnknownType),
+        }
+    }
+
+    // The same of an index.
+    fn unknown_index(index: UnpackedIndex) -> Refusal
+        ensures { kind_of result ≡ Other }
+    {
+        match index {
+            UnpackedIndex::Module(index) => Refusal::Unknown {
+                space: Space::NamedType,
+                index,
+            },
+            _ => Refusal::Because(Reason::UnknownType),
+        }
+    }
+
     /// The error of a refusal of the operator at this offset. Out of memory has no offset.
     #[cold]
     #[inline(never)]
@@ -192,26 +256,43 @@ impl Refusal {
     {
         match self {
             Refusal::OutOfMemory => Error::out_of_memory(0),
-            Refusal::AfterRefusal => Error::failed("an operator was refused before", offset),
-            Refusal::AfterEnd => Error::new("operators remaining after end of function", offset),
+            Refusal::AfterRefusal => Error::failed(Words::AnOperatorWasRefusedBefore, offset),
+            Refusal::AfterEnd => Error::new(
+                Words::Operator(OperatorWords::OperatorsRemainingAfterEndOfFunction),
+                offset,
+            ),
             Refusal::NotEnabled { feature } => {
                 Error::missing_feature(feature, feature_text(feature), offset)
             }
+            Refusal::TryNotEnabled { feature } => Error::missing_feature(
+                feature,
+                Words::LegacyExceptionsFeatureRequiredForTryInstruction,
+                offset,
+            ),
             Refusal::TypeNotEnabled { feature, ty } => {
                 Error::missing_feature(feature, type_feature_text(feature, ty), offset)
             }
             Refusal::TypeMismatch { expected, found } => mismatch(offset, expected, found),
+            Refusal::NotOfKind { expected, found } => not_of_kind(offset, expected, found),
             Refusal::EmptyStack { expected } => empty_stack(offset, ty_to_str(expected)),
-            Refusal::EmptyStackOfAny => empty_stack(offset, "a type"),
+            Refusal::EmptyStackOfAny => empty_stack(offset, Words::Operator(OperatorWords::AType)),
             Refusal::ValuesRemain => Error::new(
-                "type mismatch: values remaining on stack at end of block",
+                Words::Operator(OperatorWords::TypeMismatchValuesRemainingOnStackAtEndOfBlock),
                 offset,
             ),
-            Refusal::UnknownLabel => { Error::new("unknown label: branch depth too large", offset) }
+            Refusal::UnknownLabel => {
+                Error::new(
+                    Words::Operator(OperatorWords::UnknownLabelBranchDepthTooLarge),
+                    offset,
+                )
+            }
             Refusal::UnknownLocal { local_index } => unknown_local(offset, local_index),
             Refusal::UninitializedLocal { local_index } => uninitialized_local(offset, local_index),
             Refusal::Unknown { space, index } => unknown(offset, space, index),
             Refusal::ExpectedReference { found } => expected_reference(offset, found),
+            Refusal::NotBelow { expected, found } => not_below(offset, expected, found),
+            Refusal::CastPastLabel { expected, found } => cast_past_label(offset, expected, found),
+            Refusal::LeftPastLabel { expected, found } => left_past_label(offset, expected, found),
             Refusal::Because(reason) => Error::new(reason_text(reason), offset),
         }
     }

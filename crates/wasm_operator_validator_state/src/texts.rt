@@ -4,7 +4,10 @@ ghost use Rattle.std.specs.Prelude.{◌≡◌};
 ghost use Rattle.wasm_types.specs.decoding.declared.error.ErrorKind.TheVariants.{Other};
 
 use crate::{MaybeType, Reason, Space, ty_to_str};
-use wasm_types::{AbstractHeapType, Error, HeapType, RefType, ValType, WasmFeatures};
+use wasm_types::{
+    AbstractHeapType, Error, HeapType, Named, OperatorWords, RefType, Text, UnpackedIndex, ValType,
+    WasmFeatures, Words,
+};
 
 /// An operand of another type than the one that is expected.
 #[cold]
@@ -14,45 +17,181 @@ pub fn mismatch(offset: u64, expected: ValType, found: MaybeType) -> Error
 {
     let wanted = ty_to_str(expected);
     match found {
-        MaybeType::Bottom | MaybeType::UnknownRef(None) => Error::fmt(
-            format_args!("type mismatch: expected {wanted}, found heap type"),
+        MaybeType::Bottom | MaybeType::UnknownRef(None) => Error::with(
+            Text::Mismatch(wanted, Words::Operator(OperatorWords::HeapType)),
             offset,
         ),
         MaybeType::UnknownRef(Some(ty)) => {
             let found = abstract_name(ty);
-            Error::fmt(
-                format_args!("type mismatch: expected subtype of {wanted}, found {found}"),
-                offset,
-            )
+            Error::with(Text::SubtypeMismatch(wanted, found), offset)
         }
         MaybeType::Known(found) => {
             let found = ty_to_str(found);
-            Error::fmt(
-                format_args!("type mismatch: expected {wanted}, found {found}"),
-                offset,
-            )
+            Error::with(Text::Mismatch(wanted, found), offset)
         }
     }
 }
 
+// What a value type is called, with its index.
+fn named(ty: ValType) -> Named {
+    match ty {
+        ValType::Ref(reference) => {
+            let nullable = reference.is_nullable();
+            match reference.heap_type() {
+                HeapType::Abstract { .. } => plain(ty),
+                HeapType::Concrete(index) => indexed(
+                    if nullable {
+                        Words::Operator(OperatorWords::RefNull)
+                    } else {
+                        Words::Operator(OperatorWords::Ref)
+                    },
+                    index,
+                    Words::Operator(OperatorWords::Sign),
+                ),
+                HeapType::Exact(index) => indexed(
+                    if nullable {
+                        Words::Operator(OperatorWords::RefNullExact)
+                    } else {
+                        Words::Operator(OperatorWords::RefExact)
+                    },
+                    index,
+                    Words::Operator(OperatorWords::Sign2),
+                ),
+            }
+        }
+        _ => plain(ty),
+    }
+}
+
+fn plain(ty: ValType) -> Named {
+    Named {
+        before: ty_to_str(ty),
+        space: Words::Nothing,
+        number: None,
+        behind: Words::Nothing,
+    }
+}
+
+fn indexed(before: Words, index: UnpackedIndex, behind: Words) -> Named {
+    match index {
+        UnpackedIndex::Module(number) => Named {
+            before,
+            space: Words::Operator(OperatorWords::Module),
+            number: Some(number),
+            behind,
+        },
+        UnpackedIndex::RecGroup(number) => Named {
+            before,
+            space: Words::Operator(OperatorWords::Recgroup),
+            number: Some(number),
+            behind,
+        },
+        UnpackedIndex::Id(id) => Named {
+            before,
+            space: Words::Operator(OperatorWords::Id),
+            number: Some(id.number()),
+            behind,
+        },
+    }
+}
+
+/// A cast to a type that is not below the first.
+#[cold]
+pub fn not_below(offset: u64, expected: ValType, found: ValType) -> Error
+    ensures kind { result.kind ≡ Other }
+    ensures offset { result.offset ≡ offset }
+{
+    Error::with(
+        Text::Types(
+            Words::Operator(OperatorWords::TypeMismatchExpected),
+            named(expected),
+            Words::Operator(OperatorWords::Found),
+            named(found),
+        ),
+        offset,
+    )
+}
+
+/// A branch on a cast whose label takes another type on top.
+#[cold]
+pub fn cast_past_label(offset: u64, expected: ValType, found: ValType) -> Error
+    ensures kind { result.kind ≡ Other }
+    ensures offset { result.offset ≡ offset }
+{
+    Error::with(
+        Text::Types(
+            Words::Operator(OperatorWords::TypeMismatchCastingToType),
+            named(found),
+            Words::Operator(OperatorWords::ButItDoesNotMatchLabelResultType),
+            named(expected),
+        ),
+        offset,
+    )
+}
+
+/// The same of one that branches where the cast fails.
+#[cold]
+pub fn left_past_label(offset: u64, expected: ValType, found: ValType) -> Error
+    ensures kind { result.kind ≡ Other }
+    ensures offset { result.offset ≡ offset }
+{
+    Error::with(
+        Text::Types(
+            Words::Operator(OperatorWords::TypeMismatchExpectedLabelResultType),
+            named(expected),
+            Words::Operator(OperatorWords::Found),
+            named(found),
+        ),
+        offset,
+    )
+}
+
+/// An operand that is no reference to what this type refers to, shared or not.
+#[cold]
+pub fn not_of_kind(offset: u64, expected: ValType, found: MaybeType) -> Error
+    ensures kind { result.kind ≡ Other }
+    ensures offset { result.offset ≡ offset }
+{
+    let Some(known) = known_type(&found) else {
+        return mismatch(offset, expected, found);
+    };
+    let Some(reference) = known.as_reference_type() else {
+        return expected_reference(offset, found);
+    };
+    Error::with(
+        Text::Types(
+            Words::Operator(OperatorWords::TypeMismatchExpectedSubtypeOf),
+            named(expected),
+            Words::Operator(OperatorWords::Found),
+            named(ValType::Ref(reference)),
+        ),
+        offset,
+    )
+}
+
+// The type of an operand, if it is known.
+fn known_type(found: &MaybeType) -> Option<ValType> {
+    match found {
+        MaybeType::Known(ty) => Some(*ty),
+        MaybeType::Bottom | MaybeType::UnknownRef(_) => None,
+    }
+}
+
 // The name of a reference to this type that is not null.
-fn abstract_name(ty: AbstractHeapType) -> &'static str {
+fn abstract_name(ty: AbstractHeapType) -> Words {
     match RefType::new(false, HeapType::Abstract { shared: false, ty }) {
-        Some(reference) => reference.wat(),
-        None => "heap type",
+        Some(reference) => reference.words(),
+        None => Words::Operator(OperatorWords::HeapType),
     }
 }
 
 /// No operand where one is expected.
 #[cold]
-pub fn empty_stack(offset: u64, expected: &str) -> Error
+pub fn empty_stack(offset: u64, expected: Words) -> Error
     ensures kind { result.kind ≡ Other }
     ensures offset { result.offset ≡ offset }
 {
-    Error::fmt(
-        format_args!("type mismatch: expected {expected} but nothing on stack"),
-        offset,
-    )
+    Error::with(Text::EmptyStack(expected), offset)
 }
 
 /// An operand that is no reference where one is expected.
@@ -63,13 +202,16 @@ pub fn expected_reference(offset: u64, found: MaybeType) -> Error
 {
     match found {
         MaybeType::Bottom | MaybeType::UnknownRef(_) => Error::new(
-            "type mismatch: expected ref",
+            Words::Operator(OperatorWords::TypeMismatchExpectedRef),
             offset,
         ),
         MaybeType::Known(found) => {
             let found = ty_to_str(found);
-            Error::fmt(
-                format_args!("type mismatch: expected ref but found {found}"),
+            Error::with(
+                Text::Word(
+                    Words::Operator(OperatorWords::TypeMismatchExpectedRefButFound),
+                    found,
+                ),
                 offset,
             )
         }
@@ -82,8 +224,12 @@ pub fn unknown_local(offset: u64, local_index: u32) -> Error
     ensures kind { result.kind ≡ Other }
     ensures offset { result.offset ≡ offset }
 {
-    Error::fmt(
-        format_args!("unknown local {local_index}: local index out of bounds"),
+    Error::with(
+        Text::Number(
+            Words::Operator(OperatorWords::UnknownLocal),
+            local_index,
+            Words::Operator(OperatorWords::LocalIndexOutOfBounds),
+        ),
         offset,
     )
 }
@@ -94,7 +240,14 @@ pub fn uninitialized_local(offset: u64, local_index: u32) -> Error
     ensures kind { result.kind ≡ Other }
     ensures offset { result.offset ≡ offset }
 {
-    Error::fmt(format_args!("uninitialized local: {local_index}"), offset)
+    Error::with(
+        Text::Number(
+            Words::Operator(OperatorWords::UninitializedLocal),
+            local_index,
+            Words::Nothing,
+        ),
+        offset,
+    )
 }
 
 /// An index that names nothing.
@@ -104,144 +257,204 @@ pub fn unknown(offset: u64, space: Space, index: u32) -> Error
     ensures offset { result.offset ≡ offset }
 {
     match space {
-        Space::Type => unknown_in(offset, "type", index, ": type index out of bounds"),
-        Space::FunctionType => Error::fmt(
-            format_args!("expected func type at index {index}"),
+        Space::Type => Error::new(
+            Words::Operator(OperatorWords::UnknownTypeTypeIndexOutOfBounds),
             offset,
         ),
-        Space::StructType => Error::fmt(
-            format_args!("expected struct type at index {index}"),
+        Space::NamedType => Error::with(
+            Text::Number(Words::UnknownType, index, Words::TypeIndexOutOfBounds),
             offset,
         ),
-        Space::ArrayType => Error::fmt(
-            format_args!("expected array type at index {index}"),
+        Space::FunctionType => Error::with(
+            Text::Number(
+                Words::Operator(OperatorWords::ExpectedFuncTypeAtIndex),
+                index,
+                Words::Nothing,
+            ),
             offset,
         ),
-        Space::ContinuationType => Error::fmt(
-            format_args!("non-continuation type {index}"),
+        Space::StructType => Error::with(
+            Text::Number(
+                Words::Operator(OperatorWords::ExpectedStructTypeAtIndex),
+                index,
+                Words::Nothing,
+            ),
             offset,
         ),
-        Space::Field => Error::new("unknown field: field index out of bounds", offset),
-        Space::Function => unknown_in(offset, "function", index, ": function index out of bounds"),
-        Space::Table => unknown_in(offset, "table", index, ": table index out of bounds"),
-        Space::Memory => unknown_in(offset, "memory", index, ""),
-        Space::Global => Error::new("unknown global: global index out of bounds", offset),
-        Space::Tag => unknown_in(offset, "tag", index, ": tag index out of bounds"),
-        Space::Element => unknown_in(
+        Space::ArrayType => Error::with(
+            Text::Number(
+                Words::Operator(OperatorWords::ExpectedArrayTypeAtIndex),
+                index,
+                Words::Nothing,
+            ),
             offset,
-            "elem segment",
-            index,
-            ": segment index out of bounds",
         ),
-        Space::Data => unknown_in(offset, "data segment", index, ""),
+        Space::ContinuationType => Error::with(
+            Text::Number(
+                Words::Operator(OperatorWords::NonContinuationType),
+                index,
+                Words::Nothing,
+            ),
+            offset,
+        ),
+        Space::Field => Error::new(
+            Words::Operator(OperatorWords::UnknownFieldFieldIndexOutOfBounds),
+            offset,
+        ),
+        Space::Function => Error::with(
+            Text::Number(
+                Words::UnknownFunction,
+                index,
+                Words::Operator(OperatorWords::FunctionIndexOutOfBounds),
+            ),
+            offset,
+        ),
+        Space::Table => Error::with(
+            Text::Number(Words::UnknownTable, index, Words::TableIndexOutOfBounds),
+            offset,
+        ),
+        Space::Memory => Error::with(
+            Text::Number(Words::UnknownMemory, index, Words::Nothing),
+            offset,
+        ),
+        Space::Global => Error::new(
+            Words::Operator(OperatorWords::UnknownGlobalGlobalIndexOutOfBounds),
+            offset,
+        ),
+        Space::ConstantGlobal => Error::with(
+            Text::Number(
+                Words::Operator(OperatorWords::UnknownGlobal),
+                index,
+                Words::Operator(OperatorWords::GlobalIndexOutOfBounds),
+            ),
+            offset,
+        ),
+        Space::Tag => Error::with(
+            Text::Number(
+                Words::Operator(OperatorWords::UnknownTag),
+                index,
+                Words::Operator(OperatorWords::TagIndexOutOfBounds),
+            ),
+            offset,
+        ),
+        Space::Element => Error::with(
+            Text::Number(
+                Words::Operator(OperatorWords::UnknownElemSegment),
+                index,
+                Words::Operator(OperatorWords::SegmentIndexOutOfBounds),
+            ),
+            offset,
+        ),
+        Space::Data => Error::with(
+            Text::Number(
+                Words::Operator(OperatorWords::UnknownDataSegment),
+                index,
+                Words::Nothing,
+            ),
+            offset,
+        ),
     }
-}
-
-#[cold]
-fn unknown_in(offset: u64, name: &str, index: u32, why: &str) -> Error
-    ensures kind { result.kind ≡ Other }
-    ensures offset { result.offset ≡ offset }
-{
-    Error::fmt(format_args!("unknown {name} {index}{why}"), offset)
 }
 
 /// What an operator is called that needs this feature.
-pub fn feature_text(feature: WasmFeatures) -> &'static str {
+pub fn feature_text(feature: WasmFeatures) -> Words {
     if feature.floats() {
-        return "floating-point support is disabled";
+        return Words::FloatingPointSupportIsDisabled;
     }
     if feature.multi_value() {
-        return "blocks, loops, and ifs may only produce a resulttype when multi-value is not enabled";
+        return Words::Operator(
+            OperatorWords::BlocksLoopsAndIfsMayOnlyProduceAResulttypeWhenMultiValueIsNotEnabled,
+        );
     }
     if feature.bulk_memory() || feature.bulk_memory_opt() {
-        return "bulk memory support is not enabled";
+        return Words::Operator(OperatorWords::BulkMemorySupportIsNotEnabled);
     }
     if feature.reference_types() {
-        return "reference types support is not enabled";
+        return Words::ReferenceTypesSupportIsNotEnabled;
     }
     if feature.sign_extension() {
-        return "sign extension operations support is not enabled";
+        return Words::Operator(OperatorWords::SignExtensionOperationsSupportIsNotEnabled);
     }
     if feature.saturating_float_to_int() {
-        return "saturating float to int conversions support is not enabled";
+        return Words::Operator(OperatorWords::SaturatingFloatToIntConversionsSupportIsNotEnabled);
     }
     if feature.tail_call() {
-        return "tail calls support is not enabled";
+        return Words::Operator(OperatorWords::TailCallsSupportIsNotEnabled);
     }
     if feature.threads() {
-        return "threads support is not enabled";
+        return Words::Operator(OperatorWords::ThreadsSupportIsNotEnabled);
     }
     if feature.simd() {
-        return "SIMD support is not enabled";
+        return Words::SIMDSupportIsNotEnabled;
     }
     if feature.relaxed_simd() {
-        return "relaxed SIMD support is not enabled";
+        return Words::Operator(OperatorWords::RelaxedSIMDSupportIsNotEnabled);
     }
     later_feature_text(feature)
 }
 
-fn later_feature_text(feature: WasmFeatures) -> &'static str {
+fn later_feature_text(feature: WasmFeatures) -> Words {
     if feature.exceptions() {
-        return "exceptions support is not enabled";
+        return Words::Operator(OperatorWords::ExceptionsSupportIsNotEnabled);
     }
     if feature.legacy_exceptions() {
-        return "legacy exceptions support is not enabled";
+        return Words::Operator(OperatorWords::LegacyExceptionsSupportIsNotEnabled);
     }
     if feature.function_references() {
-        return "function references support is not enabled";
+        return Words::Operator(OperatorWords::FunctionReferencesSupportIsNotEnabled);
     }
     if feature.gc() {
-        return "gc support is not enabled";
+        return Words::Operator(OperatorWords::GcSupportIsNotEnabled);
     }
     if feature.shared_everything_threads() {
-        return "shared-everything-threads support is not enabled";
+        return Words::Operator(OperatorWords::SharedEverythingThreadsSupportIsNotEnabled);
     }
     if feature.memory_control() {
-        return "memory control support is not enabled";
+        return Words::Operator(OperatorWords::MemoryControlSupportIsNotEnabled);
     }
     if feature.stack_switching() {
-        return "stack switching support is not enabled";
+        return Words::Operator(OperatorWords::StackSwitchingSupportIsNotEnabled);
     }
     if feature.wide_arithmetic() {
-        return "wide arithmetic support is not enabled";
+        return Words::Operator(OperatorWords::WideArithmeticSupportIsNotEnabled);
     }
     if feature.custom_descriptors() {
-        return "custom descriptors operations support is not enabled";
+        return Words::Operator(OperatorWords::CustomDescriptorsOperationsSupportIsNotEnabled);
     }
-    "support is not enabled"
+    Words::Operator(OperatorWords::SupportIsNotEnabled)
 }
 
 /// What a type is called that needs this feature.
-pub fn type_feature_text(feature: WasmFeatures, ty: ValType) -> &'static str {
+pub fn type_feature_text(feature: WasmFeatures, ty: ValType) -> Words {
     if feature.floats() || feature.simd() || feature.reference_types() {
         return feature_text(feature);
     }
     if feature.function_references() {
         return if names_defined(ty) {
-            "function references required for index reference types"
+            Words::FunctionReferencesRequiredForIndexReferenceTypes
         } else {
-            "function references required for non-nullable types"
+            Words::FunctionReferencesRequiredForNonNullableTypes
         };
     }
     if feature.custom_descriptors() {
-        return "custom descriptors required for exact reference types";
+        return Words::CustomDescriptorsRequiredForExactReferenceTypes;
     }
     if feature.shared_everything_threads() {
-        return "shared reference types require the shared-everything-threads proposal";
+        return Words::SharedReferenceTypesRequireTheSharedEverythingThreadsProposal;
     }
     if feature.gc_types() {
-        return "gc types are disallowed but found type which requires gc";
+        return Words::GcTypesAreDisallowedButFoundTypeWhichRequiresGc;
     }
     if feature.gc() {
-        return "heap types not supported without the gc feature";
+        return Words::HeapTypesNotSupportedWithoutTheGcFeature;
     }
     if feature.exceptions() {
-        return "exception refs not supported without the exception handling feature";
+        return Words::ExceptionRefsNotSupportedWithoutTheExceptionHandlingFeature;
     }
     if feature.stack_switching() {
-        return "continuation refs not supported without the stack switching feature";
+        return Words::ContinuationRefsNotSupportedWithoutTheStackSwitchingFeature;
     }
-    "support is not enabled"
+    Words::Operator(OperatorWords::SupportIsNotEnabled)
 }
 
 // Whether a type is a reference to a defined type.
@@ -256,74 +469,175 @@ fn names_defined(ty: ValType) -> bool {
 }
 
 /// Why an operator is refused, where neither a type nor an index is told.
-pub fn reason_text(reason: Reason) -> &'static str {
+pub fn reason_text(reason: Reason) -> Words {
     match reason {
-        Reason::ElseOutsideIf => "else found outside of an `if` block",
-        Reason::NoElse => "type mismatch: an `if` without `else` must give what it takes",
+        Reason::ElseOutsideIf => Words::Operator(OperatorWords::ElseFoundOutsideOfAnIfBlock),
+        Reason::NoElse => Words::Operator(
+            OperatorWords::TypeMismatchAnIfWithoutElseMustGiveWhatItTakes,
+        ),
         Reason::LabelsDiffer => {
-            "type mismatch: br_table target labels have different number of types"
+            Words::Operator(
+                OperatorWords::TypeMismatchBrTableTargetLabelsHaveDifferentNumberOfTypes,
+            )
         }
-        Reason::NoLabelTypes => "type mismatch: br_on_non_null target has no label types",
+        Reason::NoLabelTypes => Words::Operator(
+            OperatorWords::TypeMismatchBrOnNonNullTargetHasNoLabelTypes,
+        ),
         Reason::LabelWithoutReference => {
-            "type mismatch: br_on_non_null target does not end with heap type"
+            Words::Operator(OperatorWords::TypeMismatchBrOnNonNullTargetDoesNotEndWithHeapType)
         }
         Reason::ResultsDiffer => {
-            "type mismatch: current function and callee have different results"
+            Words::Operator(OperatorWords::TypeMismatchCurrentFunctionAndCalleeHaveDifferentResults)
         }
-        Reason::NotFunctions => "indirect calls must go through a table with type <= funcref",
-        Reason::NotShared => "shared functions cannot access unshared items",
-        Reason::UnknownType => "unknown type: type index out of bounds",
-        Reason::Alignment => "malformed memop alignment: alignment must not be larger than natural",
-        Reason::AtomicAlignment => "atomic instructions must always specify maximum alignment",
-        Reason::OffsetOutOfRange => "offset out of range: must be <= 2**32",
-        Reason::ArrayTarget => "an access to a memory reaches into an array",
-        Reason::ImmutableGlobal => "global is immutable: cannot modify it with `global.set`",
-        Reason::NoDataCount => "data count section required",
-        Reason::UndeclaredFunction => "undeclared function reference",
-        Reason::ElementTypes => "type mismatch",
-        Reason::ImmutableField => "invalid struct modification: struct field is immutable",
-        Reason::ImmutableArray => "invalid array modification: array is immutable",
-        Reason::PackedStorage => "can only get a packed storage type with an extension to 32 bits",
-        Reason::UnpackedStorage => "cannot extend a non-packed storage type to 32 bits",
-        Reason::NotDefaultable => "a field or an element is not defaultable",
+        Reason::NotFunctions => {
+            Words::Operator(
+                OperatorWords::TypeMismatchIndirectCallsMustGoThroughATableWithTypeFuncref,
+            )
+        }
+        Reason::NotShared => Words::Operator(
+            OperatorWords::SharedFunctionsCannotAccessUnsharedItems,
+        ),
+        Reason::UnknownType => Words::Operator(OperatorWords::UnknownTypeTypeIndexOutOfBounds),
+        Reason::Alignment => Words::Operator(
+            OperatorWords::InvalidMemopAlignmentAlignmentMustNotBeLargerThanNatural,
+        ),
+        Reason::AtomicAlignment => Words::Operator(
+            OperatorWords::AtomicInstructionsMustAlwaysSpecifyMaximumAlignment,
+        ),
+        Reason::OffsetOutOfRange => Words::Operator(OperatorWords::OffsetOutOfRangeMustBe232),
+        Reason::ArrayTarget => Words::Operator(OperatorWords::AnAccessToAMemoryReachesIntoAnArray),
+        Reason::ImmutableGlobal => Words::Operator(
+            OperatorWords::GlobalIsImmutableCannotModifyItWithGlobalSet,
+        ),
+        Reason::NoDataCount => Words::Operator(OperatorWords::DataCountSectionRequired),
+        Reason::UndeclaredFunction => Words::Operator(OperatorWords::UndeclaredFunctionReference),
+        Reason::ElementTypes => Words::Operator(OperatorWords::TypeMismatch),
+        Reason::ImmutableField => Words::Operator(
+            OperatorWords::InvalidStructModificationStructFieldIsImmutable,
+        ),
+        Reason::ImmutableArray => Words::Operator(
+            OperatorWords::InvalidArrayModificationArrayIsImmutable,
+        ),
+        Reason::PackedStorage => Words::Operator(
+            OperatorWords::CanOnlyUseStructGetWithNonPackedStorageTypes,
+        ),
+        Reason::PackedElement => Words::Operator(
+            OperatorWords::CannotUseArrayGetWithPackedStorageTypes,
+        ),
+        Reason::UnpackedStorage => Words::Operator(
+            OperatorWords::CannotExtendANonPackedStorageTypeTo32Bits,
+        ),
+        Reason::UnpackedFieldSigned => Words::Operator(
+            OperatorWords::CannotUseStructGetSWithNonPackedStorageTypes,
+        ),
+        Reason::UnpackedFieldUnsigned => Words::Operator(
+            OperatorWords::CannotUseStructGetUWithNonPackedStorageTypes,
+        ),
+        Reason::UnpackedElementSigned => Words::Operator(
+            OperatorWords::CannotUseArrayGetSWithNonPackedStorageTypes,
+        ),
+        Reason::UnpackedElementUnsigned => Words::Operator(
+            OperatorWords::CannotUseArrayGetUWithNonPackedStorageTypes,
+        ),
+        Reason::NotDefaultable => Words::Operator(OperatorWords::AFieldOrAnElementIsNotDefaultable),
         Reason::ElementsOfReferences => {
-            "array data can only hold elements of numeric, vector or packed types"
+            Words::Operator(
+                OperatorWords::TypeMismatchArrayNewDataCanOnlyCreateArraysWithNumericAndVectorElements,
+            )
+        }
+        Reason::ElementsOfReferencesFilled => {
+            Words::Operator(OperatorWords::InvalidArrayInitDataArrayTypeIsNotNumericOrVector)
         }
         Reason::NeedsDescriptor => {
-            "a type with a descriptor requires an allocation with the descriptor"
+            Words::Operator(
+                OperatorWords::ATypeWithADescriptorRequiresAnAllocationWithTheDescriptor,
+            )
         }
-        Reason::NotCastable => "cannot cast or test continuation types",
-        Reason::CastTypes => "type mismatch: the cast is not to a subtype of its first type",
-        Reason::NoCastLabel => "type mismatch: br_on_cast target has no label types",
-        Reason::CastLabel => "type mismatch: br_on_cast target does not end with the type it takes",
-        Reason::SelectOfReferences => "type mismatch: select only takes integral types",
-        Reason::SelectOfTypes => "type mismatch: select operands have different types",
-        Reason::SelectArity => "invalid result arity",
-        Reason::TagResults => "invalid exception type: non-empty tag result type",
-        Reason::CatchTypes => "type mismatch: what is caught does not fit the label of its clause",
-        Reason::CatchOutsideTry => "catch found outside of an `try` block",
-        Reason::CatchAllOutsideTry => "catch_all found outside of a `try` block",
-        Reason::DelegateOutsideTry => "delegate found outside of an `try` block",
-        Reason::RethrowOutsideCatch => "invalid rethrow label: target was not a `catch` block",
-        Reason::Vectors => "unexpected SIMD opcode: 0xfd",
-        Reason::NoDescriptor => "expected a type with a descriptor",
+        Reason::NotCastable => Words::Operator(OperatorWords::CannotCastOrTestContinuationTypes),
+        Reason::CastTypes => Words::Operator(
+            OperatorWords::TypeMismatchTheCastIsNotToASubtypeOfItsFirstType,
+        ),
+        Reason::NoCastLabel => {
+            Words::Operator(
+                OperatorWords::TypeMismatchBrOnCastToLabelWithEmptyTypesMustHaveAReferenceType,
+            )
+        }
+        Reason::NoLeftLabel => Words::Operator(
+            OperatorWords::TypeMismatchExpectedAReferenceTypeFoundNothing,
+        ),
+        Reason::CastLabel => Words::Operator(
+            OperatorWords::TypeMismatchBrOnCastTargetDoesNotEndWithTheTypeItTakes,
+        ),
+        Reason::SelectOfReferences => Words::Operator(
+            OperatorWords::TypeMismatchSelectOnlyTakesIntegralTypes,
+        ),
+        Reason::SelectOfTypes => Words::Operator(
+            OperatorWords::TypeMismatchSelectOperandsHaveDifferentTypes,
+        ),
+        Reason::SelectArity => Words::Operator(OperatorWords::InvalidResultArity),
+        Reason::TagResults => Words::InvalidExceptionTypeNonEmptyTagResultType,
+        Reason::CatchTypes => Words::Operator(
+            OperatorWords::TypeMismatchWhatIsCaughtDoesNotFitTheLabelOfItsClause,
+        ),
+        Reason::CatchCount => Words::Operator(
+            OperatorWords::TypeMismatchCatchLabelMustHaveSameNumberOfTypesAsTag,
+        ),
+        Reason::CatchRefCount => {
+            Words::Operator(OperatorWords::TypeMismatchCatchRefLabelMustHaveOneMoreTypeThanTagTypes)
+        }
+        Reason::CatchAllCount => Words::Operator(
+            OperatorWords::TypeMismatchCatchAllLabelMustHaveNoResultTypes,
+        ),
+        Reason::CatchAllRefCount => {
+            Words::Operator(OperatorWords::TypeMismatchCatchAllRefLabelMustHaveExactlyOneResultType)
+        }
+        Reason::CatchAllRefType => {
+            Words::Operator(OperatorWords::TypeMismatchCatchAllRefLabelMustASubtypeOfRefExn)
+        }
+        Reason::CatchOutsideTry => Words::Operator(OperatorWords::CatchFoundOutsideOfAnTryBlock),
+        Reason::CatchAllOutsideTry => Words::Operator(
+            OperatorWords::CatchAllFoundOutsideOfATryBlock,
+        ),
+        Reason::DelegateOutsideTry => Words::Operator(
+            OperatorWords::DelegateFoundOutsideOfAnTryBlock,
+        ),
+        Reason::RethrowOutsideCatch => Words::Operator(
+            OperatorWords::InvalidRethrowLabelTargetWasNotACatchBlock,
+        ),
+        Reason::Vectors => Words::UnexpectedSIMDOpcode0xfd,
+        Reason::NoDescriptor => Words::Operator(OperatorWords::ExpectedATypeWithADescriptor),
         Reason::AtomicType => {
-            "invalid type: only `i32`, `i64` and subtypes of `anyref` can be accessed atomically"
+            Words::Operator(
+                OperatorWords::InvalidTypeOnlyI32I64AndSubtypesOfAnyrefCanBeAccessedAtomically,
+            )
         }
         Reason::AtomicInteger => {
-            "invalid type: only `i32` and `i64` have atomic arithmetic operations"
+            Words::Operator(OperatorWords::InvalidTypeOnlyI32AndI64HaveAtomicArithmeticOperations)
         }
         Reason::AtomicComparable => {
-            "invalid type: only `i32`, `i64` and subtypes of `eqref` can be compared atomically"
+            Words::Operator(
+                OperatorWords::InvalidTypeOnlyI32I64AndSubtypesOfEqrefCanBeComparedAtomically,
+            )
         }
-        Reason::HandlerLabel =>
-            "type mismatch: a handler's label must end with a continuation type",
-        Reason::HandlerCarries => "type mismatch between tag type and label type",
-        Reason::HandlerContinues => "type mismatch in continuation type",
-        Reason::SwitchCarries => "type mismatch: non-empty tag parameter type",
-        Reason::SwitchResults => "type mismatch in continuation types and the tag of a switch",
-        Reason::SwitchParameter => "type mismatch: non-continuation type as the last parameter",
-        Reason::BindParameters => "type mismatch in continuation arguments",
-        Reason::BindResults => "type mismatch in continuation results",
+        Reason::HandlerLabel => Words::Operator(
+            OperatorWords::TypeMismatchAHandlerSLabelMustEndWithAContinuationType,
+        ),
+        Reason::HandlerCarries => Words::Operator(
+            OperatorWords::TypeMismatchBetweenTagTypeAndLabelType,
+        ),
+        Reason::HandlerContinues => Words::Operator(OperatorWords::TypeMismatchInContinuationType),
+        Reason::SwitchCarries => Words::Operator(
+            OperatorWords::TypeMismatchNonEmptyTagParameterType,
+        ),
+        Reason::SwitchResults => Words::Operator(
+            OperatorWords::TypeMismatchInContinuationTypesAndTheTagOfASwitch,
+        ),
+        Reason::SwitchParameter => Words::Operator(
+            OperatorWords::TypeMismatchNonContinuationTypeAsTheLastParameter,
+        ),
+        Reason::BindParameters => Words::Operator(
+            OperatorWords::TypeMismatchInContinuationArguments,
+        ),
+        Reason::BindResults => Words::Operator(OperatorWords::TypeMismatchInContinuationResults),
     }
 }

@@ -1,11 +1,12 @@
 -- The worked steps over a store, one for each way in which an operator goes on.
-use Rattle.std.proofs.Common.{refl, sym, inr, true≢false}
+use Rattle.std.proofs.Common.{inl, refl, sym, inr, true≢false}
 use Rattle.wasm_types.specs.trees.Trees.{opened}
 use Rattle.wasm_types.specs.trees.AbstractOrder.{same}
 use Rattle.wasm_types.specs.trees.ValidGroup.{types_from}
 use Rattle.wasm_operator_validator_store.specs.worked.Program.{store}
 use Rattle.wasm_operator_validator_store.specs.worked.Arms.{BranchesWorked, CallsWorked, DelegatesWorked, CastsWorked, ArraysWorked, AccessesWorked, ArmsWorked}
 use Rattle.wasm_operator_validator_store.proofs.Storing.{stays}
+use Rattle.wasm_operator_validator_store.proofs.Premises.{own_fits, scalar_unfit, exception_made, store_fits}
 
 branches_worked : BranchesWorked
 unfolding opened types_from
@@ -27,11 +28,11 @@ unfolding opened types_from
 calls_worked = record {
   replaced = (_, _, _, (_, _, (refl, (refl, refl)), refl, (_, _, (refl, refl, refl), refl, (refl, refl))), (refl, refl), refl);
   null_traps = (_, _, _, (refl, refl), (refl, refl), refl);
-  replaced_through = λ f. (_, _, _, (_, _, (refl, refl, refl), refl, (_, _, (refl, ((λ e. f), (λ g. refl)), (refl, (refl, refl))), refl, (_, _, (refl, refl, refl), refl, (refl, refl)))), (refl, refl), refl);
+  replaced_through = (_, _, _, (_, _, (refl, refl, refl), refl, (_, _, (refl, ((λ e. own_fits), (λ g. refl)), (refl, (refl, refl))), refl, (_, _, (refl, refl, refl), refl, (refl, refl)))), (refl, refl), refl);
   null_through = (_, _, _, (refl, refl), (refl, ((λ e. absurd (true≢false (sym e))), (λ g. absurd g.1.0)), (refl, refl)), refl);
   past_the_table = (_, _, _, (refl, refl), (refl, (refl, refl)), refl);
-  host_caught = λ f m. (_, _, _, (_, _, (refl, refl), refl, (_, _, (refl, refl), refl, (store, _, ((m, (((tt, refl), tt), (refl, tt))), stays store, f, (_, refl, refl, refl, (refl, refl))), refl, (refl, refl)))), (refl, refl), refl);
-  host_passes = λ f m. (_, _, store, (_, _, (refl, refl), refl, (_, _, (refl, refl), refl, (refl, refl))), ((m, (((tt, refl), tt), tt)), stays store, f, (_, refl, refl, refl, (refl, refl))), refl);
+  host_caught = (_, _, _, (_, _, (refl, refl), refl, (_, _, (refl, refl), refl, (store, _, ((exception_made, (((tt, refl), tt), (refl, tt))), stays store, store_fits, (_, refl, refl, refl, (refl, refl)), λ w. (w, (refl, tt))), refl, (refl, refl)))), (refl, refl), refl);
+  host_passes = (_, _, store, (_, _, (refl, refl), refl, (_, _, (refl, refl), refl, (refl, refl))), ((exception_made, (((tt, refl), tt), tt)), stays store, store_fits, (_, refl, refl, refl, (refl, refl)), λ w. (w, (refl, tt))), refl);
 }
 
 delegates_worked : DelegatesWorked
@@ -47,7 +48,7 @@ casts_worked = record {
   null_passes = (_, _, _, (_, _, (((λ e. absurd (true≢false (sym e))), (λ g. absurd g.1.0)), (refl, refl)), refl, (refl, refl)), (refl, refl), refl);
   null_fails = (_, _, _, (refl, refl), (((λ e. absurd (true≢false (sym e))), (λ g. absurd g.1.0)), (refl, refl)), refl);
   scalar_passes = (_, _, _, (_, _, (((λ e. (tt, (tt, (refl, same)))), (λ g. refl)), (refl, refl)), refl, (_, _, (refl, (refl, refl, refl)), refl, (refl, refl))), (refl, refl), refl);
-  object_fails = λ no. (_, _, _, (refl, refl), (((λ e. absurd (true≢false (sym e))), (λ g. absurd (no g))), (refl, refl)), refl);
+  object_fails = (_, _, _, (refl, refl), (((λ e. absurd (true≢false (sym e))), (λ g. absurd (scalar_unfit g))), (refl, refl)), refl);
   null_extern = (_, _, _, (_, _, (refl, refl), refl, (refl, refl)), (refl, refl), refl);
   null_any = (_, _, _, (_, _, (refl, refl), refl, (refl, refl)), (refl, refl), refl);
   signed_scalar = (_, _, _, (_, _, (refl, refl, refl), refl, (_, _, (refl, (refl, refl, refl)), refl, (refl, refl))), (refl, refl), refl);
@@ -74,9 +75,9 @@ accesses_worked = record {
   table_copied = (_, _, _, (_, _, (refl, refl, refl), refl, (_, _, (refl, refl, refl), refl, (_, _, (refl, refl, refl), refl, (_, _, (refl, (refl, refl, refl)), refl, (refl, refl))))), (refl, refl), refl);
   past_the_table = (_, _, _, (refl, refl), (refl, (refl, refl)), refl);
   not_grown = (_, _, _, (_, _, inr (refl, refl, refl), refl, (refl, refl)), (refl, refl), refl);
-  memory_grown = (_, _, _, (_, _, ((((tt, refl), tt), tt), (tt, tt), refl), refl, (refl, refl)), (refl, refl), refl);
-  memory_copied = (_, _, _, (_, _, ((tt, tt), tt, refl), refl, (refl, refl)), (refl, refl), refl);
-  memory_discarded = (_, _, _, (_, _, ((tt, tt), tt, refl), refl, (refl, refl)), (refl, refl), refl);
+  memory_grown = (_, _, _, (_, _, inl (refl, refl, refl), refl, (refl, refl)), (refl, refl), refl);
+  memory_copied = (_, _, _, (_, _, (refl, refl, refl), refl, (refl, refl)), (refl, refl), refl);
+  memory_discarded = (_, _, _, (_, _, inr (refl, refl, refl), refl, (refl, refl)), (refl, refl), refl);
 }
 
 pub arms_worked : ArmsWorked

@@ -1,5 +1,5 @@
 -- Operators that make arrays of many values, and that write many.
-use Rattle.std.proofs.Common.{◌≡◌, ℕ, zero, suc, ◌+◌, true, false, IsTrue, List, [], ◌∷◌, ◌++◌, Some, refl, sym, ap, subst, ◌∙◌, length, reverse, take, drop, get_or, slice_get, length-append, arith, true≢false}
+use Rattle.std.proofs.Common.{◌≡◌, ℕ, zero, suc, ◌+◌, ◌*◌, true, false, IsTrue, List, [], ◌∷◌, ◌++◌, Some, refl, sym, ap, subst, ◌∙◌, length, reverse, take, drop, get_or, slice_get, length-append, arith, true≢false}
 use Rattle.std.proofs.lemmas.List.{length-replicate}
 use Rattle.std.specs.Prelude.{flat_map, replicate}
 use mathlib.Core.Logic.{⊎_elim}
@@ -17,7 +17,8 @@ use Rattle.wasm_operator_validator_soundness.specs.runs.States.{Activation, Answ
 use Rattle.wasm_operator_validator_soundness.specs.runs.ValidStates.{IsValidOutcome}
 use Rattle.wasm_operator_validator_soundness.specs.runs.Machine.{AreStoredAlike, FromData, operand_of, operands_of, array_fields, last_of, writes, copies, goes, takes, may_trap, object, object_under, stores_from, write, execute}
 use Rattle.wasm_operator_validator_soundness.specs.runs.Soundness.{IsValidProgram}
-use Rattle.wasm_operator_validator_store.specs.Stores.{ObjectInstance, Store, nothing, bits_of, range, placed, segment_in, field_at, with_object, with_fields}
+use Rattle.wasm_operator_validator_store.specs.Stores.{ObjectInstance, Store, nothing, bits_of, range, placed, segment_in, field_at, with_object, with_fields, data_in}
+use Rattle.wasm_operator_validator_store.specs.Memories.{stored_type, stored_size, elements_from}
 use Rattle.wasm_operator_validator_store.specs.ValidStores.{Each, Knows, Has, HasField, FieldsFit, ObjectFits, IsLater}
 use Rattle.wasm_operator_validator_store.specs.Giving.{Traps, Makes, GivesOperator}
 use Rattle.wasm_operator_validator_store.specs.Soundness.{AreValid}
@@ -26,6 +27,7 @@ use Rattle.wasm_operator_validator_store.proofs.Operating.{CodeNew}
 use Rattle.wasm_operator_validator_store.proofs.Storing.{segment_holds, knows_later, object_evolves, object_fits, object_known, fields_evolve, written_fits}
 use Rattle.wasm_operator_validator_store.proofs.Answering.{IsDone, found_needs, found_answer, no_trap, a_trap, no_trap_needs, told, top_known}
 use Rattle.wasm_operator_validator_store.proofs.Accessing.{values_known}
+use Rattle.wasm_operator_validator_store.proofs.Memories.{numbers_fit, read_known}
 use Rattle.wasm_operator_validator_store.proofs.Objects.{there_some, or_traps, of_object, type_known, under_fits, object_any, trap_any, under_traps, under_answer, pops_any, pops_split, write_any, write_needs}
 use Rattle.wasm_operator_validator_store.proofs.Making.{array_is, fit_in_order}
 use Rattle.wasm_operator_validator_store.proofs.Control.{numbers_known}
@@ -153,9 +155,10 @@ module _ (p : Program) (valid : IsValidProgram p) (results : List ValueType) (ac
       let outer : TypeTree → Move = λ t. found (array_fields (expanded t)) (inner t) in
       let answer : (execute p a act acts (plain (op.Gc (gc.ArrayNewData x d)) more)).is_answer =
       found_answer (slice_get p.«module».types x) outer (λ t e. found_answer (array_fields (expanded t)) (inner t) (λ fs q. trap_any p valid results act acts s v more a u a.traps (goes p a act acts (ref_object a.made t ∷ drop 2 vs) more) tt)) in
+      let g = there_some p (act ∷ acts) s a u (slice_get p.«module».types x) _ h in
+      ⊎_elim (λ t. fails (op.Gc (gc.ArrayNewData x d)) answer (λ e q f n. absurd (true≢false (sym e ∙ n))) t) (λ f.
       ⊎_elim (λ t. fails (op.Gc (gc.ArrayNewData x d)) answer (λ e q f n. absurd (true≢false (sym e ∙ n))) t) (λ k.
-      let g = there_some p (act ∷ acts) s a u (slice_get p.«module».types x) _ k in
-      let f = there_some p (act ∷ acts) s a u (field_at (expanded g.0) 0) _ g.2 in
+      let es = elements_from (f.0).storage (at 0) k.0 in
       let m = told p valid results act acts s v a (plain (op.Gc (gc.ArrayNewData x d)) more) c answer in
       let q = found_needs {A = TypeTree} p results (slice_get p.«module».types x) outer m.0 m.1 in
       let r = found_needs {A = Fields} p results (array_fields (expanded q.0)) (inner q.0) q.2 q.3 in
@@ -163,9 +166,10 @@ module _ (p : Program) (valid : IsValidProgram p) (results : List ValueType) (ac
       let same : q.0 ≡ g.0 = same_some q.0 g.0 (sym q.1 ∙ g.1) in
       let is : expanded g.0 ≡ array_of y.0 = sym (ap (λ (z : TypeTree). expanded z) same) ∙ y.1 in
       let one : f.0 ≡ y.0 = same_some f.0 y.0 (sym f.1 ∙ ap (λ (z : InnerOf TypeTree). field_at z 0) is) in
-      array_made (op.Gc (gc.ArrayNewData x d)) x g.0 y.0 f.2.0 [] g.1 is answer (λ w z q e n. z q e)
-      (subst (λ (z : FieldOf TypeTree). EachFits p f.2.0 (operand_of z.storage)) one f.2.2) (numbers_known s f.2.0 f.2.3) tt f.2.4)
-      h
+      array_made (op.Gc (gc.ArrayNewData x d)) x g.0 y.0 es [] g.1 is answer (λ w z q e n. z q e)
+      (subst (λ (z : FieldOf TypeTree). EachFits p es (operand_of z.storage)) one (numbers_fit p (f.0).storage (at 0) k.0)) (read_known s (stored_type (f.0).storage) (stored_size (f.0).storage) (at 0) k.0) tt k.2)
+      (or_traps p (act ∷ acts) s a u (range (data_in s d) (at 1) (at 0 * stored_size (f.0).storage)) _ f.2))
+      (or_traps p (act ∷ acts) s a u (field_at (expanded g.0) 0) _ g.2)
 
   abbrev from_segment : ℕ → Fields → (FieldOf TypeTree → Move → Move) → Move → Move
   from_segment i fs may m = found (slice_get p.«module».elements i) (λ (q : ValueType). found (slice_get fs 0) (λ (f : FieldOf TypeTree). may f (copies p a q (operand_of f.storage) m)))
@@ -278,9 +282,10 @@ module _ (p : Program) (valid : IsValidProgram p) (results : List ValueType) (ac
   array_init_data_done x d c h =
       let f : Fields → List Value → Move = λ fs ws. found (slice_get fs 0) (λ (z : FieldOf TypeTree). writes z (asks (FromData p a act acts d fs) (goes p a act acts ws more))) in
       let answer : (execute p a act acts (plain (op.Gc (gc.ArrayInitData x d)) more)).is_answer = under_any three x vs f (λ fs. found_answer (slice_get fs 0) _ (λ z e. tt)) in
-      ⊎_elim (λ t. fails (op.Gc (gc.ArrayInitData x d)) answer (λ e. tt) t) (λ j.
       ⊎_elim (λ t. fails (op.Gc (gc.ArrayInitData x d)) answer (λ e. tt) t) (λ r.
-      let z = there_some p (act ∷ acts) s a u (field_at (expanded (r.2).type) 0) _ r.5 in
+      ⊎_elim (λ t. fails (op.Gc (gc.ArrayInitData x d)) answer (λ e. tt) t) (λ z.
+      ⊎_elim (λ t. fails (op.Gc (gc.ArrayInitData x d)) answer (λ e. tt) t) (λ j.
+      let es = elements_from (z.0).storage (at 0) j.0 in
       ⊎_elim (λ t. fails (op.Gc (gc.ArrayInitData x d)) answer (λ e. tt) t) (λ k.
       let n = told p valid results act acts s v a (plain (op.Gc (gc.ArrayInitData x d)) more) c answer in
       let m = under_needs a three x vs f r.0 r.1 k.2.1 (fourth r.0 r.1 r.3) n.0 n.1 in
@@ -289,11 +294,12 @@ module _ (p : Program) (valid : IsValidProgram p) (results : List ValueType) (ac
       let is = array_is (expanded r.1) m.0 m.1 in
       let own : z.0 ≡ is.0 = same_some z.0 is.0 (sym z.1 ∙ ap (λ (q : TypeTree). field_at (expanded q) 0) type ∙ ap (λ (q : InnerOf TypeTree). field_at q 0) is.1) in
       let one : z.0 ≡ w.0 = own ∙ same_some is.0 w.0 (subst (λ (gs : Fields). slice_get gs 0 ≡ Some w.0) is.2 w.1) in
-      many_written (op.Gc (gc.ArrayInitData x d)) r.0 (at 2) r.1 r.2 (top 3) m.0 w.0 z.2.0 k.0 [] answer tt (there 3) r.3 r.4 m.1 w.1 w.2.0
-      (has_each p s (operand_of (w.0).storage) z.2.0 (subst (λ (q : FieldOf TypeTree). EachFits p z.2.0 (operand_of q.storage)) one z.2.2) (numbers_known s z.2.0 z.2.3)) k.1 tt k.2.0 k.2.2)
-      (or_traps p (act ∷ acts) s a u (placed (r.2).fields (at 2) z.2.0) _ z.2.4))
-      (of_object p (act ∷ acts) s a u (top 3) _ j))
-      h
+      many_written (op.Gc (gc.ArrayInitData x d)) r.0 (at 2) r.1 r.2 (top 3) m.0 w.0 es k.0 [] answer tt (there 3) r.3 r.4 m.1 w.1 w.2.0
+      (has_each p s (operand_of (w.0).storage) es (subst (λ (q : FieldOf TypeTree). EachFits p es (operand_of q.storage)) one (numbers_fit p (z.0).storage (at 0) j.0)) (read_known s (stored_type (z.0).storage) (stored_size (z.0).storage) (at 0) j.0)) k.1 tt k.2.0 k.2.2)
+      (or_traps p (act ∷ acts) s a u (placed (r.2).fields (at 2) es) _ j.2))
+      (or_traps p (act ∷ acts) s a u (range (data_in s d) (at 1) (at 0 * stored_size (z.0).storage)) _ z.2))
+      (or_traps p (act ∷ acts) s a u (field_at (expanded (r.2).type) 0) _ r.5))
+      (of_object p (act ∷ acts) s a u (top 3) _ h)
 
   pub array_init_elem_done : (x i : ℕ) → Next (op.Gc (gc.ArrayInitElem x i)) → Given (op.Gc (gc.ArrayInitElem x i)) → Done (op.Gc (gc.ArrayInitElem x i))
   array_init_elem_done x i c h =

@@ -99,5 +99,5 @@ module _ (p : Program) (valid : IsValidProgram p) (results : List ValueType) (ac
   pub length_done : Given (op.Gc gc.ArrayLen) → Done (op.Gc gc.ArrayLen)
   length_done h =
       let answer : (execute p a act acts (plain (op.Gc gc.ArrayLen) more)).is_answer = pops_top act.innermost.values _ (λ w ws d. choose_any a.traps (done trapped) (goes p a act acts (number_value i32 a.made ∷ ws) more) tt tt) in
-      ⊎_elim (λ t. silent_done (op.Gc gc.ArrayLen) answer tt t.1.0 t.1.1) (λ r. silent_done (op.Gc gc.ArrayLen) answer tt r.5.1.0 r.5.1.2)
+      ⊎_elim (λ t. silent_done (op.Gc gc.ArrayLen) answer (λ e. tt) t.1.0 t.1.1) (λ r. silent_done (op.Gc gc.ArrayLen) answer (λ e. tt) r.5.1.0 r.5.1.2)
       (of_object p (act ∷ acts) s a u (get_or act.innermost.values 0 nothing) _ h)

@@ -1,6 +1,6 @@
 -- Operators that take nothing from the store: branches, returns, locals, and what is dropped or selected. And those whose numbers come from
 -- outside, and constants.
-use Rattle.std.proofs.Common.{◌≡◌, ℕ, Bool, List, [], ◌∷◌, Option, refl, subst, map, take, length, slice_get}
+use Rattle.std.proofs.Common.{◌≡◌, ℕ, ◌%◌, ◌^◌, Bool, List, [], ◌∷◌, Option, refl, subst, map, take, length, slice_get}
 use Rattle.wasm_types.specs.trees.Types.{number, i32, i64, f32, f64}
 use Rattle.wasm_operators_enums.specs.declared.control.ControlOperator.TheVariants as control
 use Rattle.wasm_operators_enums.specs.declared.memory.MemoryOperator.TheVariants as memory
@@ -12,11 +12,11 @@ use Rattle.wasm_operators_encoding.specs.expressions.Code.{Code, close, plain, n
 use Rattle.wasm_operators_immediates.specs.declared.block.BlockType.{BlockType}
 use Rattle.wasm_operator_validator_rules.specs.Operands.{ValueType}
 use Rattle.wasm_operator_validator_rules.specs.Context.{Signature}
-use Rattle.wasm_operator_validator_soundness.specs.runs.Values.{Program, Value, number_value, ref_null, ref_function, ref_object, ref_i31, ref_host, ref_extern, ref_exn, IsNumberValue, least_type}
+use Rattle.wasm_operator_validator_soundness.specs.runs.Values.{Program, Value, number_value, least_type}
 use Rattle.wasm_operator_validator_soundness.specs.runs.States.{Continuation, behind, again, Handlers, no_handlers, table, clauses, Activation, Answer, branch_type, Move, pops}
 use Rattle.wasm_operator_validator_soundness.specs.runs.Machine.{branch, branch_if, goes, opens, either_part, select, execute}
 use Rattle.wasm_operator_validator_soundness.specs.runs.Soundness.{IsValidProgram}
-use Rattle.wasm_operator_validator_store.specs.Stores.{Store, integer_bits}
+use Rattle.wasm_operator_validator_store.specs.Stores.{Store, integer_bits, IsWithin}
 use Rattle.wasm_operator_validator_store.specs.ValidStores.{Each, Knows}
 use Rattle.wasm_operator_validator_store.specs.Giving.{Stays, Outside, GivesParametric, GivesConstant, GivesBlock}
 use Rattle.wasm_operator_validator_store.specs.Soundness.{AreValid}
@@ -28,18 +28,12 @@ use Rattle.wasm_operator_validator_store.proofs.Objects.{pops_any}
 use Rattle.wasm_operator_validator_store.proofs.Throwing.{out_any, jump_any}
 use Rattle.wasm_operator_validator_store.proofs.Casting.{choose_any, branch_any}
 
-pub number_known : (s : Store) (w : Value) → IsNumberValue w → Knows s w
+pub number_known : (s : Store) (w : Value) → IsWithin w → Knows s w
 number_known s (number_value n b) h = tt
-number_known s (ref_null c q) h = tt
-number_known s (ref_function i t) h = tt
-number_known s (ref_object k t) h = absurd h
-number_known s (ref_i31 b) h = tt
-number_known s (ref_host k) h = tt
-number_known s (ref_extern k) h = absurd h
-number_known s (ref_exn k t) h = absurd h
+number_known s w h = absurd h
 
-pub numbers_known : (s : Store) (ws : List Value) → Each IsNumberValue ws → Each (Knows s) ws
-numbers_known s ws h = each_map IsNumberValue (Knows s) ws (number_known s) h
+pub numbers_known : (s : Store) (ws : List Value) → Each IsWithin ws → Each (Knows s) ws
+numbers_known s ws h = each_map IsWithin (Knows s) ws (number_known s) h
 
 module _ (p : Program) (valid : IsValidProgram p) (results : List ValueType) (act : Activation) (acts : List Activation) (s : Store) (v : AreValid p results (act ∷ acts) s) where
   -- nothing comes, and nothing changes
@@ -108,11 +102,11 @@ module _ (p : Program) (valid : IsValidProgram p) (results : List ValueType) (ac
         (exchanged p valid results act acts s v more a u [] (number i64 ∷ []) h.1 (fit_as p valid results act acts s v more a u (number_value i64 (integer_bits 64 n) ∷ []) (number i64 ∷ []) h.0 ((tt, refl), tt)))
         (values_known p valid results act acts s v s a (number_value i64 (integer_bits 64 n) ∷ []) h.0 (tt, tt)) tt
     constant_done (const.F32Const b) h = unchanged p valid results act acts s v (plain (op.Const (const.F32Const b)) more) a u h.2
-        (exchanged p valid results act acts s v more a u [] (number f32 ∷ []) h.1 (fit_as p valid results act acts s v more a u (number_value f32 b.0 ∷ []) (number f32 ∷ []) h.0 ((tt, refl), tt)))
-        (values_known p valid results act acts s v s a (number_value f32 b.0 ∷ []) h.0 (tt, tt)) tt
+        (exchanged p valid results act acts s v more a u [] (number f32 ∷ []) h.1 (fit_as p valid results act acts s v more a u (number_value f32 (b.0 % 2 ^ 32) ∷ []) (number f32 ∷ []) h.0 ((tt, refl), tt)))
+        (values_known p valid results act acts s v s a (number_value f32 (b.0 % 2 ^ 32) ∷ []) h.0 (tt, tt)) tt
     constant_done (const.F64Const b) h = unchanged p valid results act acts s v (plain (op.Const (const.F64Const b)) more) a u h.2
-        (exchanged p valid results act acts s v more a u [] (number f64 ∷ []) h.1 (fit_as p valid results act acts s v more a u (number_value f64 b.0 ∷ []) (number f64 ∷ []) h.0 ((tt, refl), tt)))
-        (values_known p valid results act acts s v s a (number_value f64 b.0 ∷ []) h.0 (tt, tt)) tt
+        (exchanged p valid results act acts s v more a u [] (number f64 ∷ []) h.1 (fit_as p valid results act acts s v more a u (number_value f64 (b.0 % 2 ^ 64) ∷ []) (number f64 ∷ []) h.0 ((tt, refl), tt)))
+        (values_known p valid results act acts s v s a (number_value f64 (b.0 % 2 ^ 64) ∷ []) h.0 (tt, tt)) tt
 
   -- ---- blocks and ends
 

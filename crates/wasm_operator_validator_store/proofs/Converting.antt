@@ -22,7 +22,7 @@ use Rattle.wasm_operator_validator_store.specs.ValidStores.{Each, Knows, Has, St
 use Rattle.wasm_operator_validator_store.specs.Giving.{Stays, Unboxes, Externalises, ConvertsToExtern, ConvertsToAny, GivesOperator}
 use Rattle.wasm_operator_validator_store.specs.Soundness.{AreValid}
 use Rattle.wasm_operator_validator_store.proofs.Lists.{each_append, each_get, get_append}
-use Rattle.wasm_operator_validator_store.proofs.Storing.{stays, is_same, global_is_same, table_is_same, globals_fit, tables_fit, segments_fit, objects_fit, exceptions_fit, externs_fit, globals_there, tables_there, tags_there, has_later}
+use Rattle.wasm_operator_validator_store.proofs.Storing.{stays, is_same, global_is_same, table_is_same, memory_is_same, globals_fit, tables_fit, segments_fit, objects_fit, exceptions_fit, externs_fit, globals_there, tables_there, memories_there, tags_there, has_later}
 use Rattle.wasm_operator_validator_store.proofs.Answering.{IsDone, told, top_known}
 use Rattle.wasm_operator_validator_store.proofs.Accessing.{unchanged, values_known, exchanged, fit_as}
 use Rattle.wasm_operator_validator_store.proofs.Objects.{there_some, pops_split}
@@ -36,7 +36,9 @@ module _ (s : Store) (w : Value) where
   extern_evolves = record {
     globals = λ k g d. (g, d, global_is_same g);
     tables = λ k t d. (t, d, table_is_same t);
+    memories = λ k m d. (m, d, memory_is_same m);
     segments = λ i vs d. (vs, d, inl refl);
+    data_segments = λ i bs d. (bs, d, inl refl);
     objects = λ k q d. (q, d, is_same q);
     exceptions = λ k y d. d;
     tags = λ k t d. d;
@@ -49,6 +51,7 @@ module _ (p : Program) (s : Store) (w : Value) where
   extern_fits f h = record {
     globals = globals_fit p s (with_extern s w) (extern_evolves s w) f;
     tables = tables_fit p s (with_extern s w) (extern_evolves s w) f;
+    memories = f.memories;
     segments = segments_fit p s (with_extern s w) (extern_evolves s w) f;
     objects = objects_fit p s (with_extern s w) (extern_evolves s w) f;
     exceptions = exceptions_fit p s (with_extern s w) (extern_evolves s w) f;
@@ -56,6 +59,7 @@ module _ (p : Program) (s : Store) (w : Value) where
     externs = each_append (Has p (with_extern s w) (ref false (abstract false any))) s.externs (w ∷ []) (externs_fit p s (with_extern s w) (extern_evolves s w) f) (has_later p s (with_extern s w) (extern_evolves s w) (ref false (abstract false any)) w h, tt);
     global_addresses = globals_there p s (with_extern s w) (extern_evolves s w) f;
     table_addresses = tables_there p s (with_extern s w) (extern_evolves s w) f;
+    memory_addresses = memories_there p s (with_extern s w) (extern_evolves s w) f;
     tag_addresses = tags_there p s (with_extern s w) (extern_evolves s w) f;
   }
 
@@ -165,7 +169,7 @@ module _ (p : Program) (valid : IsValidProgram p) (results : List ValueType) (ac
   unboxes signed (ref_exn k t) h = h.1
 
   pub unbox_signed_done : Given (op.Gc gc.I31GetS) → Done (op.Gc gc.I31GetS)
-  unbox_signed_done h = silent p valid results act acts s v more a u (op.Gc gc.I31GetS) unbox_answer tt (unboxes true top h)
+  unbox_signed_done h = silent p valid results act acts s v more a u (op.Gc gc.I31GetS) unbox_answer (λ e. tt) (unboxes true top h)
 
   pub unbox_unsigned_done : Given (op.Gc gc.I31GetU) → Done (op.Gc gc.I31GetU)
-  unbox_unsigned_done h = silent p valid results act acts s v more a u (op.Gc gc.I31GetU) unbox_answer tt (unboxes false top h)
+  unbox_unsigned_done h = silent p valid results act acts s v more a u (op.Gc gc.I31GetU) unbox_answer (λ e. tt) (unboxes false top h)

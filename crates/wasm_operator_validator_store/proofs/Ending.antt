@@ -36,30 +36,30 @@ use Rattle.wasm_operator_validator_soundness.proofs.Progress.{NoTrap, no_trap, G
 pub record Ends (m : Move) : Type 0 where
   pub never : m.outcome ≡ trapped → ⊥
 
-goes_ends : (m : Move) → Goes false m → Ends m
+pub goes_ends : (m : Move) → Goes false m → Ends m
 goes_ends m k = record { never = λ e. true≢false (sym (k.ends e)) }
 
-done_ends : (o : Outcome) → NoTrap o → Ends (done o)
+pub done_ends : (o : Outcome) → NoTrap o → Ends (done o)
 done_ends o n = record { never = no_trap o n }
 
 refused_ends : Ends refused
 refused_ends = record { never = λ e. no_trap stuck tt e }
 
-asks_ends : (P : Type 0) (m : Move) → Ends m → Ends (asks P m)
+pub asks_ends : (P : Type 0) (m : Move) → Ends m → Ends (asks P m)
 asks_ends P m k = record { never = k.never }
 
-allows_ends : (P : Type 0) (m : Move) → Ends m → Ends (allows P m)
+pub allows_ends : (P : Type 0) (m : Move) → Ends m → Ends (allows P m)
 allows_ends P m k = record { never = k.never }
 
-choose_ends : (b : Bool) (m n : Move) → Ends m → Ends n → Ends (choose b m n)
+pub choose_ends : (b : Bool) (m n : Move) → Ends m → Ends n → Ends (choose b m n)
 choose_ends true m n k l = k
 choose_ends false m n k l = l
 
-found_ends : {A : Type 0} (o : Option A) (f : A → Move) → ((x : A) → Ends (f x)) → Ends (found o f)
+pub found_ends : {A : Type 0} (o : Option A) (f : A → Move) → ((x : A) → Ends (f x)) → Ends (found o f)
 found_ends None f k = done_ends stuck tt
 found_ends (Some x) f k = k x
 
-pops_ends : (vs : List Value) (f : Value → List Value → Move) → ((v : Value) (ws : List Value) → Ends (f v ws)) → Ends (pops vs f)
+pub pops_ends : (vs : List Value) (f : Value → List Value → Move) → ((v : Value) (ws : List Value) → Ends (f v ws)) → Ends (pops vs f)
 pops_ends [] f k = done_ends stuck tt
 pops_ends (v ∷ vs) f k = k v vs
 
@@ -97,13 +97,13 @@ module _ (p : Program) (a : Answer) where
     unwind_ends [] n = done_ends (thrown t vs) tt
     unwind_ends (act ∷ acts) n = leave_ends act (act.innermost ∷ act.around) n acts (unwind p a t vs acts) (unwind_ends acts)
 
-  again_ends : (t : TypeTree) (acts : List Activation) → Ends (throw_again p a t acts)
+  pub again_ends : (t : TypeTree) (acts : List Activation) → Ends (throw_again p a t acts)
   again_ends t acts = found_ends (function_type t) _ (λ b. allows_ends (AllFit p a.values (stack b.params)) _ (unwind_ends t a.values acts a.leaves))
 
   -- ---- operators that never trap
 
   module _ (act : Activation) (acts : List Activation) (calm : a.traps ≡ false) where
-    on : (ws : List Value) (more : Code) → Ends (goes p a act acts ws more)
+    pub on : (ws : List Value) (more : Code) → Ends (goes p a act acts ws more)
     on ws more = record { never = λ e. no_trap _ tt e }
 
     branch_ends : (n : ℕ) (ws : List Value) → Ends (branch p a act acts n ws)

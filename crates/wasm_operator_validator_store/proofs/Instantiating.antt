@@ -1,8 +1,10 @@
 -- In the first store of a program all fits.
-use Rattle.std.proofs.Common.{◌≡◌, ℕ, suc, ◌+◌, ◌≤◌, false, List, [], ◌∷◌, ◌++◌, Option, Some, None, refl, sym, ap, subst, ◌∙◌, length, map, take, slice_get, take_all, arith}
+use Rattle.std.proofs.Common.{◌≡◌, ℕ, suc, ◌+◌, ◌*◌, ◌≤◌, false, List, [], ◌∷◌, ◌++◌, Option, Some, None, refl, sym, ap, subst, ◌∙◌, length, map, take, slice_get, take_all, arith}
 use Rattle.std.specs.Prelude.{replicate}
+use Rattle.std.proofs.lemmas.List.{length-replicate}
 use Rattle.wasm_types.specs.trees.Types.{ref, abstract, any, InnerOf, array_of, struct_of}
 use Rattle.wasm_types.specs.trees.Trees.{TypeTree}
+use Rattle.wasm_types.specs.externs.declared.memory.MemoryType.{MemoryType}
 use Rattle.wasm_types.specs.trees.Below.{Below, expanded}
 use Rattle.wasm_types.specs.trees.laws.Below.{below_reflexive}
 use Rattle.wasm_operators_encoding.specs.expressions.Code.{Code}
@@ -12,12 +14,12 @@ use Rattle.wasm_operator_validator_soundness.specs.runs.Values.{Function, Progra
 use Rattle.wasm_operator_validator_soundness.specs.runs.ValidStates.{IsTagType}
 use Rattle.wasm_operator_validator_soundness.specs.runs.Machine.{address}
 use Rattle.wasm_operator_validator_soundness.specs.runs.Soundness.{IsValidProgram}
-use Rattle.wasm_operator_validator_store.specs.Stores.{GlobalInstance, TableInstance, ExceptionInstance, Store, bits_of, with_elements, table_address, table_in, segment_in, with_table}
-use Rattle.wasm_operator_validator_store.specs.ValidStores.{Each, Pairs, Knows, Has, HasField, FieldsFit, ObjectFits, ThrownFits, GlobalMatches, TableMatches, IsGlobalAt, IsTableAt, IsTagAt, GlobalFits, TableFits, StoreFits, Evolves, HasLocal}
-use Rattle.wasm_operator_validator_store.specs.Instantiation.{without_body, seen_with, IsConstant, Filling, Item, function_item, constant_item, Use, kept, dropped, written, Segment, Initials, GlobalsAreTyped, IsFilling, TablesAreTyped, IsItem, IsUse, SegmentsAreTyped, addresses_from, empty_table, imports_of, own_tables, own_tags, allocated, with_new_global, seeing_globals, with_segment, all_seen, GlobalsBecome, Fills, TablesBecome, ItemBecomes, ItemsBecome, SegmentsBecome, IsUsed, AreUsed, FirstStoresFit}
-use Rattle.wasm_operator_validator_store.proofs.Lists.{same_some, each_append, each_changed, each_map, each_placed, each_replicate, each_from, each_of_map, pairs_map, pairs_set, pairs_of_map, pairs_take, pairs_more, pairs_join, get_append, get_last, get_map, get_past, get_drop, get_changed_by}
+use Rattle.wasm_operator_validator_store.specs.Stores.{GlobalInstance, TableInstance, MemoryInstance, ExceptionInstance, Store, page_of, bits_of, with_elements, table_address, table_in, memory_in, segment_in, data_in, with_table, with_memory}
+use Rattle.wasm_operator_validator_store.specs.ValidStores.{Each, Pairs, Knows, Has, HasField, FieldsFit, ObjectFits, ThrownFits, GlobalMatches, TableMatches, IsBelowMaximum, MemoryMatches, IsGlobalAt, IsTableAt, IsMemoryAt, IsTagAt, GlobalFits, TableFits, MemoryFits, StoreFits, Evolves, HasLocal}
+use Rattle.wasm_operator_validator_store.specs.Instantiation.{without_body, seen_with, IsConstant, Filling, Item, function_item, constant_item, Use, kept, dropped, written, Segment, DataSegment, Initials, GlobalsAreTyped, IsFilling, TablesAreTyped, IsItem, IsUse, SegmentsAreTyped, IsDataUse, IsDataSegment, IsSizedMemory, AreInitials, addresses_from, empty_table, zero_memory, imports_of, own_tables, own_memories, own_tags, allocated, with_new_global, seeing_globals, with_segment, all_seen, GlobalsBecome, Fills, TablesBecome, ItemBecomes, ItemsBecome, SegmentsBecome, IsUsed, AreUsed, IsDataUsed, DataAreUsed, FirstStoresFit}
+use Rattle.wasm_operator_validator_store.proofs.Lists.{same_some, each_append, each_changed, each_map, each_placed, each_replicate, each_from, each_of_map, pairs_map, pairs_set, pairs_of_map, pairs_take, pairs_more, pairs_join, get_append, get_last, get_map, get_past, get_drop, get_changed_by, placed_length}
 use Rattle.wasm_operator_validator_store.proofs.Keeping.{default_kept}
-use Rattle.wasm_operator_validator_store.proofs.Storing.{knows_plain, stays, global_there, has_later, all_above, table_at, table_holds, segment_holds, segment_fits}
+use Rattle.wasm_operator_validator_store.proofs.Storing.{knows_plain, stays, global_there, has_later, all_above, table_at, table_holds, segment_holds, segment_fits, bytes_fit, data_fits}
 use Rattle.wasm_operator_validator_store.proofs.Throwing.{get_map_back}
 use Rattle.wasm_operator_validator_store.proofs.Steps.{store_constants_sound, evolves_again}
 
@@ -87,10 +89,12 @@ module _ (p q : Program) (s u : Store) (made : (w : Value) → IsMade p w → Is
   fits_too : Each (GlobalFits q u) u.globals → Each (TableFits q u) u.tables → Pairs (λ t ws. Each (Has q u t) ws) q.«module».elements u.segments
       → Pairs (IsGlobalAt u) q.«module».globals u.addresses.globals → Pairs (IsTableAt u) q.«module».tables u.addresses.tables → Pairs (IsTagAt u) q.«module».tags u.addresses.tags
       → u.objects ≡ s.objects → u.exceptions ≡ s.exceptions → u.externs ≡ s.externs → ((k : ℕ) (t : TypeTree) → slice_get s.tags k ≡ Some t → slice_get u.tags k ≡ Some t) → Each IsTagType u.tags
+      → Each MemoryFits u.memories → Pairs (IsMemoryAt u) q.«module».memories u.addresses.memories
       → StoreFits p s → StoreFits q u
-  fits_too globals tables segments global_addresses table_addresses tag_addresses objects exceptions externs tags_kept tags f = record {
+  fits_too globals tables segments global_addresses table_addresses tag_addresses objects exceptions externs tags_kept tags memories memory_addresses f = record {
     globals = globals;
     tables = tables;
+    memories = memories;
     segments = segments;
     objects = subst (Each (ObjectFits q u)) (sym objects) (each_map (ObjectFits p s) (ObjectFits q u) s.objects (λ o h. fields_too (expanded o.type) o.fields h) f.objects);
     exceptions = subst (Each (ThrownFits q u)) (sym exceptions) (each_map (ThrownFits p s) (ThrownFits q u) s.exceptions thrown f.exceptions);
@@ -98,11 +102,24 @@ module _ (p q : Program) (s u : Store) (made : (w : Value) → IsMade p w → Is
     externs = subst (Each (Has q u (ref false (abstract false any)))) (sym externs) (each_too (ref false (abstract false any)) s.externs f.externs);
     global_addresses = global_addresses;
     table_addresses = table_addresses;
+    memory_addresses = memory_addresses;
     tag_addresses = tag_addresses;
   }
     where
       thrown : (x : ExceptionInstance) → ThrownFits p s x → ThrownFits q u x
       thrown x h = (h.0, tags_kept x.tag h.0 h.1, (λ b is. all_too x.values (stack b.params) (h.2 b is)), each_map (Knows s) (Knows u) x.values knows h.3)
+
+below_itself : (o : Option ℕ) → IsBelowMaximum o o
+below_itself None = tt
+below_itself (Some n) = omega arith
+
+-- a memory of zeros is of the size that its type says
+zero_size : (t : MemoryType) → t.initial * page_of t ≤ length (zero_memory t).bytes
+zero_size t = omega (arith, length-replicate {A = ℕ} (t.initial * page_of t) 0)
+
+zeros_fit : (p : Program) (ts : List MemoryType) → Each (IsSizedMemory p) ts → Each MemoryFits (map zero_memory ts)
+zeros_fit p [] h = tt
+zeros_fit p (t ∷ ts) h = ((t.initial, length-replicate {A = ℕ} (t.initial * page_of t) 0, h.0), zeros_fit p ts h.1)
 
 -- what is at an address of one store is there in another that has it too
 module _ (s u : Store) where
@@ -112,8 +129,14 @@ module _ (s u : Store) where
   tables_stay : ((k : ℕ) (t : TableInstance) → slice_get s.tables k ≡ Some t → slice_get u.tables k ≡ Some t) → (ts : List Table) (ks : List ℕ) → Pairs (IsTableAt s) ts ks → Pairs (IsTableAt u) ts ks
   tables_stay still ts ks h = pairs_map (IsTableAt s) (IsTableAt u) ts ks (λ t k r. (r.0, still k r.0 r.1, r.2)) h
 
+  memories_stay : ((k : ℕ) (m : MemoryInstance) → slice_get s.memories k ≡ Some m → slice_get u.memories k ≡ Some m) → (ts : List MemoryType) (ks : List ℕ) → Pairs (IsMemoryAt s) ts ks → Pairs (IsMemoryAt u) ts ks
+  memories_stay still ts ks h = pairs_map (IsMemoryAt s) (IsMemoryAt u) ts ks (λ t k r. (r.0, still k r.0 r.1, r.2, r.3)) h
+
   tags_stay : ((k : ℕ) (t : TypeTree) → slice_get s.tags k ≡ Some t → slice_get u.tags k ≡ Some t) → (ts : List TypeTree) (ks : List ℕ) → Pairs (IsTagAt s) ts ks → Pairs (IsTagAt u) ts ks
   tags_stay still ts ks h = pairs_map (IsTagAt s) (IsTagAt u) ts ks (λ t k r. still k t r) h
+
+memory_matches : (t : MemoryType) → MemoryMatches t t
+memory_matches t = (refl, refl, refl, below_itself t.maximum)
 
 global_matches : (g : Global) → GlobalMatches g g
 global_matches g = (refl, refl, below_reflexive g.content, (λ m. below_reflexive g.content))
@@ -162,7 +185,7 @@ module _ (p : Program) (valid : IsValidProgram p) where
 
   -- ---- what is allocated
 
-  module _ (i : Initials) (host : Store) (f : StoreFits (imports_of p i) host) where
+  module _ (i : Initials) (host : Store) (typed : AreInitials p i) (f : StoreFits (imports_of p i) host) where
     abbrev first : List Global
     first = take i.imported_globals p.«module».globals
 
@@ -186,6 +209,11 @@ module _ (p : Program) (valid : IsValidProgram p) where
         (tables_stay host u (λ k t e. get_append host.tables (map empty_table (own_tables p i)) k t e) (take i.imported_tables p.«module».tables) host.addresses.tables f.table_addresses)
         (fresh (IsTableAt u) (own_tables p i) (length host.tables) (λ k t e. (empty_table t, get_past host.tables (map empty_table (own_tables p i)) k (empty_table t) (get_map empty_table (own_tables p i) k t e), table_matches t)))
 
+    memories_placed : Pairs (IsMemoryAt u) p.«module».memories (host.addresses.memories ++ addresses_from (length host.memories) (length (own_memories p i)))
+    memories_placed = pairs_join (IsMemoryAt u) i.imported_memories p.«module».memories host.addresses.memories (addresses_from (length host.memories) (length (own_memories p i)))
+        (memories_stay host u (λ k m e. get_append host.memories (map zero_memory (own_memories p i)) k m e) (take i.imported_memories p.«module».memories) host.addresses.memories f.memory_addresses)
+        (fresh (IsMemoryAt u) (own_memories p i) (length host.memories) (λ k t e. (zero_memory t, get_past host.memories (map zero_memory (own_memories p i)) k (zero_memory t) (get_map zero_memory (own_memories p i) k t e), memory_matches t, zero_size t)))
+
     tags_placed : Pairs (IsTagAt u) p.«module».tags (host.addresses.tags ++ addresses_from (length host.tags) (length (own_tags p i)))
     tags_placed = pairs_join (IsTagAt u) i.imported_tags p.«module».tags host.addresses.tags (addresses_from (length host.tags) (length (own_tags p i)))
         (tags_stay host u tags_kept (take i.imported_tags p.«module».tags) host.addresses.tags f.tag_addresses)
@@ -197,7 +225,8 @@ module _ (p : Program) (valid : IsValidProgram p) where
         (each_append (TableFits (seen_with p first) u) host.tables (map empty_table (own_tables p i)) (tables_too (imports_of p i) (seen_with p first) host u made_first knows_first host.tables f.tables)
         (each_of_map (TableFits (seen_with p first) u) empty_table (own_tables p i) (λ t. tt)))
         (pairs_of_map (λ t ws. Each (Has (seen_with p first) u t) ws) (λ t. []) p.«module».elements (λ t. tt))
-        (globals_stay host u (λ k g e. e) first host.addresses.globals f.global_addresses) tables_placed tags_placed refl refl refl tags_kept (each_append IsTagType host.tags (own_tags p i) f.tags own_thrown) f
+        (globals_stay host u (λ k g e. e) first host.addresses.globals f.global_addresses) tables_placed tags_placed refl refl refl tags_kept (each_append IsTagType host.tags (own_tags p i) f.tags own_thrown)
+        (each_append MemoryFits host.memories (map zero_memory (own_memories p i)) f.memories (zeros_fit p (own_memories p i) typed.memories)) memories_placed f
 
   -- ---- globals
 
@@ -221,7 +250,7 @@ module _ (p : Program) (valid : IsValidProgram p) where
       (segments_too (seen_with p gs) (seen_with p hs) h.2 x made knows p.«module».elements (h.2).segments (k.1).segments)
       (pairs_more (IsGlobalAt x) n all (h.2).addresses.globals h.0 (length (h.2).globals) h.3 (i, get_last (h.2).globals i, global_matches h.0) there)
       (tables_stay h.2 x (λ b t e. e) p.«module».tables (h.2).addresses.tables (k.1).table_addresses) (tags_stay h.2 x (λ b t e. e) p.«module».tags (h.2).addresses.tags (k.1).tag_addresses)
-      refl refl refl (λ b t r. r) (k.1).tags k.1) h.5
+      refl refl refl (λ b t r. r) (k.1).tags (k.1).memories (k.1).memory_addresses k.1) h.5
 
   -- a store in which the module sees other globals
   seeing_fits : (gs hs : List Global) (s : Store) (ks : List ℕ) → Pairs (IsGlobalAt s) hs ks → StoreFits (seen_with p gs) s → StoreFits (seen_with p hs) (seeing_globals s ks)
@@ -234,7 +263,7 @@ module _ (p : Program) (valid : IsValidProgram p) where
       (tables_too (seen_with p gs) (seen_with p hs) s x made knows s.tables f.tables)
       (segments_too (seen_with p gs) (seen_with p hs) s x made knows p.«module».elements s.segments f.segments)
       (globals_stay s x (λ b g e. e) hs ks there) (tables_stay s x (λ b t e. e) p.«module».tables s.addresses.tables f.table_addresses) (tags_stay s x (λ b t e. e) p.«module».tags s.addresses.tags f.tag_addresses)
-      refl refl refl (λ b t r. r) f.tags f
+      refl refl refl (λ b t r. r) f.tags f.memories f.memory_addresses f
 
   -- ---- tables
 
@@ -266,7 +295,7 @@ module _ (p : Program) (valid : IsValidProgram p) where
       (segments_too q q s y (λ w i. i) knows p.«module».elements s.segments f.segments)
       (globals_stay s y (λ b g d. d) all s.addresses.globals f.global_addresses)
       (pairs_map (IsTableAt s) (IsTableAt y) p.«module».tables s.addresses.tables (λ k b d. still k b d) f.table_addresses)
-      (tags_stay s y (λ b k d. d) p.«module».tags s.addresses.tags f.tag_addresses) refl refl refl (λ b k d. d) f.tags f
+      (tags_stay s y (λ b k d. d) p.«module».tags s.addresses.tags f.tag_addresses) refl refl refl (λ b k d. d) f.tags f.memories f.memory_addresses f
     where
       still : (k : Table) (b : ℕ) → IsTableAt s k b → IsTableAt (with_table s x ws) k b
       still k b d =
@@ -309,7 +338,7 @@ module _ (p : Program) (valid : IsValidProgram p) where
       (pairs_set (λ t vs. Each (Has q y t) vs) p.«module».elements (h.2).segments i h.0 h.1 (segments_too q q h.2 y (λ w m. m) knows p.«module».elements (h.2).segments (k.1).segments) h.3 (each_too q q h.2 y (λ w m. m) knows h.0 h.1 k.0))
       (globals_stay h.2 y (λ b g d. d) all (h.2).addresses.globals (k.1).global_addresses)
       (tables_stay h.2 y (λ b g d. d) p.«module».tables (h.2).addresses.tables (k.1).table_addresses)
-      (tags_stay h.2 y (λ b g d. d) p.«module».tags (h.2).addresses.tags (k.1).tag_addresses) refl refl refl (λ b t d. d) (k.1).tags k.1) h.5
+      (tags_stay h.2 y (λ b g d. d) p.«module».tags (h.2).addresses.tags (k.1).tag_addresses) refl refl refl (λ b t d. d) (k.1).tags (k.1).memories (k.1).memory_addresses k.1) h.5
 
   -- ---- active segments
 
@@ -328,6 +357,22 @@ module _ (p : Program) (valid : IsValidProgram p) where
   uses_fit [] i s u a f h = subst (λ y. StoreFits q y) h f
   uses_fit (x ∷ xs) i s u a f h = uses_fit xs (suc i) h.0 u a.4 (use_fits i a.0 x.first_use s h.0 a.1 a.3 f h.1) h.2
 
+  -- ---- active data segments
+
+  data_use_fits : (d : ℕ) (c : Use) (s u : Store) → IsDataUse p c → StoreFits q s → IsDataUsed p d c s u → StoreFits q u
+  data_use_fits d kept s u a f h = subst (λ y. StoreFits q y) h f
+  data_use_fits d dropped s u a f h = subst (λ y. StoreFits q y) h (data_fits q s d f)
+  data_use_fits d (written x c) s u a f h =
+      let same : a.0 ≡ h.0 = same_some a.0 h.0 (sym a.1 ∙ h.4) in
+      let typed : IsConstant p all (address (h.0).memory64) c = subst (λ (k : MemoryType). IsConstant p all (address k.memory64) c) same a.2 in
+      let k = store_constants_sound q (address (h.0).memory64) c s h.1 h.2 (seen_valid all) typed f h.5 in
+      let w = bytes_fit q h.2 x h.3 (placed_length (memory_in h.2 x) (bits_of h.1) (data_in h.2 d) h.3 h.6) k.1 in
+      subst (λ y. StoreFits q y) h.7 (data_fits q (with_memory h.2 x h.3) d w.0)
+
+  data_uses_fit : (xs : List DataSegment) (d : ℕ) (s u : Store) → Each (IsDataSegment p) xs → StoreFits q s → DataAreUsed p d xs s u → StoreFits q u
+  data_uses_fit [] d s u a f h = subst (λ y. StoreFits q y) h f
+  data_uses_fit (x ∷ xs) d s u a f h = data_uses_fit xs (suc d) h.0 u a.1 (data_use_fits d x.first_use s h.0 a.0 f h.1) h.2
+
   -- ---- all of them
 
   whole : (s : Store) → StoreFits q s → StoreFits p s
@@ -335,11 +380,12 @@ module _ (p : Program) (valid : IsValidProgram p) where
       let made = made_whole all in
       let knows : (w : Value) → Knows s w → Knows s w = λ w k. k in
       fits_too q p s s made knows (globals_too q p s s made knows s.globals f.globals) (tables_too q p s s made knows s.tables f.tables) (segments_too q p s s made knows p.«module».elements s.segments f.segments)
-      f.global_addresses f.table_addresses f.tag_addresses refl refl refl (λ b t d. d) f.tags f
+      f.global_addresses f.table_addresses f.tag_addresses refl refl refl (λ b t d. d) f.tags f.memories f.memory_addresses f
 
 pub first_stores_fit : FirstStoresFit
 first_stores_fit p i host u valid typed fits h =
-    let g = globals_fit p valid i.globals i.imported_globals (allocated p i host) h.with_globals typed.globals (allocated_fits p valid i host fits) h.globals in
+    let g = globals_fit p valid i.globals i.imported_globals (allocated p i host) h.with_globals typed.globals (allocated_fits p valid i host typed fits) h.globals in
     let k = tables_fit p valid i.tables i.imported_globals i.imported_tables h.with_globals h.with_tables typed.tables g h.tables in
     let n = segments_fit p valid i.segments 0 h.with_tables h.with_segments typed.segments k h.segments in
-    whole p valid u (uses_fit p valid i.segments 0 h.with_segments u typed.segments n h.used)
+    let m = uses_fit p valid i.segments 0 h.with_segments h.with_elements typed.segments n h.used in
+    whole p valid u (data_uses_fit p valid i.data_segments 0 h.with_elements u typed.data_segments m h.data_used)

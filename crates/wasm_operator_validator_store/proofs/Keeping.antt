@@ -7,7 +7,7 @@ use Rattle.wasm_operators_immediates.specs.declared.handlers.Catch.{Catch}
 use Rattle.wasm_operators_immediates.specs.declared.handlers.Catch.TheVariants as catch
 use Rattle.wasm_operator_validator_rules.specs.Operands.{ValueType}
 use Rattle.wasm_operator_validator_rules.specs.Context.{Signature}
-use Rattle.wasm_operator_validator_soundness.specs.runs.Values.{Body, Program, Value, number_value, ref_null, ref_function, ref_i31, ref_exn, null_of, default_of}
+use Rattle.wasm_operator_validator_soundness.specs.runs.Values.{Body, Program, Value, number_value, ref_null, ref_function, ref_exn, null_of, default_of}
 use Rattle.wasm_operator_validator_soundness.specs.runs.States.{Continuation, behind, again, Handlers, no_handlers, table, clauses, Label, Activation, Answer, branch_type}
 use Rattle.wasm_operator_validator_soundness.specs.runs.States.{Outcome, next, returned, trapped, thrown, Move, done, stop, refused, asks, allows, choose, found, pops}
 use Rattle.wasm_operator_validator_soundness.specs.runs.Machine.{Clause, clause_at, begun}
@@ -17,10 +17,9 @@ use Rattle.wasm_operator_validator_store.proofs.Lists.{each_take, each_drop, eac
 
 -- what holds of each value that names nothing in a store
 pub record IsPlain (K : Value → Type 0) : Type 0 where
-  pub numbers : (n : Number) (b : ℕ) → K (number_value n b)
+  pub zeros : (n : Number) → K (number_value n 0)
   pub nulls : (c : Bool) (h : Abstract) → K (ref_null c h)
   pub functions : (i : Option ℕ) (t : TypeTree) → K (ref_function i t)
-  pub scalars : (b : ℕ) → K (ref_i31 b)
 
 -- what comes of a step; it is a record, so that the step is found from its type
 pub record Keeps (K : Value → Type 0) (m : Move) : Type 0 where
@@ -64,7 +63,7 @@ module _ (K : Value → Type 0) (simple : IsPlain K) where
   null_kept (exact t) = simple.nulls _ _
 
   pub default_kept : (t : ValueType) → HasLocal K (default_of t)
-  default_kept (number n) = simple.numbers n 0
+  default_kept (number n) = simple.zeros n
   default_kept (ref true h) = null_kept h
   default_kept (ref false h) = tt
 

@@ -1,6 +1,6 @@
 -- The worked store of a program that imports one global and one table twice.
 use Rattle.std.specs.Prelude.{ℤ, All}
-use Rattle.std.proofs.Common.{◌≡◌, ℕ, zero, suc, [], ◌∷◌, Some, false, refl, sym, subst, slice_get, rules}
+use Rattle.std.proofs.Common.{◌≡◌, ◌≤◌, ◌*◌, ℕ, zero, suc, [], ◌∷◌, length, arith, Some, false, refl, sym, subst, slice_get, rules}
 use Rattle.std.proofs.lemmas.Option.{slice_get_within, get_or_from_slice_get}
 use Rattle.std.proofs.lemmas.List.Elements.{All-nil}
 use Rattle.wasm_types.specs.settings.Features.{has}
@@ -20,11 +20,11 @@ use Rattle.wasm_operator_validator_soundness.specs.runs.Soundness.{body_context,
 use Rattle.wasm_operator_validator_soundness.specs.runs.worked.Caught.{gives_number, end}
 use Rattle.wasm_operator_validator_soundness.specs.runs.worked.Older.{gives_written, gives_type, tag_written, tag_type}
 use Rattle.wasm_operator_validator_soundness.specs.runs.worked.Runs.{silent}
-use Rattle.wasm_operator_validator_store.specs.Stores.{Store}
-use Rattle.wasm_operator_validator_store.specs.ValidStores.{GlobalMatches, TableMatches, Knows, HasState, StoreFits}
+use Rattle.wasm_operator_validator_store.specs.Stores.{Store, page_of, most_pages}
+use Rattle.wasm_operator_validator_store.specs.ValidStores.{GlobalMatches, TableMatches, IsMemoryAt, Knows, HasState, StoreFits}
 use Rattle.wasm_operator_validator_store.specs.Instantiation.{IsConstant, AreInitials, allocated, with_new_global, imports_of, IsFirstStore}
-use Rattle.wasm_operator_validator_store.specs.worked.Program.{num, numbers, counter, callees, holds, giving}
-use Rattle.wasm_operator_validator_store.specs.worked.Linked.{of_host, callable, given, bits, five, five_bits, one, writing, calling, linked, initials, first, started, LinkedStoreWorked}
+use Rattle.wasm_operator_validator_store.specs.worked.Program.{num, numbers, counter, callees, small_memory, small_bytes, memory_of, holds, giving}
+use Rattle.wasm_operator_validator_store.specs.worked.Linked.{of_host, callable, given, own_memory, written_bytes, bits, five, five_bits, one, writing, calling, linked, initials, first, started, LinkedStoreWorked}
 use Rattle.wasm_operator_validator_store.proofs.Lists.{none_some, same_some}
 use Rattle.wasm_operator_validator_store.proofs.Storing.{stays}
 use Rattle.wasm_operator_validator_store.proofs.Steps.{store_runs_sound}
@@ -200,10 +200,23 @@ module _ (x : ℤ) where
   host_callable : Fits (linked x) of_host (ref false (concrete gives_type))
   host_callable = (host_made, (tt, itself))
 
+  few_pages : 8 ≤ most_pages small_memory
+  few_pages = omega arith
+
+  enough_bytes : small_memory.initial * page_of small_memory ≤ length small_bytes
+  enough_bytes = omega arith
+
+  same_most : 10 ≤ 10
+  same_most = omega arith
+
+  memory_there : IsMemoryAt given small_memory 0
+  memory_there = (memory_of small_memory small_bytes, refl, (refl, refl, refl, same_most), enough_bytes)
+
   linked_given : StoreFits (imports_of (linked x) (initials x)) given
   linked_given = record {
     globals = (((tt, refl), tt), tt);
     tables = (((host_fits, tt), ((null_fits, tt), tt)), tt);
+    memories = ((8, refl, few_pages), tt);
     segments = tt;
     objects = tt;
     exceptions = tt;
@@ -211,6 +224,7 @@ module _ (x : ℤ) where
     externs = tt;
     global_addresses = ((holds counter (num 0), refl, counter_matches), ((holds counter (num 0), refl, counter_matches), tt));
     table_addresses = ((callable, refl, callees_match), ((callable, refl, callees_match), tt));
+    memory_addresses = (memory_there, (memory_there, tt));
     tag_addresses = (refl, tt);
   }
 
@@ -232,16 +246,28 @@ module _ (x : ℤ) where
   unfolding has opened types_from
   one_constant = record { expression = search rules; typed = (n32 ∷ [], ([], n32 ∷ [], [], (search rules, (_, refl, (refl, refl))), tt, refl), ((refl, tt), tt, tt)) }
 
+  own_pages : 2 ≤ most_pages own_memory
+  own_pages = omega arith
+
   linked_typed : AreInitials (linked x) (initials x)
   linked_typed = record {
     globals = (counter, refl, five_constant, refl);
     tables = (callees, refl, (ref_null false func, refl, null_fits), refl);
+    memories = (own_pages, tt);
     segments = (callees.element, refl, ((_, refl, own_fits), tt), (callees, refl, (tt, (refl, same)), one_constant), refl);
+    data_segments = ((small_memory, refl, one_constant), (tt, tt));
+  }
+
+  -- before the data segment is written
+  abbrev unwritten : Store
+  unwritten = record (first x) {
+    memories = memory_of small_memory small_bytes ∷ memory_of own_memory (0 ∷ 0 ∷ []) ∷ [];
+    data_segments = (9 ∷ 10 ∷ []) ∷ (11 ∷ []) ∷ [];
   }
 
   -- the table before its segment is written, and after
   abbrev filled : Store
-  filled = record (first x) { tables = callable ∷ record { type = callees; elements = ref_null false func ∷ ref_null false func ∷ [] } ∷ [] }
+  filled = record unwritten { tables = callable ∷ record { type = callees; elements = ref_null false func ∷ ref_null false func ∷ [] } ∷ [] }
 
   abbrev loaded : Store
   loaded = record filled { segments = (ref_function (Some 1) gives_type ∷ []) ∷ [] }
@@ -251,6 +277,7 @@ module _ (x : ℤ) where
     with_globals = with_new_global (allocated (linked x) (initials x) given) (holds counter (five_bits x));
     with_tables = filled;
     with_segments = loaded;
+    with_elements = unwritten;
     globals = (
       counter,
       five_bits x,
@@ -270,7 +297,7 @@ module _ (x : ℤ) where
     tables = (callees, ref_null false func, with_new_global (allocated (linked x) (initials x) given) (holds counter (five_bits x)), refl, (refl, refl), refl);
     segments = (callees.element, ref_function (Some 1) gives_type ∷ [], filled, refl, (ref_function (Some 1) gives_type, [], filled, (_, refl, refl, refl), (refl, refl), refl), refl);
     used = (
-      first x,
+      unwritten,
       (
         callees,
         num 1,
@@ -282,6 +309,20 @@ module _ (x : ℤ) where
         refl,
       ),
       refl,
+    );
+    data_used = (
+      first x,
+      (
+        small_memory,
+        num 1,
+        unwritten,
+        written_bytes,
+        refl,
+        record { answers = giving (num 1 ∷ []) ∷ []; between = unwritten; state = _; last = silent; runs = (_, _, (refl, refl, refl), refl, (refl, refl)); gives = (refl, refl); ends = refl },
+        refl,
+        refl,
+      ),
+      (first x, refl, refl),
     );
   }
 
@@ -301,6 +342,8 @@ module _ (x : ℤ) where
     given_fits = linked_given;
     first_store = linked_first;
     fits = linked_fits;
+    bytes = refl;
+    own_bytes = refl;
     writing_from = starts 1 (writing x) refl;
     calling_from = starts 2 (calling x) refl;
     known = writing_known;
@@ -321,7 +364,7 @@ module _ (x : ℤ) where
           (
             refl,
             ((λ e. host_callable), (λ f. refl)),
-            ((host_fits, (host_callable, (((tt, refl), tt), tt))), stays (first x), linked_fits, (tt, tt)),
+            ((host_fits, (host_callable, (((tt, refl), tt), tt))), stays (first x), linked_fits, (tt, tt), λ w. (w, (refl, tt))),
           ),
           refl,
           (refl, refl),
@@ -335,7 +378,7 @@ module _ (x : ℤ) where
       _,
       first x,
       (_, _, (refl, refl, refl), refl, (refl, refl)),
-      (refl, ((λ e. host_callable), (λ f. refl)), (tt, stays (first x), linked_fits, tt)),
+      (refl, ((λ e. host_callable), (λ f. refl)), (tt, stays (first x), linked_fits, tt, λ w. (w, tt))),
       refl,
     );
   }

@@ -1,6 +1,6 @@
 -- What holds of each member of a list, or of each and its partner, and still holds where the list changes.
 use Rattle.std.specs.Prelude.{option_map, replicate}
-use Rattle.std.proofs.Common.{◌≡◌, ℕ, zero, suc, List, [], ◌∷◌, ◌++◌, Option, Some, None, refl, sym, ap, subst, ◌∙◌, ◌+◌, length, map, take, drop, reverse, get_or, slice_get, slice_set, unwrap_or, arith}
+use Rattle.std.proofs.Common.{◌≡◌, ℕ, zero, suc, List, [], ◌∷◌, ◌++◌, Option, Some, None, refl, sym, ap, subst, ◌∙◌, ◌+◌, length, map, take, drop, reverse, get_or, slice_get, slice_set, ◌≤◌, unwrap_or, arith}
 use mathlib.Core.List.{reverse_aux}
 use Rattle.wasm_operator_validator_store.specs.Stores.{front, range, over, placed, changed}
 use Rattle.wasm_operator_validator_store.specs.ValidStores.{Each, Pairs}
@@ -177,6 +177,11 @@ placed_length [] zero ys zs e = over_length ys [] zs e
 placed_length (x ∷ xs) zero ys zs e = over_length ys (x ∷ xs) zs e
 placed_length [] (suc i) ys zs e = absurd (none_some zs e)
 placed_length (x ∷ xs) (suc i) ys zs e = let m = map_some (λ ws. x ∷ ws) (placed xs i ys) zs e in ap length (sym m.2) ∙ ap suc (placed_length xs i ys m.0 m.1)
+
+pub take_length : {A : Type 0} (k : ℕ) (xs : List A) → length (take k xs) ≤ k
+take_length zero xs = omega arith
+take_length (suc k) [] = omega arith
+take_length (suc k) (x ∷ xs) = omega (arith, take_length k xs)
 
 pub pairs_get_or : {A B : Type 0} (P : A → B → Type 0) (Q : B → Type 0) (d : B) → ((x : A) (y : B) → P x y → Q y) → Q d → (xs : List A) (ys : List B) (i : ℕ) → Pairs P xs ys → Q (get_or ys i d)
 pairs_get_or P Q d f k [] [] i h = k

@@ -82,11 +82,22 @@ module _ (K : Value → Type 0) (p : Program) (a : Answer) (act : Activation) (a
   GcNew (gc.ArrayNewFixed x n) = (t : TypeTree) → slice_get p.«module».types x ≡ Some t → K (ref_object a.made t)
   GcNew (gc.ArrayNewData x d) = MadeNew x
   GcNew (gc.ArrayNewElem x e) = MadeNew x
+  GcNew gc.RefEq = K (number_value i32 a.made)
+  GcNew (gc.RefTestNonNull h) = K (number_value i32 a.made)
+  GcNew (gc.RefTestNullable h) = K (number_value i32 a.made)
+  GcNew gc.ArrayLen = a.traps ≡ false → K (number_value i32 a.made)
+  GcNew gc.I31GetS = a.traps ≡ false → K (number_value i32 a.made)
+  GcNew gc.I31GetU = a.traps ≡ false → K (number_value i32 a.made)
   GcNew o = Unit {0}
+
+  abbrev pub BulkNew : BulkOperator → Type 0
+  BulkNew bulk.RefIsNull = K (number_value i32 a.made)
+  BulkNew o = Unit {0}
 
   abbrev pub New : Op → Type 0
   New (op.Control o) = ControlNew o
   New (op.Exception o) = ExceptionNew o
+  New (op.Bulk o) = BulkNew o
   New (op.Gc o) = GcNew o
   New o = Unit {0}
 
@@ -262,25 +273,25 @@ module _ (K : Value → Type 0) (p : Program) (a : Answer) (act : Activation) (a
     pub copies_keeps : (t u : ValueType) (m : Move) → Keeps K m → Keeps K (copies p a t u m)
     copies_keeps t u m k = allows_keeps K simple _ _ (asks_keeps K simple _ m k)
 
-    pub bulk_keeps : (o : BulkOperator) (more : Code) → Keeps K (operate_bulk p a act acts o more)
-    bulk_keeps (bulk.RefNull q) more = found_keeps K simple {A = HeapOf TypeTree} _ _ (λ (k : HeapOf TypeTree) e. goes_keeps (null_of k ∷ vs) more (null_kept K simple k, held))
-    bulk_keeps bulk.RefIsNull more = pops_keeps K simple vs _ held (λ v ws k w. asks_keeps K simple _ _ (goes_keeps (number_value i32 a.made ∷ ws) more (simple.numbers i32 a.made, w)))
-    bulk_keeps (bulk.RefFunc x) more = found_keeps K simple {A = Function} _ _ (λ (f : Function) e. goes_keeps (ref_function (Some x) f.type ∷ vs) more (simple.functions (Some x) f.type, held))
-    bulk_keeps (bulk.TableInit i x) more = found_keeps K simple {A = ValueType} (slice_get p.«module».elements i) _ (λ (t : ValueType) e. found_keeps K simple {A = Table} (slice_get p.«module».tables x) _ (λ (u : Table) d. takes_keeps K simple p a answered (address u.table64 ∷ i32_type ∷ i32_type ∷ []) vs _ held (λ us ws k j.
+    pub bulk_keeps : (o : BulkOperator) (more : Code) → BulkNew o → Keeps K (operate_bulk p a act acts o more)
+    bulk_keeps (bulk.RefNull q) more n = found_keeps K simple {A = HeapOf TypeTree} _ _ (λ (k : HeapOf TypeTree) e. goes_keeps (null_of k ∷ vs) more (null_kept K simple k, held))
+    bulk_keeps bulk.RefIsNull more n = pops_keeps K simple vs _ held (λ v ws k w. asks_keeps K simple _ _ (goes_keeps (number_value i32 a.made ∷ ws) more (n, w)))
+    bulk_keeps (bulk.RefFunc x) more n = found_keeps K simple {A = Function} _ _ (λ (f : Function) e. goes_keeps (ref_function (Some x) f.type ∷ vs) more (simple.functions (Some x) f.type, held))
+    bulk_keeps (bulk.TableInit i x) more n = found_keeps K simple {A = ValueType} (slice_get p.«module».elements i) _ (λ (t : ValueType) e. found_keeps K simple {A = Table} (slice_get p.«module».tables x) _ (λ (u : Table) d. takes_keeps K simple p a answered (address u.table64 ∷ i32_type ∷ i32_type ∷ []) vs _ held (λ us ws k j.
         may_trap_keeps K simple p a answered _ (copies_keeps t u.element _ (goes_keeps ws more j)))))
-    bulk_keeps (bulk.TableCopy x y) more = found_keeps K simple {A = Table} (slice_get p.«module».tables x) _ (λ (t : Table) e. found_keeps K simple {A = Table} (slice_get p.«module».tables y) _ (λ (u : Table) d. takes_keeps K simple p a answered (address t.table64 ∷ address u.table64 ∷ address (t.table64 && u.table64) ∷ []) vs _ held (λ us ws k j.
+    bulk_keeps (bulk.TableCopy x y) more n = found_keeps K simple {A = Table} (slice_get p.«module».tables x) _ (λ (t : Table) e. found_keeps K simple {A = Table} (slice_get p.«module».tables y) _ (λ (u : Table) d. takes_keeps K simple p a answered (address t.table64 ∷ address u.table64 ∷ address (t.table64 && u.table64) ∷ []) vs _ held (λ us ws k j.
         may_trap_keeps K simple p a answered _ (copies_keeps u.element t.element _ (goes_keeps ws more j)))))
-    bulk_keeps (bulk.TableGet x) more = found_keeps K simple {A = Table} _ _ (λ (t : Table) e. exchange_keeps (address t.table64 ∷ []) (t.element ∷ []) more)
-    bulk_keeps (bulk.TableSet x) more = found_keeps K simple {A = Table} _ _ (λ (t : Table) e. exchange_keeps (address t.table64 ∷ t.element ∷ []) [] more)
-    bulk_keeps (bulk.TableGrow x) more = found_keeps K simple {A = Table} _ _ (λ (t : Table) e. exchange_keeps (t.element ∷ address t.table64 ∷ []) (address t.table64 ∷ []) more)
-    bulk_keeps (bulk.TableSize x) more = found_keeps K simple {A = Table} _ _ (λ (t : Table) e. exchange_keeps [] (address t.table64 ∷ []) more)
-    bulk_keeps (bulk.TableFill x) more = found_keeps K simple {A = Table} _ _ (λ (t : Table) e. exchange_keeps (address t.table64 ∷ t.element ∷ address t.table64 ∷ []) [] more)
-    bulk_keeps (bulk.ElemDrop i) more = found_keeps K simple {A = ValueType} _ _ (λ (t : ValueType) e. goes_keeps vs more held)
-    bulk_keeps (bulk.DataDrop d) more = asks_keeps K simple _ _ (goes_keeps vs more held)
-    bulk_keeps (bulk.MemoryInit d x) more = found_keeps K simple {A = MemoryType} _ _ (λ (t : MemoryType) e. asks_keeps K simple _ _ (exchange_keeps (address t.memory64 ∷ i32_type ∷ i32_type ∷ []) [] more))
-    bulk_keeps (bulk.MemoryCopy x y) more = found_keeps K simple {A = MemoryType} (slice_get p.«module».memories x) _ (λ (t : MemoryType) e. found_keeps K simple {A = MemoryType} (slice_get p.«module».memories y) _ (λ (u : MemoryType) d. exchange_keeps (address t.memory64 ∷ address u.memory64 ∷ address (t.memory64 && u.memory64) ∷ []) [] more))
-    bulk_keeps (bulk.MemoryFill x) more = found_keeps K simple {A = MemoryType} _ _ (λ (t : MemoryType) e. exchange_keeps (address t.memory64 ∷ i32_type ∷ address t.memory64 ∷ []) [] more)
-    bulk_keeps (bulk.MemoryDiscard x) more = found_keeps K simple {A = MemoryType} _ _ (λ (t : MemoryType) e. exchange_keeps (address t.memory64 ∷ address t.memory64 ∷ []) [] more)
+    bulk_keeps (bulk.TableGet x) more n = found_keeps K simple {A = Table} _ _ (λ (t : Table) e. exchange_keeps (address t.table64 ∷ []) (t.element ∷ []) more)
+    bulk_keeps (bulk.TableSet x) more n = found_keeps K simple {A = Table} _ _ (λ (t : Table) e. exchange_keeps (address t.table64 ∷ t.element ∷ []) [] more)
+    bulk_keeps (bulk.TableGrow x) more n = found_keeps K simple {A = Table} _ _ (λ (t : Table) e. exchange_keeps (t.element ∷ address t.table64 ∷ []) (address t.table64 ∷ []) more)
+    bulk_keeps (bulk.TableSize x) more n = found_keeps K simple {A = Table} _ _ (λ (t : Table) e. exchange_keeps [] (address t.table64 ∷ []) more)
+    bulk_keeps (bulk.TableFill x) more n = found_keeps K simple {A = Table} _ _ (λ (t : Table) e. exchange_keeps (address t.table64 ∷ t.element ∷ address t.table64 ∷ []) [] more)
+    bulk_keeps (bulk.ElemDrop i) more n = found_keeps K simple {A = ValueType} _ _ (λ (t : ValueType) e. goes_keeps vs more held)
+    bulk_keeps (bulk.DataDrop d) more n = asks_keeps K simple _ _ (goes_keeps vs more held)
+    bulk_keeps (bulk.MemoryInit d x) more n = found_keeps K simple {A = MemoryType} _ _ (λ (t : MemoryType) e. asks_keeps K simple _ _ (exchange_keeps (address t.memory64 ∷ i32_type ∷ i32_type ∷ []) [] more))
+    bulk_keeps (bulk.MemoryCopy x y) more n = found_keeps K simple {A = MemoryType} (slice_get p.«module».memories x) _ (λ (t : MemoryType) e. found_keeps K simple {A = MemoryType} (slice_get p.«module».memories y) _ (λ (u : MemoryType) d. exchange_keeps (address t.memory64 ∷ address u.memory64 ∷ address (t.memory64 && u.memory64) ∷ []) [] more))
+    bulk_keeps (bulk.MemoryFill x) more n = found_keeps K simple {A = MemoryType} _ _ (λ (t : MemoryType) e. exchange_keeps (address t.memory64 ∷ i32_type ∷ address t.memory64 ∷ []) [] more)
+    bulk_keeps (bulk.MemoryDiscard x) more n = found_keeps K simple {A = MemoryType} _ _ (λ (t : MemoryType) e. exchange_keeps (address t.memory64 ∷ address t.memory64 ∷ []) [] more)
 
     pub atomic_keeps : (o : AtomicOperator) (more : Code) → Keeps K (operate_atomic p a act acts o more)
     atomic_keeps atomic.AtomicFence more = goes_keeps vs more held
@@ -330,8 +341,8 @@ module _ (K : Value → Type 0) (p : Program) (a : Answer) (act : Activation) (a
     pub cast_from_keeps : (from to : Reference) (f : Bool → Value → List Value → Move) → ((b : Bool) (v : Value) (ws : List Value) → K v → Each K ws → Keeps K (f b v ws)) → Keeps K (cast_from p a act acts from to f)
     cast_from_keeps from to f g = found_keeps K simple {A = HeapOf TypeTree} (meant_heap p.«module» from.heap) _ (λ (q : HeapOf TypeTree) e. found_keeps K simple {A = HeapOf TypeTree} (meant_heap p.«module» to.heap) _ (λ (k : HeapOf TypeTree) d. pops_keeps K simple vs _ held (λ v ws i j. asks_keeps K simple _ _ (allows_keeps K simple _ _ (g _ v ws i j)))))
 
-    pub number_keeps : (q : Abstract) (is : Value → Type 0) (more : Code) → Keeps K (number_from p a act acts q is more)
-    number_keeps q is more = pops_keeps K simple vs _ held (λ v ws i j. asks_keeps K simple _ _ (may_trap_keeps K simple p a answered _ (goes_keeps (number_value i32 a.made ∷ ws) more (simple.numbers i32 a.made, j))))
+    pub number_keeps : (q : Abstract) (is : Value → Type 0) (more : Code) → (a.traps ≡ false → K (number_value i32 a.made)) → Keeps K (number_from p a act acts q is more)
+    number_keeps q is more n = pops_keeps K simple vs _ held (λ v ws i j. asks_keeps K simple _ _ (trap_keeps _ (λ e. goes_keeps (number_value i32 a.made ∷ ws) more (n e, j))))
 
     pub null_in_kept : (q : Abstract) (v : Value) → K v → K (null_in p a act acts q v)
     null_in_kept q (ref_null c k) i = simple.nulls c q
@@ -361,7 +372,7 @@ module _ (K : Value → Type 0) (p : Program) (a : Answer) (act : Activation) (a
     from_segment i more fs ws = stores_from p a act acts i fs writes (goes p a act acts ws more)
 
     pub gc_keeps : (o : GcOperator) (more : Code) → GcNew o → Keeps K (operate_gc p a act acts o more)
-    gc_keeps gc.RefEq more n = pops_keeps K simple vs _ held (λ v ws i j. pops_keeps K simple ws _ j (λ w us k l. asks_keeps K simple _ _ (goes_keeps (number_value i32 a.made ∷ us) more (simple.numbers i32 a.made, l))))
+    gc_keeps gc.RefEq more n = pops_keeps K simple vs _ held (λ v ws i j. pops_keeps K simple ws _ j (λ w us k l. asks_keeps K simple _ _ (goes_keeps (number_value i32 a.made ∷ us) more (n, l))))
     gc_keeps (gc.StructNew x) more n = make_keeps struct_fields x operands_of (λ fs m. m) more (λ t fs ws e w. goes_keeps (ref_object a.made t ∷ ws) more (n t e, w))
     gc_keeps (gc.StructNewDefault x) more n = make_keeps struct_fields x (λ fs. []) (λ fs m. asks (HaveDefaults fs) m) more (λ t fs ws e w. asks_keeps K simple (HaveDefaults fs) _ (goes_keeps (ref_object a.made t ∷ ws) more (n t e, w)))
     gc_keeps (gc.StructGet x i) more n = read_keeps IsWhole struct_fields [] x i more
@@ -379,14 +390,14 @@ module _ (K : Value → Type 0) (p : Program) (a : Answer) (act : Activation) (a
     gc_keeps (gc.ArrayGetS x) more n = read_keeps IsPacked array_fields (i32_type ∷ []) x 0 more
     gc_keeps (gc.ArrayGetU x) more n = read_keeps IsPacked array_fields (i32_type ∷ []) x 0 more
     gc_keeps (gc.ArraySet x) more n = pops_keeps K simple vs _ held (λ v ws k w. write_keeps array_fields (i32_type ∷ []) x 0 v ws more w)
-    gc_keeps gc.ArrayLen more n = number_keeps array IsArray more
+    gc_keeps gc.ArrayLen more n = number_keeps array IsArray more n
     gc_keeps (gc.ArrayFill x) more n = pops_keeps K simple vs _ held (λ c ws i j. asks_keeps K simple _ _ (pops_keeps K simple ws _ j (λ v us k w. write_keeps array_fields (i32_type ∷ []) x 0 v us more w)))
     gc_keeps (gc.ArrayCopy x y) more n = under_keeps array_fields (i32_type ∷ i32_type ∷ []) y vs (copied x more) held (λ ss ws w. under_keeps array_fields (i32_type ∷ []) x ws (copied_to more ss) w (λ fs us u. found_keeps K simple {A = FieldOf TypeTree} (slice_get ss 0) _ (λ (q : FieldOf TypeTree) d.
         found_keeps K simple {A = FieldOf TypeTree} (slice_get fs 0) _ (λ (f : FieldOf TypeTree) e. asks_keeps K simple _ _ (asks_keeps K simple _ _ (copies_keeps (operand_of q.storage) (operand_of f.storage) _ (goes_keeps us more u)))))))
     gc_keeps (gc.ArrayInitData x d) more n = under_keeps array_fields (i32_type ∷ i32_type ∷ i32_type ∷ []) x vs (from_bytes d more) held (λ fs ws w. found_keeps K simple {A = FieldOf TypeTree} (slice_get fs 0) _ (λ (f : FieldOf TypeTree) e. asks_keeps K simple (IsTrue f.mutable) _ (asks_keeps K simple (FromData p a act acts d fs) _ (goes_keeps ws more w))))
     gc_keeps (gc.ArrayInitElem x i) more n = under_keeps array_fields (i32_type ∷ i32_type ∷ i32_type ∷ []) x vs (from_segment i more) held (λ fs ws w. from_keeps i fs writes (goes p a act acts ws more) (λ f m k. asks_keeps K simple (IsTrue f.mutable) m k) (goes_keeps ws more w))
-    gc_keeps (gc.RefTestNonNull q) more n = cast_top_keeps false q _ (λ b v ws i j. goes_keeps (number_value i32 a.made ∷ ws) more (simple.numbers i32 a.made, j))
-    gc_keeps (gc.RefTestNullable q) more n = cast_top_keeps true q _ (λ b v ws i j. goes_keeps (number_value i32 a.made ∷ ws) more (simple.numbers i32 a.made, j))
+    gc_keeps (gc.RefTestNonNull q) more n = cast_top_keeps false q _ (λ b v ws i j. goes_keeps (number_value i32 a.made ∷ ws) more (n, j))
+    gc_keeps (gc.RefTestNullable q) more n = cast_top_keeps true q _ (λ b v ws i j. goes_keeps (number_value i32 a.made ∷ ws) more (n, j))
     gc_keeps (gc.RefCastNonNull q) more n = cast_top_keeps false q _ (λ b v ws i j. choose_keeps K simple b _ (done trapped) (λ e. goes_keeps (v ∷ ws) more (i, j)) (λ e. done_keeps K simple trapped tt))
     gc_keeps (gc.RefCastNullable q) more n = cast_top_keeps true q _ (λ b v ws i j. choose_keeps K simple b _ (done trapped) (λ e. goes_keeps (v ∷ ws) more (i, j)) (λ e. done_keeps K simple trapped tt))
     gc_keeps (gc.BrOnCast l from to) more n = cast_from_keeps from to _ (λ b v ws i j. choose_keeps K simple b _ _ (λ e. branch_keeps l (v ∷ ws) (i, j)) (λ e. goes_keeps (v ∷ ws) more (i, j)))
@@ -394,8 +405,8 @@ module _ (K : Value → Type 0) (p : Program) (a : Answer) (act : Activation) (a
     gc_keeps gc.AnyConvertExtern more n = convert_keeps extern any more
     gc_keeps gc.ExternConvertAny more n = convert_keeps any extern more
     gc_keeps gc.RefI31 more n = exchange_keeps (i32_type ∷ []) (ref false (abstract false i31) ∷ []) more
-    gc_keeps gc.I31GetS more n = number_keeps i31 IsUnboxed more
-    gc_keeps gc.I31GetU more n = number_keeps i31 IsUnboxed more
+    gc_keeps gc.I31GetS more n = number_keeps i31 IsUnboxed more n
+    gc_keeps gc.I31GetU more n = number_keeps i31 IsUnboxed more n
 
     -- ---- all of them
 
@@ -408,7 +419,7 @@ module _ (K : Value → Type 0) (p : Program) (a : Answer) (act : Activation) (a
     operate_keeps (op.Parametric o) more n = parametric_keeps o more
     operate_keeps (op.Exception o) more n = exception_keeps o n
     operate_keeps (op.Memory o) more n = memory_keeps o more
-    operate_keeps (op.Bulk o) more n = bulk_keeps o more
+    operate_keeps (op.Bulk o) more n = bulk_keeps o more n
     operate_keeps (op.Gc o) more n = gc_keeps o more n
     operate_keeps (op.Const o) more n = compute_keeps (op.Const o) more
     operate_keeps (op.Numeric o) more n = compute_keeps (op.Numeric o) more

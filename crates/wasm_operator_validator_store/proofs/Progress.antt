@@ -1,12 +1,14 @@
 -- A store gives something to each operator, in each state in which all fits.
-use Rattle.std.proofs.Common.{◌≡◌, ℕ, zero, suc, ◌%◌, ◌^◌, Bool, true, false, IsTrue, List, [], ◌∷◌, ◌++◌, length, take, drop, replicate, get_or, Option, Some, None, is_some, if◌then◌else◌, slice_get, refl, sym, ap, subst, ◌∙◌, inl, inr, true≢false}
-use Rattle.std.specs.Prelude.{◌↔◌, flat_map}
-use Rattle.wasm_types.specs.trees.Types.{Number, i32, i64, f32, f64, Abstract, any, none, nofunc, extern, noextern, ref, HeapOf, abstract, concrete, InnerOf, FieldOf, StorageOf, function, array_of, struct_of, continuation}
+use Rattle.std.proofs.Common.{◌≡◌, ℕ, zero, suc, ◌+◌, ◌*◌, ◌%◌, ◌^◌, Bool, true, false, IsTrue, List, [], ◌∷◌, ◌++◌, length, take, drop, replicate, get_or, Option, Some, None, is_some, if◌then◌else◌, slice_get, refl, sym, ap, subst, ◌∙◌, inl, inr, true≢false}
+use Rattle.std.specs.Prelude.{◌↔◌, ◌⊎◌, flat_map}
+use Rattle.std.proofs.lemmas.List.{length-replicate}
+use Rattle.wasm_types.specs.trees.Types.{Number, i32, i64, f32, f64, v128, Abstract, any, none, nofunc, extern, noextern, ref, HeapOf, abstract, concrete, InnerOf, FieldOf, StorageOf, function, array_of, struct_of, continuation}
 use Rattle.wasm_types.specs.trees.Trees.{TypeTree}
 use Rattle.wasm_types.specs.trees.Below.{expanded, bottom_of}
 use Rattle.wasm_types.specs.trees.ValidGroup.{IsFunction}
 use Rattle.wasm_types.specs.values.declared.heap.HeapType.{HeapType}
 use Rattle.wasm_types.specs.externs.declared.memory.MemoryType.{MemoryType}
+use Rattle.wasm_operators_enums.specs.declared.numeric.NumericOperator.{NumericOperator}
 use Rattle.wasm_operators_enums.specs.declared.control.ControlOperator.{ControlOperator}
 use Rattle.wasm_operators_enums.specs.declared.control.ControlOperator.TheVariants as control
 use Rattle.wasm_operators_enums.specs.declared.memory.MemoryOperator.{MemoryOperator}
@@ -30,7 +32,7 @@ use Rattle.wasm_operator_validator_rules.specs.Operands.{ValueType, Operand, bot
 use Rattle.wasm_operator_validator_rules.specs.InstructionTypes.{i32_type}
 use Rattle.wasm_operator_validator_rules.specs.Context.{Table}
 use Rattle.wasm_operator_validator_rules.specs.Numbers.{numbers}
-use Rattle.wasm_operator_validator_soundness.specs.runs.Values.{Body, Program, Value, number_value, ref_null, ref_function, ref_object, ref_i31, ref_host, ref_extern, ref_exn, is_null, IsNumberValue, IsMade, Fits, AllFit}
+use Rattle.wasm_operator_validator_soundness.specs.runs.Values.{Body, Program, Value, number_value, ref_null, ref_function, ref_object, ref_i31, ref_host, ref_extern, ref_exn, is_null, IsMade, Fits, AllFit}
 use Rattle.wasm_operator_validator_soundness.specs.runs.States.{Exception, Activation, State, Answer, trapped, Move, asks, found}
 use Rattle.wasm_operator_validator_soundness.specs.runs.Names.{Places, computed, argument_of}
 use Rattle.wasm_operator_validator_soundness.specs.runs.Machine.{operand_of, operands_of, HaveDefaults, gives, call_indirect, make, address, meant_heap, function_type_in, struct_fields, array_fields, IsWhole, IsPacked, body_of, last_of, takes, may_trap, object, read, caught_at, convert, goes, compute, operate, operate_vector, execute}
@@ -39,12 +41,15 @@ use Rattle.wasm_operator_validator_soundness.specs.runs.Soundness.{step, IsValid
 use Rattle.wasm_operator_validator_soundness.specs.runs.Progress.{gc_can_trap, can_trap, code_can_trap}
 use Rattle.wasm_operator_validator_soundness.proofs.Objects.{akin_value}
 use Rattle.wasm_operator_validator_soundness.proofs.Progress.{trap, giving, zero_each, zeros, zeros_fit, access_traps, calls, calls_reference, caught_whatever, gc_answered}
-use Rattle.wasm_operator_validator_store.specs.Stores.{TableInstance, table_address, elements_held, ObjectInstance, ExceptionInstance, Store, range, placed, nothing, bits_of, is_true, truth, integer_bits, extended, unpacked, sized, same, field_at, global_in, table_in, segment_in, with_global, with_table, without_segment, with_object, with_fields, with_exception, with_extern}
+use Rattle.wasm_operator_validator_store.specs.Stores.{TableInstance, table_address, elements_held, pages_held, grown, memory_at, memory_in, data_in, with_memory, without_data, failure, ObjectInstance, ExceptionInstance, Store, range, placed, nothing, IsWithin, bits_of, is_true, truth, integer_bits, extended, unpacked, sized, same, field_at, global_in, table_in, segment_in, with_global, with_table, without_segment, with_object, with_fields, with_exception, with_extern}
+use Rattle.wasm_operator_validator_store.specs.Atomics.{is_misaligned, AtomicAccess, number_given, notification, atomic_access}
+use Rattle.wasm_operator_validator_store.specs.Memories.{number_of, bytes_of, past, Access, reads, writes, Reach, memory_access, simd_access, stored_size, elements_from}
 use Rattle.wasm_operator_validator_store.specs.Handling.{Place, place_of}
-use Rattle.wasm_operator_validator_store.specs.ValidStores.{Each, Knows, Has, TableFits}
-use Rattle.wasm_operator_validator_store.specs.Giving.{arity, is_wide, Either, Stays, Outside, OrTraps, There, OfObject, ThrowsAgain, Begins, Calls, Reads, Writes, MakesNamed, Passes, ThrowsReference, CallsIndirect, ConvertsToExtern, ConvertsToAny, Unboxes, GivesOperator, GivesCode}
+use Rattle.wasm_operator_validator_store.specs.ValidStores.{Each, IsByte, Knows, Has, TableFits}
+use Rattle.wasm_operator_validator_store.specs.Giving.{arity, is_wide, is_wide_memory, is_shared_memory, Either, Stays, Traps, Gives, Outside, Reading, Writing, Sized, GrowsTo, OfData, Makes, WritesTo, Accesses, Reaches, OrOutside, OrTraps, There, OfObject, ThrowsAgain, Begins, Calls, Reads, Writes, MakesNamed, Passes, ThrowsReference, CallsIndirect, ConvertsToExtern, ConvertsToAny, Unboxes, Replaces, Exchanges, Aligned, ByOthers, GivesOperator, GivesCode, Calculates}
 use Rattle.wasm_operator_validator_store.specs.Soundness.{AreValid, StoreAnswersExist}
-use Rattle.wasm_operator_validator_store.proofs.Lists.{none_some, each_get, each_map, each_reverse, get_last}
+use Rattle.wasm_operator_validator_store.proofs.Lists.{none_some, each_get, each_map, each_reverse, each_replicate, get_last}
+use Rattle.wasm_operator_validator_store.proofs.Memories.{simd_carried}
 use Rattle.wasm_operator_validator_store.proofs.Storing.{stays}
 use Rattle.wasm_operator_validator_store.proofs.Answering.{found_needs, found_answer, a_trap, no_trap_needs, told, top_known}
 use Rattle.wasm_operator_validator_store.proofs.Accessing.{sized_fits}
@@ -52,6 +57,8 @@ use Rattle.wasm_operator_validator_store.proofs.Objects.{Fields, Holding, struct
 use Rattle.wasm_operator_validator_store.proofs.Rethrowing.{caught_known}
 use Rattle.wasm_operator_validator_store.proofs.Deciding.{Decided, fits_decided}
 use Rattle.wasm_operator_validator_store.proofs.Ending.{Ends, compute_ends, operate_ends, block_ends, close_ends, turn_ends}
+use Rattle.wasm_operator_validator_store.specs.Integers.{Operation, integer_operation}
+use Rattle.wasm_operator_validator_store.proofs.Integers.{row_is}
 
 -- ---- answers without a trap
 
@@ -158,29 +165,28 @@ module _ (p : Program) where
   made_at (v ∷ vs) (some_reference ∷ ts) zero f = absurd f.0
   made_at (v ∷ vs) (t ∷ ts) (suc n) f = made_at vs ts n f.1
 
-numbers_of : (ns : List Number) → Each IsNumberValue (zero_each ns)
-numbers_of [] = tt
-numbers_of (n ∷ ns) = (tt, numbers_of ns)
+pub zero_within : (n : Number) → IsWithin (number_value n 0)
+zero_within i32 = refl
+zero_within i64 = refl
+zero_within f32 = refl
+zero_within f64 = refl
+zero_within v128 = refl
 
-sized_number : (b : Bool) (n : ℕ) → IsNumberValue (sized b n)
-sized_number true n = tt
-sized_number false n = tt
+numbers_of : (ns : List Number) → Each IsWithin (zero_each ns)
+numbers_of [] = tt
+numbers_of (n ∷ ns) = (zero_within n, numbers_of ns)
+
+sized_number : (b : Bool) → IsWithin (sized b 0)
+sized_number true = refl
+sized_number false = refl
 
 abbrev values_for : Option Places → List Value
 values_for None = []
 values_for (Some n) = zeros n.gives
 
-values_number : (o : Option Places) → Each IsNumberValue (values_for o)
+values_number : (o : Option Places) → Each IsWithin (values_for o)
 values_number None = tt
-values_number (Some n) = each_reverse IsNumberValue (zero_each n.gives) (numbers_of n.gives)
-
-abbrev size_for : Option MemoryType → Value
-size_for None = number_value i32 0
-size_for (Some t) = sized t.memory64 0
-
-size_number : (o : Option MemoryType) → IsNumberValue (size_for o)
-size_number None = tt
-size_number (Some t) = sized_number t.memory64 0
+values_number (Some n) = each_reverse IsWithin (zero_each n.gives) (numbers_of n.gives)
 
 module _ (p : Program) (valid : IsValidProgram p) (results : List ValueType) (act : Activation) (acts : List Activation) (s : Store) (v : AreValid p results (act ∷ acts) s) where
   abbrev x : State
@@ -209,8 +215,12 @@ module _ (p : Program) (valid : IsValidProgram p) (results : List ValueType) (ac
   calm o more c a u e g = (a, u, g, λ d. absurd ((operate_ends p a act acts e o more c).never d))
 
   -- numbers from outside
-  outside : (o : Op) (more : Code) → Next (plain o more) → (a : Answer) → (operate p a act acts o more).is_answer → Each IsNumberValue a.values → Outside p (act ∷ acts) s a s
-  outside o more next a i n = (subst (λ (c : Code). (execute p a act acts c).is_answer) (sym next) i, n, refl)
+  outside : (o : Op) (more : Code) → Next (plain o more) → (a : Answer) → (operate p a act acts o more).is_answer → Each IsWithin a.values → (IsTrue a.traps → IsTrue (can_trap o)) → Outside p (act ∷ acts) s a s
+  outside o more next a i n t = (subst (λ (c : Code). (execute p a act acts c).is_answer) (sym next) i, n, refl, λ e. subst (λ (c : Code). IsTrue (code_can_trap c)) (sym next) (t e))
+
+  -- it does not trap
+  quiet : {P : Type 0} → IsTrue false → P
+  quiet e = absurd (true≢false (sym e))
 
   -- what an operator asks for is there, since its step is not stuck
   must : {A : Type 0} (o : Option A) (f : A → Move) → ((found o f).is_answer → (found o f).needs × IsValidOutcome p results (found o f).outcome) → (y : A) × (o ≡ Some y)
@@ -227,8 +237,40 @@ module _ (p : Program) (valid : IsValidProgram p) (results : List ValueType) (ac
   computes : (o : Op) (more : Code) → (compute p (giving (values_for (computed (info_of o).name))) act acts o more).is_answer
   computes o more = found_answer (computed (info_of o).name) _ (λ (n : Places) e. (subst (λ (q : Option Places). AllFit p (values_for q) (stack (numbers n.gives))) (sym e) (zeros_fit p n.gives), tt))
 
-  size_fits : (y : ℕ) (t : MemoryType) → slice_get p.«module».memories y ≡ Some t → AllFit p (size_for (slice_get p.«module».memories y) ∷ []) (stack (address t.memory64 ∷ []))
-  size_fits y t e = subst (λ (q : Option MemoryType). AllFit p (size_for q ∷ []) (stack (address t.memory64 ∷ []))) (sym e) (sized_fits p t.memory64 0, tt)
+  abbrev wide_at : ℕ → Bool
+  wide_at y = is_wide_memory (slice_get p.«module».memories y)
+
+  size_given : (y : ℕ) (b : Bool) → (a : Answer) × (u : Store) × (a.traps ≡ false) × Either b (Sized p (act ∷ acts) s a u y) (Gives p (act ∷ acts) s a u (sized (wide_at y) (pages_held (memory_at s y)) ∷ []) s)
+  size_given y true = (giving (sized (wide_at y) 0 ∷ []), s, refl, (0, sized_number (wide_at y), (refl, refl, refl)))
+  size_given y false = (giving (sized (wide_at y) (pages_held (memory_at s y)) ∷ []), s, refl, (refl, refl, refl))
+
+  growth_given : (y : ℕ) (b : Bool) (bs : Option (List ℕ)) → (a : Answer) × (u : Store) × (a.traps ≡ false) × Either b (Sized p (act ∷ acts) s a u y) (GrowsTo p (act ∷ acts) s a u y bs)
+  growth_given y true bs = (giving (sized (wide_at y) 0 ∷ []), s, refl, (0, sized_number (wide_at y), (refl, refl, refl)))
+  growth_given y false None = (giving (failure (wide_at y) ∷ []), s, refl, (refl, refl, refl))
+  growth_given y false (Some bs) = (giving (sized (wide_at y) (pages_held (memory_at s y)) ∷ []), with_memory s y bs, refl, inl (refl, refl, refl))
+
+  -- bytes that are read, of a shared memory zeros; and bytes that are written
+  read_bytes : (y i n : ℕ) (F : Answer → Store → List ℕ → Type 0) → ((bs : List ℕ) → Some_of p x s (λ a u. F a u bs)) → Some_of p x s (λ a u. Reading p (act ∷ acts) s a u y i n (F a u))
+  read_bytes y i n F k = at (is_shared_memory (slice_get p.«module».memories y))
+    where
+      at : (b : Bool) → Some_of p x s (λ a u. Either b ((IsTrue (past (length (memory_in s y)) i n) × Traps p (act ∷ acts) s a u) ⊎ ((bs : List ℕ) × (length bs ≡ n) × Each IsByte bs × F a u bs)) (OrTraps p (act ∷ acts) s a u (range (memory_in s y) i n) (F a u)))
+      at true = let r = k (replicate n 0) in (r.0, r.1, inr (replicate n 0, length-replicate n 0, each_replicate IsByte n 0 refl, r.2))
+      at false = or_trapped p x s (range (memory_in s y) i n) F (λ bs e. k bs)
+
+  written_bytes : (y i : ℕ) (bs : List ℕ) → Some_of p x s (λ a u. Writing p (act ∷ acts) s a u y i bs)
+  written_bytes y i bs = at (is_shared_memory (slice_get p.«module».memories y))
+    where
+      at : (b : Bool) → Some_of p x s (λ a u. Either b ((IsTrue (past (length (memory_in s y)) i (length bs)) × Traps p (act ∷ acts) s a u) ⊎ Gives p (act ∷ acts) s a u [] s) (OrTraps p (act ∷ acts) s a u (placed (memory_in s y) i bs) (λ cs. Gives p (act ∷ acts) s a u [] (with_memory s y cs))))
+      at true = (still, s, inr (refl, refl, refl))
+      at false = or_trapped p x s (placed (memory_in s y) i bs) (λ a u cs. Gives p (act ∷ acts) s a u [] (with_memory s y cs)) (λ cs e. (still, with_memory s y cs, (refl, refl, refl)))
+
+  access_given : (m : MemArg) (k : Access) → Some_of p x s (λ a u. Accesses p (act ∷ acts) s a u act m k)
+  access_given m (reads ts n k f) = read_bytes m.memory (index (length ts) + m.offset) k (λ a u bs. Gives p (act ∷ acts) s a u (number_value n (f (index 0) bs) ∷ []) s) (λ bs. (giving (number_value n (f (index 0) bs) ∷ []), s, (refl, refl, refl)))
+  access_given m (writes n k f) = written_bytes m.memory (index 1 + m.offset) (bytes_of k (f (index 0)))
+
+  held_reach : (o : Option Reach) → is_some o ≡ true → Some_of p x s (λ a u. There p (act ∷ acts) s a u o (Reaches p (act ∷ acts) s a u act))
+  held_reach None e = absurd (true≢false (sym e))
+  held_reach (Some r) e = access_given r.argument r.access
 
   memory_given : (o : MemoryOperator) (more : Code) → Next (plain (op.Memory o) more) → Given (plain (op.Memory o) more)
   memory_given (memory.LocalGet y) more next = calm (op.Memory (memory.LocalGet y)) more refl still s refl (refl, refl)
@@ -236,21 +278,15 @@ module _ (p : Program) (valid : IsValidProgram p) (results : List ValueType) (ac
   memory_given (memory.LocalTee y) more next = calm (op.Memory (memory.LocalTee y)) more refl still s refl (refl, refl)
   memory_given (memory.GlobalGet y) more next = calm (op.Memory (memory.GlobalGet y)) more refl (giving (global_in s y ∷ [])) s refl (refl, refl, refl)
   memory_given (memory.GlobalSet y) more next = calm (op.Memory (memory.GlobalSet y)) more refl still (with_global s y (top 0)) refl (refl, refl, refl)
-  memory_given (memory.MemorySize y) more next =
-      let a : Answer = giving (size_for (slice_get p.«module».memories y) ∷ []) in
-      calm (op.Memory (memory.MemorySize y)) more refl a s refl
-      (outside (op.Memory (memory.MemorySize y)) more next a (found_answer (slice_get p.«module».memories y) _ (λ (t : MemoryType) e. (size_fits y t e, tt))) (size_number (slice_get p.«module».memories y), tt))
-  memory_given (memory.MemoryGrow y) more next =
-      let a : Answer = giving (size_for (slice_get p.«module».memories y) ∷ []) in
-      calm (op.Memory (memory.MemoryGrow y)) more refl a s refl
-      (outside (op.Memory (memory.MemoryGrow y)) more next a (found_answer (slice_get p.«module».memories y) _ (λ (t : MemoryType) e. (size_fits y t e, tt))) (size_number (slice_get p.«module».memories y), tt))
-  memory_given o more next = may (op.Memory o) more refl (trap, s, outside (op.Memory o) more next trap ((access_traps p act acts (op.Memory o) more).is) tt)
+  memory_given (memory.MemorySize y) more next = let r = size_given y (is_shared_memory (slice_get p.«module».memories y)) in calm (op.Memory (memory.MemorySize y)) more refl r.0 r.1 r.2 r.3
+  memory_given (memory.MemoryGrow y) more next = let r = growth_given y (is_shared_memory (slice_get p.«module».memories y)) (grown (memory_at s y) (index 0)) in calm (op.Memory (memory.MemoryGrow y)) more refl r.0 r.1 r.2 r.3
+  memory_given o more next = may (op.Memory o) more refl (held_reach (memory_access o) refl)
 
   -- ---- calls
 
   begins : (tail : Bool) (o : Option Body) (held : Value) (c : Bool) → (step p (act ∷ acts) (record trap { held = held; condition = c })).is_answer
       → (a : Answer) × (u : Store) × (a.held ≡ held) × (a.condition ≡ c) × Begins p (act ∷ acts) s a u tail o
-  begins tail None held c i = (record trap { held = held; condition = c }, s, refl, refl, (i, stays s, v.store, tt))
+  begins tail None held c i = (record trap { held = held; condition = c }, s, refl, refl, (i, stays s, v.store, tt, λ w. (w, tt)))
   begins tail (Some f) held c i = (record still { held = held; condition = c }, s, refl, refl, (refl, (refl, refl)))
 
   calls_given : (tail : Bool) (w : Value) (held : Value) (c : Bool) → (step p (act ∷ acts) (record trap { held = held; condition = c })).is_answer
@@ -375,15 +411,12 @@ module _ (p : Program) (valid : IsValidProgram p) (results : List ValueType) (ac
       (or_trapped p x s (range (table_in s z) (index 1) (index 0)) _ (λ us e.
       or_trapped p x s (placed (table_in s y) (index 2) us) _ (λ ws d. (giving us, with_table s y ws, (refl, refl, refl)))))
   bulk_given (bulk.ElemDrop i) more next = calm (op.Bulk (bulk.ElemDrop i)) more refl still (without_segment s i) refl (refl, refl, refl)
-  bulk_given (bulk.DataDrop d) more next = calm (op.Bulk (bulk.DataDrop d)) more refl still s refl (refl, refl)
+  bulk_given (bulk.DataDrop d) more next = calm (op.Bulk (bulk.DataDrop d)) more refl still (without_data s d) refl (refl, refl, refl)
   bulk_given (bulk.MemoryInit d y) more next = may (op.Bulk (bulk.MemoryInit d y)) more refl
-      (trap, s, outside (op.Bulk (bulk.MemoryInit d y)) more next trap (found_answer (slice_get p.«module».memories y) _ (λ (t : MemoryType) e. tt)) tt)
-  bulk_given (bulk.MemoryCopy y z) more next = may (op.Bulk (bulk.MemoryCopy y z)) more refl
-      (trap, s, outside (op.Bulk (bulk.MemoryCopy y z)) more next trap (found_answer (slice_get p.«module».memories y) _ (λ (t : MemoryType) e. found_answer (slice_get p.«module».memories z) _ (λ (q : MemoryType) d. tt))) tt)
-  bulk_given (bulk.MemoryFill y) more next = may (op.Bulk (bulk.MemoryFill y)) more refl
-      (trap, s, outside (op.Bulk (bulk.MemoryFill y)) more next trap (found_answer (slice_get p.«module».memories y) _ (λ (t : MemoryType) e. tt)) tt)
-  bulk_given (bulk.MemoryDiscard y) more next = may (op.Bulk (bulk.MemoryDiscard y)) more refl
-      (trap, s, outside (op.Bulk (bulk.MemoryDiscard y)) more next trap (found_answer (slice_get p.«module».memories y) _ (λ (t : MemoryType) e. tt)) tt)
+      (or_trapped p x s (range (data_in s d) (index 1) (index 0)) _ (λ bs e. written_bytes y (index 2) bs))
+  bulk_given (bulk.MemoryCopy y z) more next = may (op.Bulk (bulk.MemoryCopy y z)) more refl (read_bytes z (index 1) (index 0) _ (λ bs. written_bytes y (index 2) bs))
+  bulk_given (bulk.MemoryFill y) more next = may (op.Bulk (bulk.MemoryFill y)) more refl (written_bytes y (index 2) (replicate (index 0) (index 1 % 256)))
+  bulk_given (bulk.MemoryDiscard y) more next = may (op.Bulk (bulk.MemoryDiscard y)) more refl (trap, s, inl (refl, (refl, refl)))
 
   -- ---- objects
 
@@ -517,6 +550,10 @@ module _ (p : Program) (valid : IsValidProgram p) (results : List ValueType) (ac
       (λ t. found (of (expanded t)) (λ fs. takes p trap (takes_for fs) vs (λ us ws. further fs (goes p trap act acts (ref_object 0 t ∷ ws) more))))
       (subst (λ (n : Move). n.is_answer → n.needs × IsValidOutcome p results n.outcome) (e trap) (told p valid results act acts s v trap (plain (op.Gc o) more) next))
 
+  -- elements from a data segment
+  of_data : (d : ℕ) (t : TypeTree) (i n : ℕ) (F : Answer → Store → List Value → Type 0) → ((ws : List Value) → Some_of p x s (λ a u. F a u ws)) → Some_of p x s (λ a u. OfData p (act ∷ acts) s a u d t i n (F a u))
+  of_data d t i n F k = or_trapped p x s (field_at (expanded t) 0) _ (λ (f : FieldOf TypeTree) e. or_trapped p x s (range (data_in s d) i (n * stored_size f.storage)) (λ a u bs. F a u (elements_from f.storage n bs)) (λ bs c. k (elements_from f.storage n bs)))
+
   gc_given : (o : GcOperator) (more : Code) → Next (plain (op.Gc o) more) → Given (plain (op.Gc o) more)
   gc_given gc.RefEq more next = calm (op.Gc gc.RefEq) more refl (making (truth (same (top 0) (top 1)))) s refl (refl, (refl, refl, refl))
   gc_given (gc.StructNew y) more next = making_given (gc.StructNew y) more y _ refl (type_made y struct_fields operands_of (λ fs m. m) (gc.StructNew y) more next (λ b. refl)) (λ a u h. h)
@@ -525,7 +562,10 @@ module _ (p : Program) (valid : IsValidProgram p) (results : List ValueType) (ac
   gc_given (gc.ArrayNewDefault y) more next = making_given (gc.ArrayNewDefault y) more y _ refl (type_made y array_fields (λ fs. i32_type ∷ []) (λ fs m. asks (HaveDefaults fs) m) (gc.ArrayNewDefault y) more next (λ b. refl)) (λ a u h. h)
   gc_given (gc.ArrayNewFixed y n) more next = making_given (gc.ArrayNewFixed y n) more y _ refl
       (type_made y array_fields (λ fs. flat_map (λ (q : ValueType). replicate n q) (operands_of fs)) (λ fs m. m) (gc.ArrayNewFixed y n) more next (λ b. refl)) (λ a u h. h)
-  gc_given (gc.ArrayNewData y d) more next = may (op.Gc (gc.ArrayNewData y d)) more refl (trap, s, inl (refl, (refl, refl)))
+  gc_given (gc.ArrayNewData y d) more next =
+      let t = must {A = TypeTree} (slice_get p.«module».types y) _ (told p valid results act acts s v trap (plain (op.Gc (gc.ArrayNewData y d)) more) next) in
+      let r = of_data d t.0 (index 1) (index 0) (λ a u ws. Makes p (act ∷ acts) s a u t.0 ws []) (λ ws. (record still { made = length s.objects }, with_object s (record { type = t.0; fields = ws }), (refl, (refl, refl, refl)))) in
+      may (op.Gc (gc.ArrayNewData y d)) more refl (r.0, r.1, there_is p x s (slice_get p.«module».types y) t.0 r.0 r.1 _ t.1 r.2)
   gc_given (gc.ArrayNewElem y i) more next =
       may (op.Gc (gc.ArrayNewElem y i)) more refl (or_trapped p x s (range (segment_in s i) (index 1) (index 0)) _ (λ us e.
       let r = makes_given y (must {A = TypeTree} (slice_get p.«module».types y) _ (told p valid results act acts s v trap (plain (op.Gc (gc.ArrayNewElem y i)) more) next)) (λ q. us) us in (r.0, r.1, r.3)))
@@ -541,7 +581,9 @@ module _ (p : Program) (valid : IsValidProgram p) (results : List ValueType) (ac
   gc_given gc.ArrayLen more next = may (op.Gc gc.ArrayLen) more refl (of_known p x s (top 0) (top_knows 0) _ (λ k t o e d. (making (length o.fields), s, (refl, (refl, refl, refl)))))
   gc_given (gc.ArrayCopy y z) more next = may (op.Gc (gc.ArrayCopy y z)) more refl
       (of_known p x s (top 2) (top_knows 2) _ (λ k t o e d. or_trapped p x s (range o.fields (index 1) (index 0)) _ (λ us b. writes_given (top 4) (top_knows 4) (index 3) us us)))
-  gc_given (gc.ArrayInitData y d) more next = may (op.Gc (gc.ArrayInitData y d)) more refl (trap, s, inl (refl, (refl, refl)))
+  gc_given (gc.ArrayInitData y d) more next = may (op.Gc (gc.ArrayInitData y d)) more refl
+      (of_known p x s (top 3) (top_knows 3) _ (λ k t o e b. of_data d o.type (index 1) (index 0) (λ a u ws. WritesTo p (act ∷ acts) s a u act k o (index 2) ws [])
+      (λ ws. or_trapped p x s (placed o.fields (index 2) ws) (λ a u zs. Gives p (act ∷ acts) s a u [] (with_fields s k o zs)) (λ zs c. (still, with_fields s k o zs, (refl, refl, refl))))))
   gc_given (gc.ArrayInitElem y i) more next = may (op.Gc (gc.ArrayInitElem y i)) more refl
       (or_trapped p x s (range (segment_in s i) (index 1) (index 0)) _ (λ us e. writes_given (top 3) (top_knows 3) (index 2) us us))
   gc_given (gc.RefTestNonNull h) more next =
@@ -585,8 +627,8 @@ module _ (p : Program) (valid : IsValidProgram p) (results : List ValueType) (ac
   constant_given : (o : ConstOperator) (more : Code) → Given (plain (op.Const o) more)
   constant_given (const.I32Const n) more = calm (op.Const (const.I32Const n)) more refl (giving (number_value i32 (integer_bits 32 n) ∷ [])) s refl (refl, refl, refl)
   constant_given (const.I64Const n) more = calm (op.Const (const.I64Const n)) more refl (giving (number_value i64 (integer_bits 64 n) ∷ [])) s refl (refl, refl, refl)
-  constant_given (const.F32Const b) more = calm (op.Const (const.F32Const b)) more refl (giving (number_value f32 b.0 ∷ [])) s refl (refl, refl, refl)
-  constant_given (const.F64Const b) more = calm (op.Const (const.F64Const b)) more refl (giving (number_value f64 b.0 ∷ [])) s refl (refl, refl, refl)
+  constant_given (const.F32Const b) more = calm (op.Const (const.F32Const b)) more refl (giving (number_value f32 (b.0 % 2 ^ 32) ∷ [])) s refl (refl, refl, refl)
+  constant_given (const.F64Const b) more = calm (op.Const (const.F64Const b)) more refl (giving (number_value f64 (b.0 % 2 ^ 64) ∷ [])) s refl (refl, refl, refl)
 
   -- numbers that are computed
   abbrev computing : Op → Answer
@@ -597,20 +639,110 @@ module _ (p : Program) (valid : IsValidProgram p) (results : List ValueType) (ac
   computed_given o more next e g = (
     computing o,
     s,
-    g (computing o) s (outside o more next (computing o) (subst (λ (n : Move). n.is_answer) (sym (e (computing o))) (computes o more)) (values_number (computed (info_of o).name))),
+    g (computing o) s (outside o more next (computing o) (subst (λ (n : Move). n.is_answer) (sym (e (computing o))) (computes o more)) (values_number (computed (info_of o).name)) quiet),
     λ d. absurd ((subst Ends (sym (e (computing o))) (compute_ends p (computing o) act acts refl o more)).never d),
   )
 
-  vector_given : (o : SimdOperator) (more : Code) → Next (plain (op.Simd o) more) → (i : Option MemArg) → argument_of (immediates_of (op.Simd o)) ≡ i → Given (plain (op.Simd o) more)
-  vector_given o more next None e = calm (op.Simd o) more (ap is_some e) (computing (op.Simd o)) s refl
-      (outside (op.Simd o) more next (computing (op.Simd o))
-      (subst (λ (i : Option MemArg). (operate_vector p (computing (op.Simd o)) act acts i (op.Simd o) more).is_answer) (sym e) (computes (op.Simd o) more)) (values_number (computed (info_of (op.Simd o)).name)))
-  vector_given o more next (Some i) e = may (op.Simd o) more (ap is_some e)
-      (trap, s, outside (op.Simd o) more next trap (subst (λ (j : Option MemArg). (operate_vector p trap act acts j (op.Simd o) more).is_answer) (sym e) ((access_traps p act acts (op.Simd o) more).is)) tt)
+  -- an operator on integers: its value, or a trap, and only of an operator that may trap
+  numeric_given : (o : NumericOperator) (more : Code) → Next (plain (op.Numeric o) more) → (k : Option Operation) → integer_operation o ≡ k
+      → Given (plain (op.Numeric o) more)
+  numeric_given o more next None e = computed_given (op.Numeric o) more next (λ b. refl)
+      (λ a u h. subst (λ (q : Option Operation). OrOutside p (act ∷ acts) s a u act q (Calculates p (act ∷ acts) s a u act)) (sym e) h)
+  numeric_given o more next (Some r) e = valued (r.value (index 1) (index 0)) refl
+    where
+      F : Answer → ℕ → Type 0
+      F a c = Gives p (act ∷ acts) s a s (number_value r.gives c ∷ []) s
+
+      as_given : (a : Answer) (c : Option ℕ) → r.value (index 1) (index 0) ≡ c → OrTraps p (act ∷ acts) s a s c (F a) → GivesOperator p (act ∷ acts) s a s act (op.Numeric o)
+      as_given a c d h = subst (λ (q : Option Operation). OrOutside p (act ∷ acts) s a s act q (Calculates p (act ∷ acts) s a s act)) (sym e)
+          (subst (λ (q : Option ℕ). OrTraps p (act ∷ acts) s a s q (F a)) (sym d) h)
+
+      traps_so : (t : Bool) → can_trap (op.Numeric o) ≡ t → r.value (index 1) (index 0) ≡ None → t ≡ true
+      traps_so true c d = refl
+      traps_so false c d = absurd (true≢false (sym ((row_is o r e).defined c (index 1) (index 0)) ∙ ap is_some d))
+
+      valued : (c : Option ℕ) → r.value (index 1) (index 0) ≡ c → Given (plain (op.Numeric o) more)
+      valued None d = (trap, s, as_given trap None d (refl, (refl, refl)), λ t. traps_so (can_trap (op.Numeric o)) refl d)
+      valued (Some b) d = (
+        giving (number_value r.gives b ∷ []),
+        s,
+        as_given (giving (number_value r.gives b ∷ [])) (Some b) d (refl, refl, refl),
+        λ t. absurd ((compute_ends p (giving (number_value r.gives b ∷ [])) act acts refl (op.Numeric o) more).never t),
+      )
+
+  vector_outside : (o : SimdOperator) (more : Code) → Next (plain (op.Simd o) more) → (i : Option MemArg) → argument_of (immediates_of (op.Simd o)) ≡ i
+      → (a : Answer) × Outside p (act ∷ acts) s a s × ((execute p a act acts (plain (op.Simd o) more)).outcome ≡ trapped → IsTrue (can_trap (op.Simd o)))
+  vector_outside o more next None e = (
+    computing (op.Simd o),
+    outside (op.Simd o) more next (computing (op.Simd o)) (subst (λ (i : Option MemArg). (operate_vector p (computing (op.Simd o)) act acts i (op.Simd o) more).is_answer) (sym e) (computes (op.Simd o) more)) (values_number (computed (info_of (op.Simd o)).name)) quiet,
+    λ d. absurd ((operate_ends p (computing (op.Simd o)) act acts refl (op.Simd o) more (ap is_some e)).never d),
+  )
+  vector_outside o more next (Some i) e = (
+    trap,
+    outside (op.Simd o) more next trap (subst (λ (j : Option MemArg). (operate_vector p trap act acts j (op.Simd o) more).is_answer) (sym e) ((access_traps p act acts (op.Simd o) more).is)) tt (λ d. ap is_some e),
+    λ d. ap is_some e,
+  )
+
+  vector_given : (o : SimdOperator) (more : Code) → Next (plain (op.Simd o) more) → (r : Option Reach) → simd_access o ≡ r → Given (plain (op.Simd o) more)
+  vector_given o more next None e =
+      let k = vector_outside o more next (argument_of (immediates_of (op.Simd o))) refl in
+      (k.0, s, subst (λ (q : Option Reach). OrOutside p (act ∷ acts) s k.0 s act q (Reaches p (act ∷ acts) s k.0 s act)) (sym e) k.1, k.2)
+  vector_given o more next (Some r) e =
+      let k = access_given r.argument r.access in
+      may (op.Simd o) more (ap is_some (simd_carried o r e)) (k.0, k.1, subst (λ (q : Option Reach). OrOutside p (act ∷ acts) s k.0 k.1 act q (Reaches p (act ∷ acts) s k.0 k.1 act)) (sym e) k.2)
+
+  -- bytes are written, if any
+  replaced_given : (r : AtomicAccess) (c : Option ℕ) (ws : List Value) → Some_of p x s (λ a u. Replaces p (act ∷ acts) s a u act r c ws)
+  replaced_given r None ws = (giving ws, s, (refl, refl, refl))
+  replaced_given r (Some c) ws = at (is_shared_memory (slice_get p.«module».memories r.argument.memory))
+    where
+      F : Answer → Store → List ℕ → Type 0
+      F a u cs = Gives p (act ∷ acts) s a u ws (with_memory s r.argument.memory cs)
+
+      place : Option (List ℕ)
+      place = placed (memory_in s r.argument.memory) (index (length r.takes) + r.argument.offset) (bytes_of r.size c)
+
+      at : (b : Bool) → Some_of p x s (λ a u. Either b (Gives p (act ∷ acts) s a u ws s) (OrTraps p (act ∷ acts) s a u place (F a u)))
+      at true = (giving ws, s, (refl, refl, refl))
+      at false = or_trapped p x s place F (λ cs e. (giving ws, with_memory s r.argument.memory cs, (refl, refl, refl)))
+
+  aligned_given : (r : AtomicAccess) → Some_of p x s (λ a u. Aligned p (act ∷ acts) s a u act r)
+  aligned_given r = at (is_misaligned (index (length r.takes) + r.argument.offset) r.size)
+    where
+      F : Answer → Store → List ℕ → Type 0
+      F a u bs = Replaces p (act ∷ acts) s a u act r (r.written (index 0) (index 1) (number_of bs)) (number_given r.gives (r.given (number_of bs)))
+
+      at : (b : Bool) → Some_of p x s (λ a u. Either b (Traps p (act ∷ acts) s a u) (Exchanges p (act ∷ acts) s a u act r))
+      at true = (trap, s, (refl, (refl, refl)))
+      at false = read_bytes r.argument.memory (index (length r.takes) + r.argument.offset) r.size F (λ bs. replaced_given r
+          (r.written (index 0) (index 1) (number_of bs)) (number_given r.gives (r.given (number_of bs))))
+
+  exchange_given : (o : Option AtomicAccess) → is_some o ≡ true → Some_of p x s (λ a u. There p (act ∷ acts) s a u o (Aligned p (act ∷ acts) s a u act))
+  exchange_given None e = absurd (true≢false (sym e))
+  exchange_given (Some r) e = aligned_given r
+
+  -- of a memory that other threads use: it traps
+  others_given : (o : AtomicOperator) (more : Code) (m : MemArg) (F : Answer → Store → Type 0) → Next (plain (op.Atomic o) more)
+      → can_trap (op.Atomic o) ≡ true → (operate p trap act acts (op.Atomic o) more).is_answer
+      → Some_of p x s F → Some_of p x s (λ a u. ByOthers p (act ∷ acts) s a u act m (F a u))
+  others_given o more m F next c i f = at (is_shared_memory (slice_get p.«module».memories m.memory))
+    where
+      at : (b : Bool) → Some_of p x s (λ a u. Either b (Outside p (act ∷ acts) s a u) (F a u))
+      at true = (trap, s, outside (op.Atomic o) more next trap i tt (λ e. c))
+      at false = f
 
   atomic_given : (o : AtomicOperator) (more : Code) → Next (plain (op.Atomic o) more) → Given (plain (op.Atomic o) more)
-  atomic_given atomic.AtomicFence more next = calm (op.Atomic atomic.AtomicFence) more refl still s refl (outside (op.Atomic atomic.AtomicFence) more next still tt tt)
-  atomic_given o more next = may (op.Atomic o) more refl (trap, s, outside (op.Atomic o) more next trap ((access_traps p act acts (op.Atomic o) more).is) tt)
+  atomic_given atomic.AtomicFence more next = calm (op.Atomic atomic.AtomicFence) more refl still s refl (refl, refl)
+  atomic_given (atomic.MemoryAtomicNotify m) more next = let o = atomic.MemoryAtomicNotify m in
+      may (op.Atomic o) more refl (others_given o more m (λ a u. Aligned p (act ∷ acts) s a u act (notification m)) next refl
+      ((access_traps p act acts (op.Atomic o) more).is) (aligned_given (notification m)))
+  atomic_given (atomic.MemoryAtomicWait32 m) more next = let o = atomic.MemoryAtomicWait32 m in
+      may (op.Atomic o) more refl (others_given o more m (λ a u. Traps p (act ∷ acts) s a u) next refl ((access_traps p act acts (op.Atomic o) more).is)
+      (trap, s, (refl, (refl, refl))))
+  atomic_given (atomic.MemoryAtomicWait64 m) more next = let o = atomic.MemoryAtomicWait64 m in
+      may (op.Atomic o) more refl (others_given o more m (λ a u. Traps p (act ∷ acts) s a u) next refl ((access_traps p act acts (op.Atomic o) more).is)
+      (trap, s, (refl, (refl, refl))))
+  atomic_given o more next = may (op.Atomic o) more refl (exchange_given (atomic_access o) refl)
 
   -- ---- all operators, and all instructions
 
@@ -622,13 +754,13 @@ module _ (p : Program) (valid : IsValidProgram p) (results : List ValueType) (ac
   operator_given (op.Bulk o) more next = bulk_given o more next
   operator_given (op.Gc o) more next = gc_given o more next
   operator_given (op.Const o) more next = constant_given o more
-  operator_given (op.Numeric o) more next = computed_given (op.Numeric o) more next (λ b. refl) (λ a u h. h)
-  operator_given (op.Simd o) more next = vector_given o more next (argument_of (immediates_of (op.Simd o))) refl
+  operator_given (op.Numeric o) more next = numeric_given o more next (integer_operation o) refl
+  operator_given (op.Simd o) more next = vector_given o more next (simd_access o) refl
   operator_given (op.SimdNumeric o) more next = computed_given (op.SimdNumeric o) more next (λ b. refl) (λ a u h. h)
   operator_given (op.Atomic o) more next = atomic_given o more next
-  operator_given (op.Descriptor o) more next = calm (op.Descriptor o) more refl still s refl (outside (op.Descriptor o) more next still tt tt)
-  operator_given (op.Shared o) more next = calm (op.Shared o) more refl still s refl (outside (op.Shared o) more next still tt tt)
-  operator_given (op.Continuation o) more next = calm (op.Continuation o) more refl still s refl (outside (op.Continuation o) more next still tt tt)
+  operator_given (op.Descriptor o) more next = calm (op.Descriptor o) more refl still s refl (outside (op.Descriptor o) more next still tt tt quiet)
+  operator_given (op.Shared o) more next = calm (op.Shared o) more refl still s refl (outside (op.Shared o) more next still tt tt quiet)
+  operator_given (op.Continuation o) more next = calm (op.Continuation o) more refl still s refl (outside (op.Continuation o) more next still tt tt quiet)
 
   block_given : (o : Op) (body more : Code) → Given (nested o body more)
   block_given (op.Control (control.If bt)) body more = let a : Answer = deciding (is_true (top 0)) in

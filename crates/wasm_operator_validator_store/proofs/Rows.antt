@@ -4,6 +4,7 @@ use Rattle.wasm_types.specs.trees.Trees.{opened}
 use Rattle.wasm_types.specs.trees.ValidGroup.{types_from}
 use Rattle.wasm_operator_validator_store.specs.worked.Program.{store, trapping}
 use Rattle.wasm_operator_validator_store.specs.worked.Rows.{RowsWorked}
+use Rattle.wasm_operator_validator_store.proofs.Premises.{own_fits, pair_fits, triple_unfit}
 
 pub rows_worked : RowsWorked
 unfolding opened types_from
@@ -21,9 +22,9 @@ rows_worked = record {
   equal = (_, _, _, (_, _, (refl, (refl, refl, refl)), refl, (refl, refl)), (refl, refl), refl);
   not_equal = (_, _, _, (_, _, (refl, (refl, refl, refl)), refl, (refl, refl)), (refl, refl), refl);
   external = (_, _, _, (_, _, (0, refl, refl, inr refl), refl, (_, _, (refl, refl, refl), refl, (_, _, (refl, (refl, refl, refl)), refl, (refl, refl)))), (refl, refl), refl);
-  cast_fails = λ no. (_, _, _, (refl, refl), (((λ e. absurd (true≢false (sym e))), (λ f. absurd (no f))), (refl, refl)), refl);
-  tested = λ f. (_, _, _, (_, _, (((λ e. f), (λ g. refl)), (refl, (refl, refl, refl))), refl, (refl, refl)), (refl, refl), refl);
-  called = λ f. (_, _, _, (_, _, (refl, refl, refl), refl, (_, _, (refl, ((λ e. f), (λ g. refl)), (refl, (refl, refl))), refl, (_, _, (refl, refl, refl), refl, (_, _, (refl, refl), refl, (refl, refl))))), (refl, refl), refl);
+  cast_fails = (_, _, _, (refl, refl), (((λ e. absurd (true≢false (sym e))), (λ f. absurd (triple_unfit f))), (refl, refl)), refl);
+  tested = (_, _, _, (_, _, (((λ e. pair_fits), (λ g. refl)), (refl, (refl, refl, refl))), refl, (refl, refl)), (refl, refl), refl);
+  called = (_, _, _, (_, _, (refl, refl, refl), refl, (_, _, (refl, ((λ e. own_fits), (λ g. refl)), (refl, (refl, refl))), refl, (_, _, (refl, refl, refl), refl, (_, _, (refl, refl), refl, (refl, refl))))), (refl, refl), refl);
   null_called = (_, _, _, (refl, refl), (refl, ((λ e. absurd (true≢false (sym e))), (λ g. absurd g.1.0)), (refl, refl)), refl);
   initialised = (_, _, _, (_, _, (refl, refl, refl), refl, (_, _, (refl, refl, refl), refl, (_, _, (refl, (refl, refl, refl)), refl, (refl, refl)))), (refl, refl), refl);
   dropped = (_, _, _, (_, _, (refl, refl, refl), refl, (refl, refl)), (refl, (refl, refl)), refl);

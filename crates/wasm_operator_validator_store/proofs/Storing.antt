@@ -2,14 +2,15 @@
 use Rattle.std.proofs.Common.{◌≡◌, ◌≤◌, ℕ, true, false, List, [], ◌∷◌, ◌++◌, Option, Some, None, refl, sym, ap, subst, ◌∙◌, inl, inr, length, slice_get, arith, true≢false}
 use Rattle.wasm_types.specs.trees.Types.{ref, abstract, any, InnerOf, array_of, struct_of}
 use Rattle.wasm_types.specs.trees.Trees.{TypeTree}
+use Rattle.wasm_types.specs.externs.declared.memory.MemoryType.{MemoryType}
 use Rattle.wasm_types.specs.trees.Below.{Below, expanded}
 use Rattle.wasm_types.specs.trees.laws.Below.{below_transitive}
 use Rattle.wasm_operator_validator_rules.specs.Operands.{ValueType}
 use Rattle.wasm_operator_validator_rules.specs.Context.{Table, Global}
 use Rattle.wasm_operator_validator_soundness.specs.runs.Values.{Program, Value, number_value, ref_null, ref_function, ref_object, ref_i31, ref_host, ref_extern, ref_exn, least_type}
 use Rattle.wasm_operator_validator_soundness.specs.runs.States.{Exception, Label, Activation, State}
-use Rattle.wasm_operator_validator_store.specs.Stores.{GlobalInstance, TableInstance, ObjectInstance, ExceptionInstance, Addresses, Store, value_held, elements_held, with_value, with_elements, global_address, table_address, global_in, table_in, segment_in, with_global, with_table, without_segment, with_object, with_fields, with_exception}
-use Rattle.wasm_operator_validator_store.specs.ValidStores.{Each, Pairs, Knows, Has, HasField, FieldsFit, ObjectFits, ThrownFits, GlobalMatches, TableMatches, IsGlobalAt, IsTableAt, IsTagAt, GlobalFits, TableFits, StoreFits, GlobalIsLater, TableIsLater, SegmentIsLater, IsLater, Evolves, HasLocal, HasCaught, HasLabel, HasActivation, HasState}
+use Rattle.wasm_operator_validator_store.specs.Stores.{GlobalInstance, TableInstance, MemoryInstance, ObjectInstance, ExceptionInstance, Addresses, Store, value_held, elements_held, with_value, with_elements, bytes_held, with_bytes, global_address, table_address, memory_address, global_in, table_in, memory_at, memory_in, segment_in, with_global, with_table, with_memory, without_data, without_segment, with_object, with_fields, with_exception}
+use Rattle.wasm_operator_validator_store.specs.ValidStores.{Each, Pairs, Knows, Has, HasField, FieldsFit, ObjectFits, ThrownFits, GlobalMatches, TableMatches, MemoryMatches, IsGlobalAt, IsTableAt, IsMemoryAt, IsTagAt, GlobalFits, TableFits, MemoryFits, StoreFits, GlobalIsLater, TableIsLater, MemoryIsLater, SegmentIsLater, DataIsLater, IsLater, Evolves, HasLocal, HasCaught, HasLabel, HasActivation, HasState}
 use Rattle.wasm_operator_validator_store.proofs.Lists.{same_some, each_get, each_append, each_set, each_changed, each_map, pairs_get, pairs_set, pairs_map, get_append, get_last, get_or_there, get_set_by, get_set_any, get_changed_by}
 use Rattle.wasm_operator_validator_store.proofs.Keeping.{IsPlain}
 
@@ -22,14 +23,19 @@ global_is_same g = record { type = refl; kept = λ m. refl }
 pub table_is_same : (t : TableInstance) → TableIsLater t t
 table_is_same t = record { type = refl; size = omega arith }
 
+pub memory_is_same : (m : MemoryInstance) → MemoryIsLater m m
+memory_is_same m = record { type = refl; size = omega arith }
+
 pub knows_plain : (s : Store) → IsPlain (Knows s)
-knows_plain s = record { numbers = λ n b. tt; nulls = λ c h. tt; functions = λ i t. tt; scalars = λ b. tt }
+knows_plain s = record { zeros = λ n. tt; nulls = λ c h. tt; functions = λ i t. tt }
 
 pub stays : (s : Store) → Evolves s s
 stays s = record {
   globals = λ k g e. (g, e, global_is_same g);
   tables = λ k t e. (t, e, table_is_same t);
+  memories = λ k m e. (m, e, memory_is_same m);
   segments = λ i vs e. (vs, e, inl refl);
+  data_segments = λ i bs e. (bs, e, inl refl);
   objects = λ k o e. (o, e, is_same o);
   exceptions = λ k x e. e;
   tags = λ k t e. e;
@@ -79,13 +85,20 @@ module _ (s u : Store) (e : Evolves s u) where
   pub table_there : (t : Table) (k : ℕ) → IsTableAt s t k → IsTableAt u t k
   table_there t k h = let r = e.tables k h.0 h.1 in (r.0, r.1, subst (λ (q : Table). TableMatches q t) (sym r.2.type) h.2)
 
+  pub memory_there : (t : MemoryType) (k : ℕ) → IsMemoryAt s t k → IsMemoryAt u t k
+  memory_there t k h =
+      let r = e.memories k h.0 h.1 in
+      (r.0, r.1, subst (λ (q : MemoryType). MemoryMatches q t) (sym r.2.type) h.2, omega (arith, h.3, r.2.size))
+
 -- ---- what becomes of a store in which something is replaced or added
 
 pub global_evolves : (s : Store) (x : ℕ) (v : Value) (i : GlobalInstance) → slice_get s.globals (global_address s x) ≡ Some i → i.type.mutable ≡ true → Evolves s (with_global s x v)
 global_evolves s x v i e m = record {
   globals = get_changed_by GlobalIsLater (with_value v) s.globals (global_address s x) global_is_same written;
   tables = λ k t d. (t, d, table_is_same t);
+  memories = λ k m d. (m, d, memory_is_same m);
   segments = λ i vs d. (vs, d, inl refl);
+  data_segments = λ i bs d. (bs, d, inl refl);
   objects = λ k q d. (q, d, is_same q);
   exceptions = λ k y d. d;
   tags = λ k t d. d;
@@ -100,7 +113,9 @@ pub table_evolves : (s : Store) (x : ℕ) (vs : List Value) → length (table_in
 table_evolves s x vs l = record {
   globals = λ k g d. (g, d, global_is_same g);
   tables = get_changed_by TableIsLater (with_elements vs) s.tables (table_address s x) table_is_same written;
+  memories = λ k m d. (m, d, memory_is_same m);
   segments = λ i vs d. (vs, d, inl refl);
+  data_segments = λ i bs d. (bs, d, inl refl);
   objects = λ k q d. (q, d, is_same q);
   exceptions = λ k y d. d;
   tags = λ k t d. d;
@@ -111,11 +126,44 @@ table_evolves s x vs l = record {
     written : (t : TableInstance) → slice_get s.tables (table_address s x) ≡ Some t → TableIsLater t (with_elements vs t)
     written t d = record { type = refl; size = subst (λ (ws : List Value). length ws ≤ length vs) (ap elements_held d) l }
 
+pub memory_evolves : (s : Store) (x : ℕ) (bs : List ℕ) → length (memory_in s x) ≤ length bs → Evolves s (with_memory s x bs)
+memory_evolves s x bs l = record {
+  globals = λ k g d. (g, d, global_is_same g);
+  tables = λ k t d. (t, d, table_is_same t);
+  memories = get_changed_by MemoryIsLater (with_bytes bs) s.memories (memory_address s x) memory_is_same written;
+  segments = λ i vs d. (vs, d, inl refl);
+  data_segments = λ i cs d. (cs, d, inl refl);
+  objects = λ k q d. (q, d, is_same q);
+  exceptions = λ k y d. d;
+  tags = λ k t d. d;
+  externs = λ k w d. d;
+  addresses = refl;
+}
+  where
+    written : (m : MemoryInstance) → slice_get s.memories (memory_address s x) ≡ Some m → MemoryIsLater m (with_bytes bs m)
+    written m d = record { type = refl; size = subst (λ (cs : List ℕ). length cs ≤ length bs) (ap bytes_held d) l }
+
+pub data_evolves : (s : Store) (i : ℕ) → Evolves s (without_data s i)
+data_evolves s i = record {
+  globals = λ k g d. (g, d, global_is_same g);
+  tables = λ k t d. (t, d, table_is_same t);
+  memories = λ k m d. (m, d, memory_is_same m);
+  segments = λ i vs d. (vs, d, inl refl);
+  data_segments = get_set_any DataIsLater s.data_segments i [] (λ cs. inl refl) (λ cs. inr refl);
+  objects = λ k q d. (q, d, is_same q);
+  exceptions = λ k y d. d;
+  tags = λ k t d. d;
+  externs = λ k w d. d;
+  addresses = refl;
+}
+
 pub segment_evolves : (s : Store) (i : ℕ) → Evolves s (without_segment s i)
 segment_evolves s i = record {
   globals = λ k g d. (g, d, global_is_same g);
   tables = λ k t d. (t, d, table_is_same t);
+  memories = λ k m d. (m, d, memory_is_same m);
   segments = get_set_any SegmentIsLater s.segments i [] (λ vs. inl refl) (λ vs. inr refl);
+  data_segments = λ i bs d. (bs, d, inl refl);
   objects = λ k q d. (q, d, is_same q);
   exceptions = λ k y d. d;
   tags = λ k t d. d;
@@ -127,7 +175,9 @@ pub object_evolves : (s : Store) (o : ObjectInstance) → Evolves s (with_object
 object_evolves s o = record {
   globals = λ k g d. (g, d, global_is_same g);
   tables = λ k t d. (t, d, table_is_same t);
+  memories = λ k m d. (m, d, memory_is_same m);
   segments = λ i vs d. (vs, d, inl refl);
+  data_segments = λ i bs d. (bs, d, inl refl);
   objects = λ k q d. (q, get_append s.objects (o ∷ []) k q d, is_same q);
   exceptions = λ k y d. d;
   tags = λ k t d. d;
@@ -142,7 +192,9 @@ pub fields_evolve : (s : Store) (k : ℕ) (o : ObjectInstance) (vs : List Value)
 fields_evolve s k o vs e l = record {
   globals = λ k g d. (g, d, global_is_same g);
   tables = λ k t d. (t, d, table_is_same t);
+  memories = λ k m d. (m, d, memory_is_same m);
   segments = λ i vs d. (vs, d, inl refl);
+  data_segments = λ i bs d. (bs, d, inl refl);
   objects = λ i q d. get_set_by IsLater s.objects k o (record o { fields = vs }) is_same e l i q d;
   exceptions = λ k y d. d;
   tags = λ k t d. d;
@@ -154,7 +206,9 @@ pub exception_evolves : (s : Store) (x : ExceptionInstance) → Evolves s (with_
 exception_evolves s x = record {
   globals = λ k g d. (g, d, global_is_same g);
   tables = λ k t d. (t, d, table_is_same t);
+  memories = λ k m d. (m, d, memory_is_same m);
   segments = λ i vs d. (vs, d, inl refl);
+  data_segments = λ i bs d. (bs, d, inl refl);
   objects = λ k q d. (q, d, is_same q);
   exceptions = λ k y d. get_append s.exceptions (x ∷ []) k y d;
   tags = λ k t d. d;
@@ -210,6 +264,10 @@ module _ (p : Program) where
       tables_there = subst (λ (a : Addresses). Pairs (IsTableAt u) p.«module».tables a.tables) (sym e.addresses)
           (pairs_map (IsTableAt s) (IsTableAt u) p.«module».tables s.addresses.tables (table_there s u e) f.table_addresses)
 
+      pub memories_there : Pairs (IsMemoryAt u) p.«module».memories u.addresses.memories
+      memories_there = subst (λ (a : Addresses). Pairs (IsMemoryAt u) p.«module».memories a.memories) (sym e.addresses)
+          (pairs_map (IsMemoryAt s) (IsMemoryAt u) p.«module».memories s.addresses.memories (memory_there s u e) f.memory_addresses)
+
       pub tags_there : Pairs (IsTagAt u) p.«module».tags u.addresses.tags
       tags_there = subst (λ (a : Addresses). Pairs (IsTagAt u) p.«module».tags a.tags) (sym e.addresses)
           (pairs_map (IsTagAt s) (IsTagAt u) p.«module».tags s.addresses.tags (λ t k h. e.tags k t h) f.tag_addresses)
@@ -262,6 +320,7 @@ module _ (p : Program) where
         record {
           globals = each_changed (GlobalFits p (with_global s x v)) (with_value v) s.globals (global_address s x) (globals_fit s (with_global s x v) later f) (λ i d. written r i d later);
           tables = tables_fit s (with_global s x v) later f;
+          memories = f.memories;
           segments = segments_fit s (with_global s x v) later f;
           objects = objects_fit s (with_global s x v) later f;
           exceptions = exceptions_fit s (with_global s x v) later f;
@@ -269,6 +328,7 @@ module _ (p : Program) where
           externs = externs_fit s (with_global s x v) later f;
           global_addresses = globals_there s (with_global s x v) later f;
           table_addresses = tables_there s (with_global s x v) later f;
+          memory_addresses = memories_there s (with_global s x v) later f;
           tag_addresses = tags_there s (with_global s x v) later f;
         },
         later,
@@ -285,6 +345,7 @@ module _ (p : Program) where
       record {
         globals = globals_fit s (with_table s x vs) later f;
         tables = each_changed (TableFits p (with_table s x vs)) (with_elements vs) s.tables (table_address s x) (tables_fit s (with_table s x vs) later f) written;
+        memories = f.memories;
         segments = segments_fit s (with_table s x vs) later f;
         objects = objects_fit s (with_table s x vs) later f;
         exceptions = exceptions_fit s (with_table s x vs) later f;
@@ -292,6 +353,7 @@ module _ (p : Program) where
         externs = externs_fit s (with_table s x vs) later f;
         global_addresses = globals_there s (with_table s x vs) later f;
         table_addresses = tables_there s (with_table s x vs) later f;
+        memory_addresses = memories_there s (with_table s x vs) later f;
         tag_addresses = tags_there s (with_table s x vs) later f;
       }
     where
@@ -299,6 +361,54 @@ module _ (p : Program) where
       written i d =
           let r = table_at s f x t e in
           all_later s (with_table s x vs) (table_evolves s x vs l) i.type.element vs (subst (λ (k : TableInstance). Each (Has p s k.type.element) vs) (same_some r.0 i (sym r.1 ∙ d)) (all_above s t.element (r.0).type.element vs r.2.3 h))
+
+  -- ---- a memory is written, or grows; a data segment is dropped
+
+  -- where its new bytes are so many whole pages, each memory at that address fits
+  pub memory_fits : (s : Store) (x : ℕ) (bs : List ℕ) → length (memory_in s x) ≤ length bs → ((m : MemoryInstance) → memory_at s x ≡ Some m → MemoryFits (with_bytes bs m)) → StoreFits p s → StoreFits p (with_memory s x bs)
+  memory_fits s x bs l h f =
+      let later = memory_evolves s x bs l in
+      record {
+        globals = globals_fit s (with_memory s x bs) later f;
+        tables = tables_fit s (with_memory s x bs) later f;
+        memories = each_changed MemoryFits (with_bytes bs) s.memories (memory_address s x) f.memories h;
+        segments = segments_fit s (with_memory s x bs) later f;
+        objects = objects_fit s (with_memory s x bs) later f;
+        exceptions = exceptions_fit s (with_memory s x bs) later f;
+        tags = f.tags;
+        externs = externs_fit s (with_memory s x bs) later f;
+        global_addresses = globals_there s (with_memory s x bs) later f;
+        table_addresses = tables_there s (with_memory s x bs) later f;
+        memory_addresses = memories_there s (with_memory s x bs) later f;
+        tag_addresses = tags_there s (with_memory s x bs) later f;
+      }
+
+  -- as many bytes as there were
+  pub bytes_fit : (s : Store) (x : ℕ) (bs : List ℕ) → length bs ≡ length (memory_in s x) → StoreFits p s → StoreFits p (with_memory s x bs) × Evolves s (with_memory s x bs)
+  bytes_fit s x bs e f = (
+    memory_fits s x bs (omega (arith, e)) (λ m d.
+        let k = each_get MemoryFits s.memories (memory_address s x) m f.memories d in
+        (k.0, e ∙ ap (λ (o : Option MemoryInstance). length (bytes_held o)) d ∙ k.1, k.2)) f,
+    memory_evolves s x bs (omega (arith, e)),
+  )
+
+  pub data_fits : (s : Store) (i : ℕ) → StoreFits p s → StoreFits p (without_data s i)
+  data_fits s i f =
+      let later = data_evolves s i in
+      record {
+        globals = globals_fit s (without_data s i) later f;
+        tables = tables_fit s (without_data s i) later f;
+        memories = f.memories;
+        segments = segments_fit s (without_data s i) later f;
+        objects = objects_fit s (without_data s i) later f;
+        exceptions = exceptions_fit s (without_data s i) later f;
+        tags = f.tags;
+        externs = externs_fit s (without_data s i) later f;
+        global_addresses = globals_there s (without_data s i) later f;
+        table_addresses = tables_there s (without_data s i) later f;
+        memory_addresses = memories_there s (without_data s i) later f;
+        tag_addresses = tags_there s (without_data s i) later f;
+      }
 
   -- ---- a segment is dropped
 
@@ -308,6 +418,7 @@ module _ (p : Program) where
       record {
         globals = globals_fit s (without_segment s i) later f;
         tables = tables_fit s (without_segment s i) later f;
+        memories = f.memories;
         segments = pairs_set (λ k ws. Each (Has p (without_segment s i) k) ws) p.«module».elements s.segments i t [] (segments_fit s (without_segment s i) later f) e tt;
         objects = objects_fit s (without_segment s i) later f;
         exceptions = exceptions_fit s (without_segment s i) later f;
@@ -315,6 +426,7 @@ module _ (p : Program) where
         externs = externs_fit s (without_segment s i) later f;
         global_addresses = globals_there s (without_segment s i) later f;
         table_addresses = tables_there s (without_segment s i) later f;
+        memory_addresses = memories_there s (without_segment s i) later f;
         tag_addresses = tags_there s (without_segment s i) later f;
       }
 
@@ -326,6 +438,7 @@ module _ (p : Program) where
       record {
         globals = globals_fit s (with_object s o) later f;
         tables = tables_fit s (with_object s o) later f;
+        memories = f.memories;
         segments = segments_fit s (with_object s o) later f;
         objects = each_append (ObjectFits p (with_object s o)) s.objects (o ∷ []) (objects_fit s (with_object s o) later f) (object_later s (with_object s o) later o h, tt);
         exceptions = exceptions_fit s (with_object s o) later f;
@@ -333,6 +446,7 @@ module _ (p : Program) where
         externs = externs_fit s (with_object s o) later f;
         global_addresses = globals_there s (with_object s o) later f;
         table_addresses = tables_there s (with_object s o) later f;
+        memory_addresses = memories_there s (with_object s o) later f;
         tag_addresses = tags_there s (with_object s o) later f;
       }
 
@@ -345,6 +459,7 @@ module _ (p : Program) where
       record {
         globals = globals_fit s (with_fields s k o vs) later f;
         tables = tables_fit s (with_fields s k o vs) later f;
+        memories = f.memories;
         segments = segments_fit s (with_fields s k o vs) later f;
         objects = each_set (ObjectFits p (with_fields s k o vs)) s.objects k (record o { fields = vs }) (objects_fit s (with_fields s k o vs) later f) (fields_later s (with_fields s k o vs) later (expanded o.type) vs h);
         exceptions = exceptions_fit s (with_fields s k o vs) later f;
@@ -352,6 +467,7 @@ module _ (p : Program) where
         externs = externs_fit s (with_fields s k o vs) later f;
         global_addresses = globals_there s (with_fields s k o vs) later f;
         table_addresses = tables_there s (with_fields s k o vs) later f;
+        memory_addresses = memories_there s (with_fields s k o vs) later f;
         tag_addresses = tags_there s (with_fields s k o vs) later f;
       }
 
@@ -363,6 +479,7 @@ module _ (p : Program) where
       record {
         globals = globals_fit s (with_exception s x) later f;
         tables = tables_fit s (with_exception s x) later f;
+        memories = f.memories;
         segments = segments_fit s (with_exception s x) later f;
         objects = objects_fit s (with_exception s x) later f;
         exceptions = each_append (ThrownFits p (with_exception s x)) s.exceptions (x ∷ []) (exceptions_fit s (with_exception s x) later f) (thrown_later s (with_exception s x) later x h, tt);
@@ -370,5 +487,6 @@ module _ (p : Program) where
         externs = externs_fit s (with_exception s x) later f;
         global_addresses = globals_there s (with_exception s x) later f;
         table_addresses = tables_there s (with_exception s x) later f;
+        memory_addresses = memories_there s (with_exception s x) later f;
         tag_addresses = tags_there s (with_exception s x) later f;
       }

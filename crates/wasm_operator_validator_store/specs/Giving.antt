@@ -1,32 +1,41 @@
--- What a store gives to the operator that is next, and what it is afterwards (WebAssembly 3.0, execution, instructions). A run's step takes an
--- answer; without a store that is any answer of the right types, and here it is what the standard says. What the standard computes from
--- numbers, reads from memories, or leaves to a host comes from outside as before. Operands are counted from the top.
-use Rattle.std.specs.Prelude.{◌≡◌, ◌⊎◌, ◌↔◌, ℕ, ◌%◌, ◌^◌, Bool, true, false, IsTrue, List, [], ◌∷◌, ◌++◌, length, reverse, take, drop, replicate, get_or, Option, Some, None, slice_get, if◌then◌else◌}
-use Rattle.wasm_types.specs.trees.Types.{i32, i64, f32, f64, ref, concrete}
+-- What a store gives to the operator that is next, and what it is afterwards (WebAssembly 3.0, execution, instructions). A run's step takes
+-- an answer; without a store that is any answer of the right types, and here it is what the standard says. What the standard computes from
+-- floats and vectors, what other threads write, and what is left to a host comes from outside as before. Operands are counted from the top.
+use Rattle.std.specs.Prelude.{◌≡◌, ◌⊎◌, ◌↔◌, ℕ, ◌+◌, ◌*◌, ◌%◌, ◌^◌, Bool, true, false, IsTrue, List, [], ◌∷◌, ◌++◌, length, reverse, take, drop, replicate, get_or, Option, Some, None, slice_get, if◌then◌else◌}
+use Rattle.wasm_types.specs.trees.Types.{i32, i64, f32, f64, ref, concrete, FieldOf}
 use Rattle.wasm_types.specs.trees.Trees.{TypeTree}
 use Rattle.wasm_types.specs.trees.Below.{expanded}
 use Rattle.wasm_types.specs.values.declared.heap.HeapType.{HeapType}
+use Rattle.wasm_types.specs.externs.declared.memory.MemoryType.{MemoryType}
+use Rattle.wasm_operators_immediates.specs.declared.memory.MemArg.{MemArg}
 use Rattle.wasm_operators_enums.specs.declared.control.ControlOperator.{ControlOperator}
 use Rattle.wasm_operators_enums.specs.declared.control.ControlOperator.TheVariants as control
 use Rattle.wasm_operators_enums.specs.declared.memory.MemoryOperator.{MemoryOperator}
 use Rattle.wasm_operators_enums.specs.declared.memory.MemoryOperator.TheVariants as memory
+use Rattle.wasm_operators_enums.specs.declared.numeric.NumericOperator.{NumericOperator}
 use Rattle.wasm_operators_enums.specs.declared.constant.ConstOperator.{ConstOperator}
 use Rattle.wasm_operators_enums.specs.declared.constant.ConstOperator.TheVariants as const
 use Rattle.wasm_operators_enums.specs.declared.bulk.BulkOperator.{BulkOperator}
 use Rattle.wasm_operators_enums.specs.declared.bulk.BulkOperator.TheVariants as bulk
 use Rattle.wasm_operators_enums.specs.declared.gc.GcOperator.{GcOperator}
 use Rattle.wasm_operators_enums.specs.declared.gc.GcOperator.TheVariants as gc
+use Rattle.wasm_operators_enums.specs.declared.atomic.AtomicOperator.{AtomicOperator}
+use Rattle.wasm_operators_enums.specs.declared.atomic.AtomicOperator.TheVariants as atomic
 use Rattle.wasm_operators_enums.specs.Op as op
 use Rattle.wasm_operators_enums.specs.Op.{Op, ParametricTree, ExceptionTree}
 use Rattle.wasm_operators_encoding.specs.expressions.Code.{Code, close, plain, nested, turn}
 use Rattle.wasm_operator_validator_rules.specs.Context.{Table, Signature}
-use Rattle.wasm_operator_validator_soundness.specs.runs.Values.{Body, Program, Value, number_value, ref_null, ref_function, ref_object, ref_i31, ref_host, ref_extern, ref_exn, is_null, IsNumberValue, Fits, EachFits}
+use Rattle.wasm_operator_validator_soundness.specs.runs.Values.{Body, Program, Value, number_value, ref_null, ref_function, ref_object, ref_i31, ref_host, ref_extern, ref_exn, is_null, Fits, EachFits}
 use Rattle.wasm_operator_validator_soundness.specs.runs.States.{Activation, State, Answer}
 use Rattle.wasm_operator_validator_soundness.specs.runs.Machine.{meant_heap, function_type_in, fields_in, operand_of, body_of, named, caught_at}
 use Rattle.wasm_operator_validator_soundness.specs.runs.Soundness.{step}
-use Rattle.wasm_operator_validator_store.specs.Stores.{ObjectInstance, ExceptionInstance, Store, range, placed, nothing, bits_of, is_true, truth, integer_bits, extended, unpacked, sized, failure, same, defaults, field_at, global_in, table_in, segment_in, with_global, with_table, without_segment, with_object, with_fields, with_exception, with_extern}
+use Rattle.wasm_operator_validator_soundness.specs.runs.Progress.{next_can_trap}
+use Rattle.wasm_operator_validator_store.specs.Stores.{ObjectInstance, ExceptionInstance, Store, range, placed, nothing, IsWithin, bits_of, is_true, truth, integer_bits, extended, unpacked, sized, failure, same, defaults, field_at, pages_held, grown, global_in, table_in, memory_at, memory_in, segment_in, data_in, with_global, with_table, with_memory, without_data, without_segment, with_object, with_fields, with_exception, with_extern}
+use Rattle.wasm_operator_validator_store.specs.Memories.{number_of, bytes_of, past, Access, reads, writes, Reach, memory_access, simd_access, stored_size, elements_from}
+use Rattle.wasm_operator_validator_store.specs.Atomics.{is_misaligned, AtomicAccess, number_given, notification, atomic_access}
+use Rattle.wasm_operator_validator_store.specs.Integers.{Operation, integer_operation}
 use Rattle.wasm_operator_validator_store.specs.Handling.{place_of}
-use Rattle.wasm_operator_validator_store.specs.ValidStores.{Each, Knows, StoreFits, Evolves}
+use Rattle.wasm_operator_validator_store.specs.ValidStores.{Each, Knows, InWidth, IsByte, StoreInWidth, StoreFits, Evolves}
 
 -- the number of arguments of a function or a tag
 abbrev pub arity : Option Signature → ℕ
@@ -37,6 +46,15 @@ arity (Some b) = length b.params
 abbrev pub is_wide : Option Table → Bool
 is_wide None = false
 is_wide (Some t) = t.table64
+
+-- whether addresses of a memory have 64 bits, and whether other threads use it too
+abbrev pub is_wide_memory : Option MemoryType → Bool
+is_wide_memory None = false
+is_wide_memory (Some t) = t.memory64
+
+abbrev pub is_shared_memory : Option MemoryType → Bool
+is_shared_memory None = false
+is_shared_memory (Some t) = t.shared
 
 -- which of two holds
 abbrev pub Either : Bool → Type 0 → Type 0 → Type 0
@@ -60,9 +78,10 @@ module _ (p : Program) (s : State) (before : Store) (a : Answer) (after : Store)
   abbrev pub Tells : ℕ → Type 0
   Tells b = (a.made ≡ b) × Gives [] before
 
-  -- numbers, from outside
+  -- numbers, from outside, within their widths; and a trap, if the operator may
   abbrev pub Outside : Type 0
-  Outside = (step p s a).is_answer × Each IsNumberValue a.values × (after ≡ before)
+  Outside = (step p s a).is_answer × Each IsWithin a.values × (after ≡ before)
+      × (IsTrue a.traps → IsTrue (next_can_trap s))
 
   -- what is there, or else a trap; and what is there if the code is valid
   abbrev pub OrTraps : {A : Type 0} → Option A → (A → Type 0) → Type 0
@@ -83,10 +102,44 @@ module _ (p : Program) (s : State) (before : Store) (a : Answer) (after : Store)
   Makes t vs given = (a.made ≡ length before.objects)
       × Gives given (with_object before (record { type = t; fields = vs }))
 
-  -- any such numbers, which are read from bytes
-  abbrev pub AnyOf : TypeTree → ℕ → (List Value → Type 0) → Type 0
-  AnyOf t n F = There (field_at (expanded t) 0)
-      (λ f. (vs : List Value) × (length vs ≡ n) × EachFits p vs (operand_of f.storage) × Each IsNumberValue vs × F vs)
+  -- ---- memories
+
+  abbrev pub shared : ℕ → Bool
+  shared x = is_shared_memory (slice_get p.«module».memories x)
+
+  -- Bytes of a memory, from a place on, if they are there. Of a shared one, which other threads write and which may have grown, any
+  -- bytes, and there may be a trap past what was there.
+  abbrev pub Reading : ℕ → ℕ → ℕ → (List ℕ → Type 0) → Type 0
+  Reading x i n F = Either (shared x)
+      ((IsTrue (past (length (memory_in before x)) i n) × Traps)
+      ⊎ ((bs : List ℕ) × (length bs ≡ n) × Each IsByte bs × F bs))
+      (OrTraps (range (memory_in before x) i n) F)
+
+  -- Bytes are written. What a shared memory holds is not kept.
+  abbrev pub Writing : ℕ → ℕ → List ℕ → Type 0
+  Writing x i bs = Either (shared x)
+      ((IsTrue (past (length (memory_in before x)) i (length bs)) × Traps) ⊎ Gives [] before)
+      (OrTraps (placed (memory_in before x) i bs) (λ cs. Gives [] (with_memory before x cs)))
+
+  -- a size, of a shared memory any
+  abbrev pub wide_memory : ℕ → Bool
+  wide_memory x = is_wide_memory (slice_get p.«module».memories x)
+
+  abbrev pub Sized : ℕ → Type 0
+  Sized x = (n : ℕ) × IsWithin (sized (wide_memory x) n) × Gives (sized (wide_memory x) n ∷ []) before
+
+  abbrev pub size_of : ℕ → Value
+  size_of x = sized (wide_memory x) (pages_held (memory_at before x))
+
+  -- it grows, or it does not; the engine may always have it so
+  abbrev pub GrowsTo : ℕ → Option (List ℕ) → Type 0
+  GrowsTo x None = Gives (failure (wide_memory x) ∷ []) before
+  GrowsTo x (Some bs) = Gives (size_of x ∷ []) (with_memory before x bs) ⊎ Gives (failure (wide_memory x) ∷ []) before
+
+  -- so many elements of an array, from a place of a data segment on
+  abbrev pub OfData : ℕ → TypeTree → ℕ → ℕ → (List Value → Type 0) → Type 0
+  OfData d t i n F = OrTraps (field_at (expanded t) 0) (λ (f : FieldOf TypeTree).
+      OrTraps (range (data_in before d) i (n * stored_size f.storage)) (λ bs. F (elements_from f.storage n bs)))
 
   -- ---- exceptions
 
@@ -120,9 +173,10 @@ module _ (p : Program) (s : State) (before : Store) (a : Answer) (after : Store)
     HostEnds (Some t) = (x : ExceptionInstance) × (slice_get after.exceptions a.made ≡ Some x)
         × (slice_get after.tags x.tag ≡ Some t) × (a.values ≡ x.values) × LandsFrom (called_in tail) x.tag
 
-    -- It may change whatever may change, as long as all fits.
+    -- It may change whatever may change, as long as all fits, and numbers are within their widths.
     abbrev pub HostActs : Type 0
     HostActs = (step p s a).is_answer × Evolves before after × StoreFits p after × HostEnds a.throws
+        × (StoreInWidth before → StoreInWidth after × Each InWidth a.values)
 
     abbrev pub Begins : Option Body → Type 0
     Begins None = HostActs
@@ -188,13 +242,24 @@ module _ (p : Program) (s : State) (before : Store) (a : Answer) (after : Store)
         (λ e. ThrowsAgain e.address)
     GivesException o = Stays
 
+    -- what is read or written lies at the address, which is below what the operator takes besides, and as much further as the offset says
+    abbrev pub Accesses : MemArg → Access → Type 0
+    Accesses m (reads ts n k f) = Reading m.memory (index (length ts) + m.offset) k
+        (λ bs. Gives (number_value n (f (index 0) bs) ∷ []) before)
+    Accesses m (writes n k f) = Writing m.memory (index 1 + m.offset) (bytes_of k (f (index 0)))
+
+    abbrev pub Reaches : Reach → Type 0
+    Reaches r = Accesses r.argument r.access
+
     abbrev pub GivesMemory : MemoryOperator → Type 0
     GivesMemory (memory.LocalGet x) = Stays
     GivesMemory (memory.LocalSet x) = Stays
     GivesMemory (memory.LocalTee x) = Stays
     GivesMemory (memory.GlobalGet x) = Gives (global_in before x ∷ []) before
     GivesMemory (memory.GlobalSet x) = Gives [] (with_global before x (top 0))
-    GivesMemory o = Outside
+    GivesMemory (memory.MemorySize x) = Either (shared x) (Sized x) (Gives (size_of x ∷ []) before)
+    GivesMemory (memory.MemoryGrow x) = Either (shared x) (Sized x) (GrowsTo x (grown (memory_at before x) (index 0)))
+    GivesMemory o = There (memory_access o) Reaches
 
     abbrev pub GivesBulk : BulkOperator → Type 0
     GivesBulk (bulk.RefNull h) = Stays
@@ -214,8 +279,11 @@ module _ (p : Program) (s : State) (before : Store) (a : Answer) (after : Store)
     GivesBulk (bulk.TableCopy x y) = OrTraps (range (table_in before y) (index 1) (index 0)) (λ us.
         OrTraps (placed (table_in before x) (index 2) us) (λ vs. Gives us (with_table before x vs)))
     GivesBulk (bulk.ElemDrop e) = Gives [] (without_segment before e)
-    GivesBulk (bulk.DataDrop d) = Stays
-    GivesBulk o = Outside
+    GivesBulk (bulk.DataDrop d) = Gives [] (without_data before d)
+    GivesBulk (bulk.MemoryInit d x) = OrTraps (range (data_in before d) (index 1) (index 0)) (λ bs. Writing x (index 2) bs)
+    GivesBulk (bulk.MemoryCopy x y) = Reading y (index 1) (index 0) (λ bs. Writing x (index 2) bs)
+    GivesBulk (bulk.MemoryFill x) = Writing x (index 2) (replicate (index 0) (index 1 % 256))
+    GivesBulk (bulk.MemoryDiscard x) = Traps ⊎ Writing x (index 1) (replicate (index 0) 0)
 
     -- ---- objects
 
@@ -275,7 +343,7 @@ module _ (p : Program) (s : State) (before : Store) (a : Answer) (after : Store)
     GivesGc (gc.ArrayNewDefault x) = MakesNamed x
         (λ t. replicate (index 0) (get_or (defaults (fields_in (expanded t))) 0 nothing)) []
     GivesGc (gc.ArrayNewFixed x n) = MakesNamed x (λ t. reverse (tops n)) []
-    GivesGc (gc.ArrayNewData x d) = Traps ⊎ There (type_named x) (λ t. AnyOf t (index 0) (λ vs. Makes t vs []))
+    GivesGc (gc.ArrayNewData x d) = There (type_named x) (λ t. OfData d t (index 1) (index 0) (λ vs. Makes t vs []))
     GivesGc (gc.ArrayNewElem x e) = OrTraps (range (segment_in before e) (index 1) (index 0))
         (λ us. MakesNamed x (λ t. us) us)
     GivesGc (gc.ArrayGet x) = Reads false (top 1) (index 0)
@@ -286,8 +354,8 @@ module _ (p : Program) (s : State) (before : Store) (a : Answer) (after : Store)
     GivesGc (gc.ArrayFill x) = Writes (top 3) (index 2) (replicate (index 0) (top 1)) []
     GivesGc (gc.ArrayCopy x y) = OfObject (top 2) (λ k o. OrTraps (range o.fields (index 1) (index 0))
         (λ us. Writes (top 4) (index 3) us us))
-    GivesGc (gc.ArrayInitData x d) = Traps ⊎ OfObject (top 3)
-        (λ k o. AnyOf o.type (index 0) (λ vs. WritesTo k o (index 2) vs []))
+    GivesGc (gc.ArrayInitData x d) = OfObject (top 3)
+        (λ k o. OfData d o.type (index 1) (index 0) (λ vs. WritesTo k o (index 2) vs []))
     GivesGc (gc.ArrayInitElem x e) = OrTraps (range (segment_in before e) (index 1) (index 0))
         (λ us. Writes (top 3) (index 2) us us)
     GivesGc (gc.RefTestNonNull h) = TellsOf false h
@@ -307,8 +375,53 @@ module _ (p : Program) (s : State) (before : Store) (a : Answer) (after : Store)
     abbrev pub GivesConstant : ConstOperator → Type 0
     GivesConstant (const.I32Const n) = Gives (number_value i32 (integer_bits 32 n) ∷ []) before
     GivesConstant (const.I64Const n) = Gives (number_value i64 (integer_bits 64 n) ∷ []) before
-    GivesConstant (const.F32Const b) = Gives (number_value f32 b.0 ∷ []) before
-    GivesConstant (const.F64Const b) = Gives (number_value f64 b.0 ∷ []) before
+    GivesConstant (const.F32Const b) = Gives (number_value f32 (b.0 % 2 ^ 32) ∷ []) before
+    GivesConstant (const.F64Const b) = Gives (number_value f64 (b.0 % 2 ^ 64) ∷ []) before
+
+    -- ---- integers
+
+    -- an operator that is in a table, or else what it gives comes from outside
+    abbrev pub OrOutside : {A : Type 0} → Option A → (A → Type 0) → Type 0
+    OrOutside None F = Outside
+    OrOutside (Some x) F = F x
+
+    -- the value of the operator's function; a trap if it has none
+    abbrev pub Calculates : Operation → Type 0
+    Calculates r = OrTraps (r.value (index 1) (index 0)) (λ b. Gives (number_value r.gives b ∷ []) before)
+
+    abbrev pub GivesNumeric : NumericOperator → Type 0
+    GivesNumeric o = OrOutside (integer_operation o) Calculates
+
+    -- ---- atomic accesses
+
+    abbrev pub atomic_address : AtomicAccess → ℕ
+    atomic_address r = index (length r.takes) + r.argument.offset
+
+    -- This is written there, if anything, and these values come. What a shared memory holds is not kept.
+    abbrev pub Replaces : AtomicAccess → Option ℕ → List Value → Type 0
+    Replaces r None vs = Gives vs before
+    Replaces r (Some b) vs = Either (shared r.argument.memory) (Gives vs before)
+        (OrTraps (placed (memory_in before r.argument.memory) (atomic_address r) (bytes_of r.size b))
+        (λ cs. Gives vs (with_memory before r.argument.memory cs)))
+
+    abbrev pub Exchanges : AtomicAccess → Type 0
+    Exchanges r = Reading r.argument.memory (atomic_address r) r.size
+        (λ bs. Replaces r (r.written (index 0) (index 1) (number_of bs)) (number_given r.gives (r.given (number_of bs))))
+
+    -- at an address that is a multiple of the width; any other traps
+    abbrev pub Aligned : AtomicAccess → Type 0
+    Aligned r = Either (is_misaligned (atomic_address r) r.size) Traps (Exchanges r)
+
+    -- of a memory that other threads use, what these do
+    abbrev pub ByOthers : MemArg → Type 0 → Type 0
+    ByOthers m F = Either (shared m.memory) Outside F
+
+    abbrev pub GivesAtomic : AtomicOperator → Type 0
+    GivesAtomic atomic.AtomicFence = Stays
+    GivesAtomic (atomic.MemoryAtomicNotify m) = ByOthers m (Aligned (notification m))
+    GivesAtomic (atomic.MemoryAtomicWait32 m) = ByOthers m Traps
+    GivesAtomic (atomic.MemoryAtomicWait64 m) = ByOthers m Traps
+    GivesAtomic o = There (atomic_access o) Aligned
 
     -- ---- all of them
 
@@ -320,6 +433,9 @@ module _ (p : Program) (s : State) (before : Store) (a : Answer) (after : Store)
     GivesOperator (op.Bulk o) = GivesBulk o
     GivesOperator (op.Gc o) = GivesGc o
     GivesOperator (op.Const o) = GivesConstant o
+    GivesOperator (op.Numeric o) = GivesNumeric o
+    GivesOperator (op.Simd o) = OrOutside (simd_access o) Reaches
+    GivesOperator (op.Atomic o) = GivesAtomic o
     GivesOperator o = Outside
 
     abbrev pub GivesBlock : Op → Type 0

@@ -1,8 +1,10 @@
 -- The first store of a program (WebAssembly 3.0, execution, modules, allocation and instantiation): what the host gives for imports, new
--- addresses for what is the program's own, what constants come to, one after the other, and active segments of elements, which are written.
-use Rattle.std.specs.Prelude.{◌≡◌, ℕ, zero, suc, List, [], ◌∷◌, ◌++◌, length, map, take, drop, replicate, Option, Some, None, slice_get, slice_set}
+-- addresses for what is the program's own, what constants come to, one after the other, and active segments of elements and of bytes, which
+-- are written.
+use Rattle.std.specs.Prelude.{◌≡◌, ◌≤◌, ℕ, ◌*◌, zero, suc, List, [], ◌∷◌, ◌++◌, length, map, take, drop, replicate, Option, Some, None, slice_get, slice_set}
 use Rattle.wasm_types.specs.trees.Trees.{TypeTree}
 use Rattle.wasm_types.specs.trees.Below.{Below}
+use Rattle.wasm_types.specs.externs.declared.memory.MemoryType.{MemoryType}
 use Rattle.wasm_operators_encoding.specs.expressions.Code.{Code}
 use Rattle.wasm_operator_validator_rules.specs.Operands.{ValueType}
 use Rattle.wasm_operator_validator_rules.specs.Context.{Table, Global}
@@ -11,7 +13,7 @@ use Rattle.wasm_operator_validator_rules.specs.constants.Constants.{constant_con
 use Rattle.wasm_operator_validator_soundness.specs.runs.Values.{Function, Program, Value, ref_function, Fits, default_of}
 use Rattle.wasm_operator_validator_soundness.specs.runs.Machine.{address}
 use Rattle.wasm_operator_validator_soundness.specs.runs.Soundness.{IsValidProgram}
-use Rattle.wasm_operator_validator_store.specs.Stores.{GlobalInstance, TableInstance, Store, bits_of, placed, table_in, segment_in, with_table, without_segment}
+use Rattle.wasm_operator_validator_store.specs.Stores.{GlobalInstance, TableInstance, MemoryInstance, Store, bits_of, placed, page_of, most_pages, table_in, memory_in, segment_in, data_in, with_table, with_memory, without_segment, without_data}
 use Rattle.wasm_operator_validator_store.specs.ValidStores.{Each, StoreFits}
 use Rattle.wasm_operator_validator_store.specs.Soundness.{Evaluates}
 
@@ -54,15 +56,22 @@ pub record Segment : Type 0 where
   pub items : List Item
   pub first_use : Use
 
--- The program's own globals, by their constants, its own tables, and its element segments, each in order; and how many globals, tables
--- and tags are imported.
+-- A data segment: its bytes, and what becomes of it at first, where it is written to a memory.
+pub record DataSegment : Type 0 where
+  pub bytes : List ℕ
+  pub first_use : Use
+
+-- The program's own globals, by their constants, its own tables, and its element segments and data segments, each in order; and how many
+-- globals, tables, memories and tags are imported.
 pub record Initials : Type 0 where
   pub imported_globals : ℕ
   pub imported_tables : ℕ
+  pub imported_memories : ℕ
   pub imported_tags : ℕ
   pub globals : List Code
   pub tables : List Filling
   pub segments : List Segment
+  pub data_segments : List DataSegment
 
 -- ---- each of its type
 
@@ -99,11 +108,27 @@ module _ (p : Program) where
   SegmentsAreTyped e (x ∷ xs) = (t : ValueType) × (slice_get p.«module».elements e ≡ Some t) × Each (IsItem t) x.items
       × IsUse t x.first_use × SegmentsAreTyped (suc e) xs
 
+  -- bytes are written to a memory, from an offset on that is an address of it
+  abbrev pub IsDataUse : Use → Type 0
+  IsDataUse kept = Unit {0}
+  IsDataUse dropped = Unit {0}
+  IsDataUse (written x c) = (q : MemoryType) × (slice_get p.«module».memories x ≡ Some q)
+      × IsConstant p p.«module».globals (address q.memory64) c
+
+  abbrev pub IsDataSegment : DataSegment → Type 0
+  IsDataSegment x = IsDataUse x.first_use
+
+  -- a memory may have as many pages as its type says at first
+  abbrev pub IsSizedMemory : MemoryType → Type 0
+  IsSizedMemory t = t.initial ≤ most_pages t
+
   -- one for each global and each table that is not imported, and for each segment
   pub record AreInitials (i : Initials) : Type 0 where
     pub globals : GlobalsAreTyped i.imported_globals i.globals
     pub tables : TablesAreTyped i.imported_globals i.imported_tables i.tables
+    pub memories : Each IsSizedMemory (drop i.imported_memories p.«module».memories)
     pub segments : SegmentsAreTyped 0 i.segments
+    pub data_segments : Each IsDataSegment i.data_segments
 
 -- ---- allocation
 
@@ -115,6 +140,10 @@ addresses_from k (suc n) = k ∷ addresses_from (suc k) n
 abbrev pub empty_table : Table → TableInstance
 empty_table t = record { type = t; elements = [] }
 
+-- a memory holds zeros
+abbrev pub zero_memory : MemoryType → MemoryInstance
+zero_memory t = record { type = t; bytes = replicate (t.initial * page_of t) 0 }
+
 module _ (p : Program) (i : Initials) where
   -- the program as the host sees it: with its imports alone
   abbrev pub imports_of : Program
@@ -123,6 +152,7 @@ module _ (p : Program) (i : Initials) where
     «module» = record p.«module» {
       globals = take i.imported_globals p.«module».globals;
       tables = take i.imported_tables p.«module».tables;
+      memories = take i.imported_memories p.«module».memories;
       tags = take i.imported_tags p.«module».tags;
       elements = [];
     };
@@ -132,18 +162,24 @@ module _ (p : Program) (i : Initials) where
   abbrev pub own_tables : List Table
   own_tables = drop i.imported_tables p.«module».tables
 
+  abbrev pub own_memories : List MemoryType
+  own_memories = drop i.imported_memories p.«module».memories
+
   abbrev pub own_tags : List TypeTree
   own_tags = drop i.imported_tags p.«module».tags
 
-  -- The program's own tags and tables are made, at addresses at which there was none, and all its segments. So far tables and segments
-  -- are empty.
+  -- The program's own tags, tables and memories are made, at addresses at which there was none, and all its segments. So far tables and
+  -- element segments are empty.
   abbrev pub allocated : Store → Store
   allocated s = record s {
     tables = s.tables ++ map empty_table own_tables;
+    memories = s.memories ++ map zero_memory own_memories;
     segments = map (λ t. []) p.«module».elements;
+    data_segments = map (λ (x : DataSegment). x.bytes) i.data_segments;
     tags = s.tags ++ own_tags;
     addresses = record s.addresses {
       tables = s.addresses.tables ++ addresses_from (length s.tables) (length own_tables);
+      memories = s.addresses.memories ++ addresses_from (length s.memories) (length own_memories);
       tags = s.addresses.tags ++ addresses_from (length s.tags) (length own_tags);
     };
   }
@@ -221,16 +257,31 @@ module _ (p : Program) where
   AreUsed e [] s u = s ≡ u
   AreUsed e (x ∷ xs) s u = (w : Store) × IsUsed e x.first_use s w × AreUsed (suc e) xs w u
 
+  -- ---- active data segments, after these
+
+  abbrev pub IsDataUsed : ℕ → Use → Store → Store → Type 0
+  IsDataUsed d kept s u = s ≡ u
+  IsDataUsed d dropped s u = without_data s d ≡ u
+  IsDataUsed d (written x c) s u = (t : MemoryType) × (v : Value) × (w : Store) × (bs : List ℕ)
+      × (slice_get p.«module».memories x ≡ Some t) × Evaluates all_seen (address t.memory64) c s v w
+      × (placed (memory_in w x) (bits_of v) (data_in w d) ≡ Some bs) × (without_data (with_memory w x bs) d ≡ u)
+
+  abbrev pub DataAreUsed : ℕ → List DataSegment → Store → Store → Type 0
+  DataAreUsed d [] s u = s ≡ u
+  DataAreUsed d (x ∷ xs) s u = (w : Store) × IsDataUsed d x.first_use s w × DataAreUsed (suc d) xs w u
+
   -- ---- all of them, from what the host gives: a store in which the imports have addresses
 
   pub record IsFirstStore (i : Initials) (host u : Store) : Type 0 where
     pub with_globals : Store
     pub with_tables : Store
     pub with_segments : Store
+    pub with_elements : Store
     pub globals : GlobalsBecome i.imported_globals i.globals (allocated p i host) with_globals
     pub tables : TablesBecome i.imported_globals i.imported_tables i.tables with_globals with_tables
     pub segments : SegmentsBecome 0 i.segments with_tables with_segments
-    pub used : AreUsed 0 i.segments with_segments u
+    pub used : AreUsed 0 i.segments with_segments with_elements
+    pub data_used : DataAreUsed 0 i.data_segments with_elements u
 
 -- In the first store all fits, if it does in what the host gives.
 abbrev pub FirstStoresFit : Type 0

@@ -1,9 +1,20 @@
 -- Rules: a run with what it keeps in a store, in the order in which they are read.
 pub mod Stores
+pub mod Memories
+pub mod Atomics
+pub mod Integers
 pub mod Handling
 pub mod ValidStores
 pub mod Giving
 pub mod Soundness
+pub mod Determined
+pub mod Traps
+pub mod Exact
+pub mod Folding
+pub mod Tested
+pub mod Widths
+pub mod Final
+pub mod Pinned
 pub mod Instantiation
 -- Worked rows.
 pub mod worked

@@ -11,7 +11,7 @@ use Rattle.wasm_operator_validator_rules.specs.constants.Constants.{constant_con
 use Rattle.wasm_operator_validator_soundness.specs.runs.Values.{Program, Value}
 use Rattle.wasm_operator_validator_soundness.specs.runs.States.{State, Answer, next, returned, trapped}
 use Rattle.wasm_operator_validator_soundness.specs.runs.ValidStates.{IsValidState, IsValidOutcome}
-use Rattle.wasm_operator_validator_soundness.specs.runs.Soundness.{step, IsValidProgram, IsStarted, evaluated}
+use Rattle.wasm_operator_validator_soundness.specs.runs.Soundness.{step, Runs, IsValidProgram, IsStarted, evaluated}
 use Rattle.wasm_operator_validator_soundness.specs.runs.Progress.{next_can_trap}
 use Rattle.wasm_operator_validator_store.specs.Stores.{ObjectInstance, Store, field_at, global_in}
 use Rattle.wasm_operator_validator_store.specs.ValidStores.{Knows, Has, HasState, HasOutcome, StoreFits, Evolves}
@@ -54,7 +54,9 @@ StoreStepsAreSound = (p : Program) (results : List ValueType) (x : State) (s : S
 
 -- A run that begins with what the store knows is a run of the machine without a store, is never stuck, can go on until it ends, and all
 -- fits on the way and after its last step.
-pub record StoreRunIsSound (p : Program) (results : List ValueType) (s u : Store) (y : State) : Type 0 where
+pub record StoreRunIsSound (p : Program) (results : List ValueType) (s : Store) (x : State) (answers : List Answer)
+    (u : Store) (y : State) : Type 0 where
+  pub runs : Runs p x answers y
   pub valid : AreValid p results y u
   pub evolves : Evolves s u
   pub goes_on : (a : Answer) (w : Store) → GivesStep p y u a w → StepIsSound p results y u a w
@@ -63,7 +65,7 @@ pub record StoreRunIsSound (p : Program) (results : List ValueType) (s u : Store
 -- whatever the store of each moment gives
 abbrev pub IsSoundOver : Program → List ValueType → Store → State → Type 0
 IsSoundOver p results s x = (answers : List Answer) (u : Store) (y : State) → StoreRuns p s x answers u y
-    → StoreRunIsSound p results s u y
+    → StoreRunIsSound p results s x answers u y
 
 abbrev pub StoreRunsAreSound : Type 0
 StoreRunsAreSound = (p : Program) (x : State) (results : List ValueType) (s : Store) → IsValidProgram p

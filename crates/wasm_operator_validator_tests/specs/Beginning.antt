@@ -1,17 +1,19 @@
 -- Where the body of a function begins, and which functions may have a type: of a module with a function type of one parameter and two
--- results at index 0, and a struct at index 1 (WebAssembly 3.0, validation, functions).
-use Rattle.std.specs.Prelude.{◌<◌, ℕ, Bool, true, false, List, [], ◌∷◌, length}
+-- results at index 0, and a struct at index 1; and where a constant begins (WebAssembly 3.0, validation, functions).
+use Rattle.std.specs.Prelude.{◌<◌, ℕ, Bool, true, false, List, [], ◌∷◌, length, ◌≡◌, None}
 use Rattle.wasm_types.specs.trees.Types.{i32, i64, number}
 use Rattle.wasm_types.specs.trees.Trees.{TypeTree}
 use Rattle.wasm_types.specs.values.declared.value.ValType.{ValType}
 use Rattle.wasm_types.specs.values.declared.value.ValType.TheVariants.{I32, I64}
 use Rattle.wasm_operators_immediates.specs.declared.block.BlockType.TheVariants as block
+use Rattle.wasm_operators_immediates.specs.declared.frames.FrameKind.TheVariants as frames
 use Rattle.wasm_operator_validator_rules.specs.Context.{Signature}
 use Rattle.wasm_operator_validator_state.specs.resources.Meaning.{Meaning}
 use Rattle.wasm_operator_validator_state.specs.State.{State}
 use Rattle.wasm_operator_validator_state.specs.Bodies.{fresh}
 use Rattle.wasm_operator_validator_stacks.specs.Layout.{none_saved}
 use Rattle.wasm_operator_validator_stacks.specs.Functions.{HasFunctionType, MayBegin, Begins}
+use Rattle.wasm_operator_validator_constants.specs.Beginning.{constant_begins}
 use Rattle.wasm_operator_validator_tests.specs.Answers.{listed}
 use Rattle.wasm_operator_validator_rules.specs.arity.Worked.{splitting}
 
@@ -40,3 +42,13 @@ pub record BeginningRows : Type 0 where
   pub not_unset : Begins listed 5 0 (begun_with (I64 ∷ []) 0 false 0) → ⊥
   pub not_shared : Begins listed 5 0 (begun_with (I64 ∷ []) 1 true 0) → ⊥
   pub no_other_frame : Begins listed 5 0 (begun_with (I64 ∷ []) 1 false 1) → ⊥
+
+-- no locals, and one frame that gives a value of the type of the constant (WebAssembly 3.0, validation, constant expressions)
+abbrev pub ConstantsBegin : Type 0
+ConstantsBegin = (bits : ℕ) (t : ValType) → constant_begins bits t ≡ record {
+  given = record { bits = bits; locals = []; params = 0; shared = false };
+  inits = [];
+  opens = record { kind = frames.Block; block = block.Val t; before = []; operands = []; unreachable = false } ∷ [];
+  failed = false;
+  saved = record { operands = None; frames = None; inits = None; failed = false };
+}

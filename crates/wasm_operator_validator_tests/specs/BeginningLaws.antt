@@ -12,7 +12,7 @@ use Rattle.wasm_operator_validator_state.specs.resources.Meaning.{Meaning, type_
 use Rattle.wasm_operator_validator_state.specs.State.{State, Open, types_in}
 use Rattle.wasm_operator_validator_stacks.specs.Functions.{HasFunctionType, Begins}
 use Rattle.wasm_operator_validator_tests.specs.Answers.{listed}
-use Rattle.wasm_operator_validator_tests.specs.Beginning.{its_signature, begun_with, BeginningRows}
+use Rattle.wasm_operator_validator_tests.specs.Beginning.{its_signature, begun_with, BeginningRows, ConstantsBegin}
 use Rattle.wasm_operator_validator_rules.specs.arity.Worked.{splitting, pair}
 
 -- the type and the signature at an index are one
@@ -95,3 +95,6 @@ beginning_rows = record {
   not_shared = λ h. let e = shared_is (I64 ∷ []) 1 0 5 true h in absurd cc;
   no_other_frame = λ h. let e = block_is (I64 ∷ []) 1 1 5 false h in let n : ◌≡◌ {A = ℕ} 1 0 = cc in omega (arith, n);
 }
+
+pub constants_begin : ConstantsBegin
+constants_begin bits t = refl

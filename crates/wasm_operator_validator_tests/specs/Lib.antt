@@ -5,7 +5,6 @@ pub mod States
 pub mod Attempts
 pub mod Beginning
 pub mod Steps
-pub mod Taken
 -- that they hold
 pub mod CountLaws
 pub mod AnswerLaws
@@ -13,4 +12,3 @@ pub mod StateLaws
 pub mod AttemptLaws
 pub mod BeginningLaws
 pub mod StepLaws
-pub mod TakenLaws

@@ -14,10 +14,9 @@ use Rattle.wasm_operator_validator_state.specs.resources.Meaning.{Meaning, type_
 use Rattle.wasm_operator_validator_state.specs.declared.operand.MaybeType.{MaybeType}
 use Rattle.wasm_operator_validator_state.specs.declared.operand.MaybeType.TheVariants as maybe
 use Rattle.wasm_operator_validator_state.specs.State.{State}
-use Rattle.wasm_operator_validator_stacks.specs.Running.{Operands}
 use Rattle.wasm_operator_validator_tests.specs.Answers.{listed}
 use Rattle.wasm_operator_validator_tests.specs.Beginning.{its_signature}
-use Rattle.wasm_operator_validator_tests.specs.Steps.{NamesWritten, StacksChanged, OperandsExchanged, AbstractFits, BeginningsStopped, LocalsDeclared, FunctionsAt}
+use Rattle.wasm_operator_validator_tests.specs.Steps.{NamesWritten, StacksChanged, AbstractFits, BeginningsStopped, LocalsDeclared, FunctionsAt}
 
 untrue : false ≡ true → ⊥
 untrue e = absurd cc
@@ -77,32 +76,6 @@ is_i32 _ = false
 abbrev top_is : Bool → List MaybeType → Bool
 top_is b [] = b
 top_is b (x ∷ xs) = is_i32 x
-
--- both lists of operands have these lengths
-lengths : (a b : Operands) → a ≡ b → (length a.0 ≡ length b.0) × (length a.1 ≡ length b.1)
-lengths a b e = (ap (λ (x : Operands). length x.0) e, ap (λ (x : Operands). length x.1) e)
-
-pub operands_exchanged : OperandsExchanged
-operands_exchanged = record {
-  put = (maybe.Known I64 ∷ [], refl, refl);
-  put_another = λ (rest, e, f). let x = ap (λ (a : Operands). top_is false a.0) f in untrue (sym x);
-  not_put = λ (rest, e, f). let x = (lengths _ _ f).0 in let y = ap (λ (a : List MaybeType). length a) e in omega (arith, x, y);
-  put_under = λ (rest, e, f). let x = ap (λ (a : Operands). top_is false a.0) f in turned x;
-  taken = (maybe.Known I64 ∷ [], refl, refl);
-  taken_another = λ (rest, e, f). let x = ap (top_is false) e in turned x;
-  not_taken = λ (rest, e, f). let x = (lengths _ _ f).0 in let y = ap (λ (a : List MaybeType). length a) e in omega (arith, x, y);
-  taken_of_outer = λ (rest, e, f). let x = (lengths _ _ f).1 in omega (arith, x);
-  changed = (maybe.Known I64 ∷ [], refl, refl);
-  not_changed = λ (rest, e, f). let x = ap (λ (a : Operands). top_is false a.0) f in turned x;
-  changed_another = λ (rest, e, f). let x = ap (top_is false) e in turned x;
-  last_on_top = ([], refl, refl);
-  first_on_top = λ (rest, e, f). let x = ap (top_is false) e in turned x;
-  dropped = (maybe.Known I32, refl, refl);
-  not_dropped = λ (x, e, f). let y = ap (λ (a : List MaybeType). length a) e in omega (arith, y);
-  dropped_both = λ (x, e, f). let y = ap (λ (a : List MaybeType). length a) e in omega (arith, y);
-  dropped_none = λ (x, e, f). let y = ap (λ (a : List MaybeType). length a) e in omega (arith, y);
-  dropped_of_outer = λ (x, e, f). let y = ap (λ (a : List MaybeType). length a) f in omega (arith, y);
-}
 
 not_above : AbstractBelow any eq → ⊥
 not_above b = elim b [ ]

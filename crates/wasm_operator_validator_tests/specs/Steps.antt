@@ -25,7 +25,6 @@ use Rattle.wasm_operator_validator_state.specs.Steps.{Popped, Jumped}
 use Rattle.wasm_operator_validator_state.specs.Entering.{StopsWith}
 use Rattle.wasm_operator_validator_stacks.specs.Layout.{IsAbstractFit}
 use Rattle.wasm_operator_validator_stacks.specs.Defining.{with_locals, DefinesLocals}
-use Rattle.wasm_operator_validator_stacks.specs.Running.{Operands, Swaps, Drops, over}
 use Rattle.wasm_operator_validator_state.specs.blocks.Signatures.{IsFunctionAt}
 use Rattle.wasm_operator_validator_tests.specs.Answers.{listed, id}
 use Rattle.wasm_operator_validator_tests.specs.States.{empty, failed}
@@ -53,7 +52,7 @@ pub record NamesWritten : Type 0 where
 
 -- the innermost frame has these operands, the top first, and what comes next is reached or not
 abbrev pub with_operands : List MaybeType → State
-with_operands xs = over empty xs
+with_operands xs = record empty { opens = record { kind = frames.Block; block = block.Empty; before = []; operands = xs; unreachable = false } ∷ [] }
 
 abbrev pub unreached : List MaybeType → State
 unreached xs = record empty { opens = record { kind = frames.Block; block = block.Empty; before = []; operands = xs; unreachable = true } ∷ [] }
@@ -69,33 +68,6 @@ pub record StacksChanged (m : Meaning) : Type 0 where
   pub not_jumped : Jumped m (with_operands (maybe.Known I32 ∷ [])) empty → ⊥
   pub jumped_with_operands : Jumped m (with_operands (maybe.Known I32 ∷ [])) (unreached (maybe.Known I32 ∷ [])) → ⊥
   pub jumped_and_failed : Jumped m (with_operands (maybe.Known I32 ∷ [])) (failed (unreached [])) → ⊥
-
--- operands by themselves: an i32 on an i64, over an operand of an outer frame
-abbrev pub under : List MaybeType → Operands
-under xs = (xs, maybe.Bottom ∷ [])
-
-abbrev pub two : Operands
-two = under (maybe.Known I32 ∷ maybe.Known I64 ∷ [])
-
-pub record OperandsExchanged : Type 0 where
-  pub put : Swaps [] (I32 ∷ []) (under (maybe.Known I64 ∷ [])) two
-  pub put_another : Swaps [] (I64 ∷ []) (under (maybe.Known I64 ∷ [])) two → ⊥
-  pub not_put : Swaps [] (I32 ∷ []) two two → ⊥
-  pub put_under : Swaps [] (I64 ∷ []) (under (maybe.Known I32 ∷ [])) two → ⊥
-  pub taken : Swaps (I32 ∷ []) [] two (under (maybe.Known I64 ∷ []))
-  pub taken_another : Swaps (I64 ∷ []) [] two (under (maybe.Known I64 ∷ [])) → ⊥
-  pub not_taken : Swaps (I32 ∷ []) [] two two → ⊥
-  pub taken_of_outer : Swaps (I32 ∷ []) [] two (maybe.Known I64 ∷ [], []) → ⊥
-  pub changed : Swaps (I32 ∷ []) (I64 ∷ []) two (under (maybe.Known I64 ∷ maybe.Known I64 ∷ []))
-  pub not_changed : Swaps (I32 ∷ []) (I64 ∷ []) two two → ⊥
-  pub changed_another : Swaps (I64 ∷ []) (I64 ∷ []) two (under (maybe.Known I64 ∷ maybe.Known I64 ∷ [])) → ⊥
-  pub last_on_top : Swaps (I64 ∷ I32 ∷ []) (I64 ∷ []) two (under (maybe.Known I64 ∷ []))
-  pub first_on_top : Swaps (I32 ∷ I64 ∷ []) (I64 ∷ []) two (under (maybe.Known I64 ∷ [])) → ⊥
-  pub dropped : Drops two (under (maybe.Known I64 ∷ []))
-  pub not_dropped : Drops two two → ⊥
-  pub dropped_both : Drops two (under []) → ⊥
-  pub dropped_none : Drops (under []) (under []) → ⊥
-  pub dropped_of_outer : Drops two (maybe.Known I64 ∷ [], []) → ⊥
 
 -- a reference to an abstract type where another is expected
 pub record AbstractFits (m : Meaning) : Type 0 where

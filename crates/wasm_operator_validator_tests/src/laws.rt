@@ -11,9 +11,8 @@ ghost use Rattle.wasm_operator_validator_tests.specs.Counts.{ReferencesCounted, 
 ghost use Rattle.wasm_operator_validator_tests.specs.Answers.{CountsEnd, NamesAnswered, NamesMean, FunctionTypes, KnowsModule, OperatorsAnswered};
 ghost use Rattle.wasm_operator_validator_tests.specs.States.{RefusalsTold, AnswersDo, KindsOfRefusals, NamesOfTypes, UsesRows, ChecksRows, VisitsRows};
 ghost use Rattle.wasm_operator_validator_tests.specs.Attempts.{NotesRows, AttemptsRows};
-ghost use Rattle.wasm_operator_validator_tests.specs.Beginning.{BeginningRows};
-ghost use Rattle.wasm_operator_validator_tests.specs.Steps.{NamesWritten, StacksChanged, OperandsExchanged, AbstractFits, BeginningsStopped, LocalsDeclared, FunctionsAt};
-ghost use Rattle.wasm_operator_validator_tests.specs.Taken.{TakenRows, ConstantsBegin};
+ghost use Rattle.wasm_operator_validator_tests.specs.Beginning.{BeginningRows, ConstantsBegin};
+ghost use Rattle.wasm_operator_validator_tests.specs.Steps.{NamesWritten, StacksChanged, AbstractFits, BeginningsStopped, LocalsDeclared, FunctionsAt};
 
 /// How many operands the operators take and give for which no rule of typing is there yet (WebAssembly 3.0, validation, instructions, and
 /// the proposals on custom descriptors, shared everything and stack switching).
@@ -53,9 +52,10 @@ pub const fn attempts_are_worked()
     ensures attempts { (a : RollbackLogAllocations) (e : AllocError) → AttemptsRows a e }
 {}
 
-/// Where the body of a function begins, and which functions may have a type (WebAssembly 3.0, validation, functions).
+/// Where the body of a function begins, and which functions may have a type; where a constant begins (WebAssembly 3.0, validation, functions).
 pub const fn beginnings_are_worked()
-    ensures { BeginningRows }
+    ensures functions { BeginningRows }
+    ensures constants { ConstantsBegin }
 {}
 
 /// What steps over open frames do, why an operator may not begin, which locals are declared, and which types are those of functions
@@ -63,15 +63,8 @@ pub const fn beginnings_are_worked()
 pub const fn steps_are_worked()
     ensures names { NamesWritten }
     ensures stacks { (m : Meaning) → StacksChanged m }
-    ensures operands { OperandsExchanged }
     ensures fits { (m : Meaning) → AbstractFits m }
     ensures beginnings { BeginningsStopped }
     ensures locals { LocalsDeclared }
     ensures functions { FunctionsAt }
-{}
-
-/// Which operators a run takes, and from which offset to which; where a constant begins.
-pub const fn runs_are_worked()
-    ensures runs { (m : Meaning) → TakenRows m }
-    ensures constants { ConstantsBegin }
 {}

@@ -29,8 +29,7 @@ pub use wasm_operators_enums::is_simd;
 pub use wasm_operators_frequent::reading::LentVisitor;
 pub use wasm_operators_reader::walks::{
     ReadOperators, TellSimdOperator, laws, tell_expression_with_offset,
-    tell_operator_in_frame_simd, tell_operator_simd, tell_whole_with_offset, tells_whole,
-    tells_whole_with_vectors,
+    tell_operator_in_frame_simd, tell_operator_simd, tell_whole_with_offset,
 };
 pub use wasm_operators_reader::{
     AtomicOperator, BlockType, BrTable, BrTableTargets, BulkOperator, Catch, ConstOperator,
@@ -39,7 +38,7 @@ pub use wasm_operators_reader::{
     MemoryOperator, NumericOperator, Operator, OperatorInfo, OperatorsIterator,
     OperatorsIteratorWithOffsets, OperatorsReader, OperatorsReaderAllocations, Ordering,
     ParametricOperator, Proposal, ResumeTable, SharedOperator, SimdNumericOperator, SimdOperator,
-    TellOperator, TellPlain, TryTable, V128, Visitor, read_expression, read_operator,
+    TellOperator, TryTable, V128, Visitor, read_expression, read_operator,
 };
 pub use wasm_operators_visit_simd_operator::{
     VisitAtomic, VisitControl, VisitFloats, VisitGc, VisitIntegers, VisitMemory, VisitOperator,

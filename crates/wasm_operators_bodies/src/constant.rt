@@ -18,7 +18,7 @@ use crate::short::{ShortConstant, short_constant};
 use std::alloc::Global;
 use std::marker::Model;
 use wasm_operators_reader::{FrameStack, Operator, OperatorsReader, Role};
-use wasm_types::{BinaryReader, Error, FromReader, Result};
+use wasm_types::{BinaryReader, Error, FromReader, Result, Words};
 
 /// The bytes of a constant expression, such as the value of a global (WebAssembly 3.0, binary format, expressions).
 #[derive(Drop)]
@@ -213,8 +213,5 @@ fn frames_remain(offset: u64) -> Error
     ensures kind { result.kind ≡ Other }
     ensures offset { result.offset ≡ offset }
 {
-    Error::new(
-        "control frames remain at end of function body or expression",
-        offset,
-    )
+    Error::new(Words::ControlFramesRemainAtEndOfExpression, offset)
 }

@@ -12,7 +12,7 @@ ghost use Rattle.wasm_operators_bodies.specs.Groups.{counted_groups, ReadsGroup,
 use std::alloc::Global;
 use std::marker::Model;
 use wasm_operators_reader::OperatorsReader;
-use wasm_types::{BinaryReader, Error, Result, ValType};
+use wasm_types::{BinaryReader, Error, Result, ValType, Words};
 
 /// Reads the groups of locals at the front of a body, one after the other.
 #[derive(Drop)]
@@ -84,7 +84,7 @@ impl<'a> LocalsReader<'a> {
         ensures no_memory { NeedsNoMemory result }
     {
         if self.groups == 0 {
-            return Err(Error::new("no group of locals is left", self.original_position()));
+            return Err(Error::new(Words::NoGroupOfLocalsIsLeft, self.original_position()));
         }
         let group = read_group(self.alloc, self.room, &mut self.reader)?;
         self.groups -= 1;
@@ -164,7 +164,7 @@ fn too_many_locals(offset: u64) -> Error
     ensures kind { result.kind ≡ Other }
     ensures offset { result.offset ≡ offset }
 {
-    Error::new("too many locals: locals exceed maximum", offset)
+    Error::new(Words::TooManyLocalsLocalsExceedMaximum, offset)
 }
 
 /// The groups of locals that a reader reads, up to the last or the first error. Nothing comes behind an error.

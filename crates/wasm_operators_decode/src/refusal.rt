@@ -3,7 +3,7 @@
 ghost use Rattle.std.specs.Prelude.{◌≡◌};
 ghost use Rattle.wasm_types.specs.decoding.declared.error.ErrorKind.TheVariants.{Other};
 
-use wasm_types::Error;
+use wasm_types::{Error, Text, Words};
 
 /// That a byte begins no operator.
 #[cold]
@@ -11,7 +11,10 @@ pub fn illegal_opcode(code: u32, offset: u64) -> Error
     ensures kind { result.kind ≡ Other }
     ensures offset { result.offset ≡ offset }
 {
-    Error::fmt(format_args!("illegal opcode: 0x{code:x}"), offset)
+    Error::with(
+        Text::Hex(Words::IllegalOpcode0x, code, Words::Nothing),
+        offset,
+    )
 }
 
 /// That a code behind a prefix is no operator's.
@@ -20,8 +23,5 @@ pub fn unknown_subopcode(prefix: u8, code: u32, offset: u64) -> Error
     ensures kind { result.kind ≡ Other }
     ensures offset { result.offset ≡ offset }
 {
-    Error::fmt(
-        format_args!("unknown 0x{prefix:x} subopcode: 0x{code:x}"),
-        offset,
-    )
+    Error::with(Text::Subopcode(prefix, code), offset)
 }

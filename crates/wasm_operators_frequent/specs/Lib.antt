@@ -1,7 +1,5 @@
 -- Definitions: an operator that was read at an offset and told.
 pub mod Short
--- Definitions: several of them, one after the other, that open and close no frame.
-pub mod Plain
 -- Rules and laws: the frequent operators, read from their first byte.
 pub mod reading
 -- The rules of crates below, under their names: crates above cite them here.

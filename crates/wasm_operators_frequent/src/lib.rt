@@ -8,10 +8,9 @@
 //! [`TellOperator`] is what reading asks of a visitor, three methods in place of a visit for each operator; a
 //! [`LentVisitor`] has them by the visits of the visitor that is lent. A type that has all visits may tell itself by the
 //! parts of [`visit_short`], one for each shape of operator ([`short_alone`], [`short_local_get`], [`short_load`], ..).
-//! [`TellPlain`] adds a method that takes many operators in one call, if they open and close no frame.
 //!
 //! `specs/Short.antt` defines what was told: that the decoder of operators gives this operator for these bytes, wherever
-//! they are, and that the visitor's relation holds of it. `specs/Plain.antt` says the same of many, one after the other.
+//! they are, and that the visitor's relation holds of it.
 #![tactic(auto)]
 
 mod bulk;
@@ -31,4 +30,4 @@ pub use memory::{
 };
 pub use numbers::short_number;
 pub use short::{short_prefixed, visit_short};
-pub use tell::{LentVisitor, TellOperator, TellPlain};
+pub use tell::{LentVisitor, TellOperator};

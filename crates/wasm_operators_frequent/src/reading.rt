@@ -11,5 +11,5 @@ mod memory;
 mod numbers;
 mod short;
 
-pub use crate::{LentVisitor, TellOperator, TellPlain};
+pub use crate::{LentVisitor, TellOperator};
 pub use short::{short_control_at, short_operator_at};

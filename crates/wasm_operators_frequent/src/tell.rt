@@ -1,9 +1,8 @@
-//! What reading asks of a visitor: three methods for all operators but those on vectors, and one for several operators at once.
+//! What reading asks of a visitor: three methods for all operators but those on vectors.
 
-ghost use Rattle.std.specs.Prelude.{◌≡◌, false, Ok, IfSome, IfNone};
+ghost use Rattle.std.specs.Prelude.{◌≡◌, false, IfSome, IfNone};
 ghost use Rattle.wasm_operators_enums.specs.Op.{op_of};
 ghost use Rattle.wasm_operators_enums.specs.Vectors.{is_simd};
-ghost use Rattle.wasm_operators_frequent.specs.Plain.{AreToldPlain};
 ghost use Rattle.wasm_operators_frequent.specs.Short.{IsTold};
 
 use crate::short::visit_short;
@@ -44,15 +43,6 @@ pub trait TellOperator<'a>: Visitor<'a> {
         ensures told { IfSome result (λ r. IsTold features.0 bytes.now at r.1
             (λ o. Self.visits self.old o r.0 self.new)) }
         ensures none { IfNone result (self.new ≡ self.old) };
-}
-
-/// Can be told of several operators at once, where they open and close no frame and it answers each of them by `Ok`. It stands beside
-/// [`TellOperator`] and not above it, so that a bound by both takes the evidence of all visits of a lent visitor once.
-pub trait TellPlain<'a, E>: Visitor<'a, Output = Result<(), E>> {
-    /// Tells it of operators from an offset on, one after the other, as far as it likes, each of which opens and closes no frame and
-    /// is answered by `Ok`; and gives the offset behind them. It may be told of none.
-    fn tell_plain(&mut self, bytes: &'a [u8], at: usize, features: WasmFeatures) -> usize
-        ensures { AreToldPlain Self.visits (Ok tt) features.0 bytes.now at self.old result self.new };
 }
 
 /// A visitor of all operators but those on vectors that is lent: it is told of an operator by the visit that belongs to it.
@@ -100,13 +90,5 @@ impl<'a, 'v, V: VisitOperator<'a>> TellOperator<'a> for LentVisitor<'v, V> {
             return None;
         };
         Some((answer, end))
-    }
-}
-
-impl<'a, 'v, E, V: Visitor<'a, Output = Result<(), E>>> TellPlain<'a, E> for LentVisitor<'v, V> {
-    // It is told of one operator after the other.
-    #[inline(always)]
-    fn tell_plain(&mut self, bytes: &'a [u8], at: usize, features: WasmFeatures) -> usize {
-        at
     }
 }

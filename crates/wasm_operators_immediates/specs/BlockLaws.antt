@@ -8,8 +8,8 @@ use Rattle.wasm_types.specs.decoding.declared.Refusal.{Refusal}
 use Rattle.wasm_types.specs.decoding.declared.Refusal.TheVariants.{Other}
 use Rattle.wasm_types.specs.decoding.Decoder.{State, Outcome, Done, Short, Fault, Decoder, Grammar, continue_with, ◌>>=◌, pure, byte, IsLawful}
 use Rattle.wasm_types.specs.decoding.Decoder.{IsBeyond, GoesForward, TakesOne, Decides, Takes, Then}
-use Rattle.wasm_types.specs.decoding.Laws.{lawful-byte, lawful->>=, lawful-pure, lawful-if, lawful-look, TakesOne-byte}
-use Rattle.wasm_types.specs.decoding.ExactLaws.{Sound, Mapped, decides->>=, decides-pure, decides-if, decides-map, decides-byte, decides-look_apart}
+use Rattle.wasm_types.specs.decoding.Laws.{lawful-byte, lawful->>=, lawful-pure, lawful-refuse, lawful-if, lawful-look, TakesOne-byte}
+use Rattle.wasm_types.specs.decoding.ExactLaws.{Sound, Mapped, decides->>=, decides-pure, decides-refuse, decides-if, decides-map, decides-byte, decides-look_apart}
 use Rattle.wasm_types.specs.decoding.Leb.{s33, signed, seven_bits, IsSigned, nonnegative, negative, longer}
 use Rattle.wasm_types.specs.decoding.SignedLaws.{lawful-signed, decides-s33}
 use Rattle.wasm_types.specs.values.declared.heap.HeapType.{HeapType}
@@ -77,7 +77,7 @@ unfolding value_block
 lawful-value_block = lawful->>= value_type _ lawful-value_type (λ ty. lawful-pure (Val ty))
 
 lawful-empty_after : (b : ℕ) → IsLawful (empty_after b)
-lawful-empty_after b = lawful-if (b == 0x40) _ _ (lawful-pure Empty) (lawful-refuse_here BlockType Other)
+lawful-empty_after b = lawful-if (b == 0x40) _ _ (lawful-pure Empty) (lawful-refuse Other 1)
 
 lawful-empty_block : IsLawful empty_block
 unfolding empty_block
@@ -146,7 +146,7 @@ decides-empty_block = decides-byte empty_after IsEmpty (λ ty h. let no : [] ≡
     decides-if (eqb b 0x40) _ _ _
     (λ t. let is : b ≡ 0x40 = eqb-true _ _ t in decides-pure Empty (λ ty text. IsEmpty ty (b ∷ text)) (refl, ap (λ (n : ℕ). n ∷ []) is)
     (λ ty text h. (h.0, tails b 0x40 text [] h.1)))
-    (λ f. decides-refuse_here Other (λ ty text. IsEmpty ty (b ∷ text)) (λ ty text h. eqb-false _ _ f (heads b 0x40 text [] h.1))))
+    (λ f. decides-refuse Other 1 (λ ty text. IsEmpty ty (b ∷ text)) (λ ty text h. eqb-false _ _ f (heads b 0x40 text [] h.1))))
 
 -- ---- exact: by the first byte
 

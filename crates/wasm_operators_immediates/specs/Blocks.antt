@@ -2,7 +2,7 @@
 use Rattle.std.specs.Prelude.{◌≡◌, ℕ, ◌<◌, ◌^◌, ◌==◌, [], ◌∷◌, Bool, true, false, nat_lt, if◌then◌else◌, ℤ, pos, negsuc}
 use Rattle.wasm_types.specs.decoding.declared.Refusal.{Refusal}
 use Rattle.wasm_types.specs.decoding.declared.Refusal.TheVariants.{Other}
-use Rattle.wasm_types.specs.decoding.Decoder.{Decoder, Grammar, Fault, ◌>>=◌, pure, byte, look}
+use Rattle.wasm_types.specs.decoding.Decoder.{Decoder, Grammar, Fault, ◌>>=◌, pure, refuse, byte, look}
 use Rattle.wasm_types.specs.decoding.Leb.{s33, IsSigned}
 use Rattle.wasm_types.specs.values.Decode.{begins_index}
 use Rattle.wasm_types.specs.values.DecodeValues.{value_type}
@@ -31,9 +31,9 @@ begins_value b = if nat_lt b 0x63 then false else (if nat_lt b 0x66 then true el
 unfoldable pub value_block : Decoder BlockType
 value_block = value_type >>= λ ty. pure (Val ty)
 
--- the byte of the empty type, which was read, or a negative number of one byte
+-- the byte of the empty type, which was read; another one is refused where it is
 abbrev pub empty_after : ℕ → Decoder BlockType
-empty_after b = if b == 0x40 then pure Empty else refuse_here Other
+empty_after b = if b == 0x40 then pure Empty else refuse Other 1
 
 -- the byte that remains
 unfoldable pub empty_block : Decoder BlockType

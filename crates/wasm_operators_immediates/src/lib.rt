@@ -33,6 +33,7 @@ pub use memory::{MemArg, MemArgOrdering, MemArgTarget, Ordering};
 pub use proposal::Proposal;
 pub use vector::V128;
 pub use wasm_types::{
-    BinaryReader, Error, FromReader, HeapType, Ieee32, Ieee64, RefType, Result, ValType,
-    WasmFeatures, equality_is_identity, read_list,
+    BinaryReader, Error, FromReader, HeapType, Ieee32, Ieee64, ModuleWords, Named, OperatorWords,
+    RefType, Result, Text, TypeWords, ValType, WasmFeatures, Words, equality_is_identity,
+    read_list,
 };

@@ -8,7 +8,7 @@ ghost use Rattle.wasm_operators_immediates.specs.Blocks.{begins_value, function_
 
 use crate::BlockType;
 use std::alloc::Global;
-use wasm_types::{BinaryReader, Error, FromReader, Result, ValType};
+use wasm_types::{BinaryReader, Error, FromReader, Result, ValType, Words};
 
 // Whether a byte begins a value type, where it begins no index.
 #[inline]
@@ -34,7 +34,7 @@ fn no_block_type(offset: u64) -> Error
     ensures kind { result.kind ≡ Other }
     ensures offset { result.offset ≡ offset }
 {
-    Error::new("invalid function type", offset)
+    Error::new(Words::InvalidFunctionType, offset)
 }
 
 // A function type, by its index in a number with a sign.
@@ -72,11 +72,24 @@ fn read_empty<'a>(reader: &mut BinaryReader<'a>) -> Result<BlockType>
     ensures no_memory { NeedsNoMemory result }
     ensures forward { Reaches reader.old reader.new }
 {
+    let offset = reader.original_position();
     let byte = reader.read_u8()?;
     if byte == 0x40 {
         return Ok(BlockType::Empty);
     }
-    Err(no_block_type(reader.original_position()))
+    Err(no_value_type(byte, offset))
+}
+
+// The error of a byte that is neither that of the empty type nor begins an index or a value type.
+#[cold]
+fn no_value_type(byte: u8, offset: u64) -> Error
+    ensures kind { result.kind ≡ Other }
+    ensures offset { result.offset ≡ offset }
+{
+    if byte == 0x62 {
+        return Error::new(Words::UnexpectedExactType, offset);
+    }
+    Error::new(Words::InvalidValueType, offset)
 }
 
 impl<'a> FromReader<'a> for BlockType {

@@ -8,7 +8,7 @@ ghost use Rattle.wasm_operators_immediates.specs.Labels.{labels};
 
 use crate::BrTable;
 use std::alloc::Global;
-use wasm_types::{BinaryReader, FromReader, Result};
+use wasm_types::{BinaryReader, FromReader, Result, Words};
 
 /// Goes past `count` numbers of 32 bits.
 #[tactic(auto, using(wasm_types::specs::Laws::reaches_self, wasm_types::specs::Laws::reaches_then))]
@@ -50,7 +50,7 @@ impl<'a> FromReader<'a> for BrTable<'a> {
         ensures no_memory { NeedsNoMemory result }
     {
         let limit = reader.limits().body_bytes;
-        let count = reader.read_size(limit as usize, "br_table")? as u32;
+        let count = reader.read_size(limit as usize, Words::BrTable)? as u32;
         let mut start = reader.clone();
         pass_numbers(count, reader)?;
         let length = start.bytes_remaining() - reader.bytes_remaining();

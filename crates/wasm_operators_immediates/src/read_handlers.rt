@@ -8,16 +8,16 @@ ghost use Rattle.wasm_operators_immediates.specs.Handlers.{clause, handle, try_t
 
 use crate::{BlockType, Catch, Handle, ResumeTable, TryTable};
 use std::alloc::Global;
-use wasm_types::{BinaryReader, Error, FromReader, Result, read_list};
+use wasm_types::{BinaryReader, Error, FromReader, Result, Text, Words, read_list};
 
 // The error of a byte that begins no clause or handler.
 #[cold]
-fn leading_byte_error(byte: u8, desc: &str, offset: u64) -> Error
+fn leading_byte_error(byte: u8, behind: Words, offset: u64) -> Error
     ensures kind { result.kind ≡ Other }
     ensures offset { result.offset ≡ offset }
 {
-    Error::fmt(
-        format_args!("invalid leading byte (0x{byte:x}) for {desc}"),
+    Error::with(
+        Text::Hex(Words::InvalidLeadingByte0x, byte as u32, behind),
         offset,
     )
 }
@@ -69,7 +69,7 @@ impl<'a> FromReader<'a> for Catch {
                 let label = reader.read_var_u32()?;
                 Ok(Catch::AllRef { label })
             }
-            _ => Err(leading_byte_error(byte, "catch", offset)),
+            _ => Err(leading_byte_error(byte, Words::ForCatch, offset)),
         }
     }
 }
@@ -98,7 +98,7 @@ impl<'a> FromReader<'a> for TryTable {
     fn from_reader(alloc: Global, reader: &mut BinaryReader<'a>) -> Result<TryTable> {
         let limit = reader.limits().catches as usize;
         let ty = BlockType::from_reader(alloc, reader)?;
-        let catches = read_list(alloc, limit, "catches", reader)?;
+        let catches = read_list(alloc, limit, Words::Catches, reader)?;
         Ok(TryTable { ty, catches })
     }
 }
@@ -141,7 +141,7 @@ impl<'a> FromReader<'a> for Handle {
                 let tag = reader.read_var_u32()?;
                 Ok(Handle::OnSwitch { tag })
             }
-            _ => Err(leading_byte_error(byte, "on clause", offset)),
+            _ => Err(leading_byte_error(byte, Words::ForOnClause, offset)),
         }
     }
 }
@@ -169,7 +169,7 @@ impl<'a> FromReader<'a> for ResumeTable {
     #[tactic(auto, using(wasm_types::specs::Laws::reaches_self, wasm_types::specs::Laws::reaches_then), unfolding(crate::specs::Handlers::handlers))]
     fn from_reader(alloc: Global, reader: &mut BinaryReader<'a>) -> Result<ResumeTable> {
         let limit = reader.limits().catches as usize;
-        let handlers = read_list(alloc, limit, "resume table", reader)?;
+        let handlers = read_list(alloc, limit, Words::ResumeTable, reader)?;
         Ok(ResumeTable { handlers })
     }
 }

@@ -1,3 +1,2 @@
 -- operators that were told at once
 pub mod AtOnce
-pub mod ToldPlain

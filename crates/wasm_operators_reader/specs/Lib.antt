@@ -1,5 +1,6 @@
 -- Definitions, in reading order.
 pub mod Standing
+pub mod FirstByte
 pub mod Iterating
 pub mod Frequent
 pub mod Visiting
@@ -8,6 +9,7 @@ pub mod Walking
 pub mod StandingLaws
 pub mod RunLaws
 pub mod MeetLaws
+pub mod FirstByteLaws
 pub mod VisitingLaws
 pub mod WalkingLaws
 -- Rules and laws: operators from a reader of bytes whose frames the caller keeps, and expressions whose operators a visitor is told of.

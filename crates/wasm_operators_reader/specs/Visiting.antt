@@ -10,6 +10,8 @@ use Rattle.wasm_operators_enums.specs.Immediates.{is_canonical}
 use Rattle.wasm_operators_encoding.specs.Coded.{operator}
 use Rattle.wasm_operators_encoding.specs.Operators.{coded_of}
 use Rattle.wasm_operators_enums.specs.Vectors.{is_simd}
+use Rattle.wasm_operators_encoding.specs.expressions.Stack.{innermost}
+use Rattle.wasm_operators_reader.specs.FirstByte.{ToldFirst, vector_in}
 use Rattle.wasm_operators_reader.specs.Standing.{Standing, Reads, Refuses}
 
 -- an operator is read here, and the visitor, which has this relation, is told of it
@@ -29,9 +31,13 @@ pub record RefusesVector (s : Standing) (e : ErrorValue) : Type 0 where
   pub kind : e.kind ≡ Other
   pub offset : e.offset ≡ s.bytes.place
 
+-- no operator is read here; if it begins as one on vectors, it is refused where it begins, whatever follows
+abbrev pub RefusesUnread : Standing → ErrorValue → Type 0
+RefusesUnread s e = (f : ErrorValue) × Refuses s f × ToldFirst (vector_in (innermost s.frames) s.bytes) s.bytes.place f e
+
 -- why no operator is read, or one on vectors
 abbrev pub RefusesPlain : Standing → ErrorValue → Type 0
-RefusesPlain s e = Refuses s e ⊎ RefusesVector s e
+RefusesPlain s e = RefusesUnread s e ⊎ RefusesVector s e
 
 -- an operator of this role, which is not on vectors, is read from one state to the other, and the visitor is told of it
 pub record Tells {V A : Type 0} (visits : V → Op → A → V → Type 0) (role : Role) (s : State) (v : V) (answer : A) (t : State)

@@ -11,6 +11,9 @@ use Rattle.wasm_operators_enums.specs.Vectors.{is_simd}
 use Rattle.wasm_operators_encoding.specs.expressions.Code.{Code, walk}
 use Rattle.wasm_operators_encoding.specs.expressions.Spelling.{SpelledExpression}
 use Rattle.wasm_operators_reader.specs.Standing.{Standing, at_start, IsFinished, Reads, Runs, WantsMemory}
+use Rattle.wasm_operators_encoding.specs.expressions.Stack.{innermost}
+use Rattle.wasm_operators_reader.specs.FirstByte.{vector_in}
+use Rattle.wasm_operators_reader.specs.FirstByteLaws.{told_content}
 use Rattle.wasm_operators_reader.specs.Visiting.{VisitsPlain, RefusesVector, RefusesPlain}
 use Rattle.wasm_operators_reader.specs.StandingLaws.{reads_fewer}
 use Rattle.wasm_operators_reader.specs.RunLaws.{run_more, run_expression, expression_run, refused_run, ended_run}
@@ -58,7 +61,8 @@ module _ {V A : Type 0} (visits : V → Op → A → V → Type 0) (answer : A) 
 
     -- where a walk stops before the end, the bytes spell no expression without vectors
     pub stop_denies : StopsPlain t e → ⊥
-    stop_denies (inl (more, inl r, memory)) = refused_run s told.0 t told.1 (λ f. more f.bytes) c h e r n
+    stop_denies (inl (more, inl (f, r, first), memory)) =
+        refused_run s told.0 t told.1 (λ f. more f.bytes) c h f r (told_content (vector_in (innermost t.frames) t.bytes) t.bytes.place f e first n)
     stop_denies (inl (more, inr r, memory)) = vector_denies r
     stop_denies (inr (ended, open_still, kind, place)) = ended_run s told.0 t told.1 (λ f. open_still f.frames) c h ended
 

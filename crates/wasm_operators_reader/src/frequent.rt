@@ -12,7 +12,7 @@ ghost use Rattle.wasm_operators_reader.specs.Walking.{WalksTo, WalksUntilTo};
 use crate::cursor::Cursor;
 use crate::taker::Taker;
 use wasm_operators_encoding::expressions::{ControlStack, FrameKind, Operator, Role};
-use wasm_operators_frequent::reading::{TellOperator, TellPlain};
+use wasm_operators_frequent::reading::TellOperator;
 
 /// The next operator, read and told to the visitor, and the role of its first byte.
 #[inline(always)]
@@ -171,28 +171,8 @@ fn visit_framed<'a, V: TellOperator<'a>>(
     Some(answer)
 }
 
-/// Where a frame is open, tells the visitor of operators that open and close none, as many as it takes at once.
-#[inline(always)]
-fn visit_plain<'a, E, V: TellPlain<'a, E>>(
-    reader: &mut Cursor<'a>,
-    control: &ControlStack,
-    visitor: &mut V,
-)
-    ensures { WalksTo V.visits (Ok tt)
-        (record { bytes = reader.old; frames = control.now.frames }) visitor.old
-        (record { bytes = reader.new; frames = control.now.frames }) visitor.new }
-{
-    if control.is_empty() {
-        return;
-    }
-    let features = reader.features();
-    let end = visitor.tell_plain(reader.bytes, reader.position, features);
-    reader.position = end;
-}
-
 /// Reads frequent operators and tells the visitor of them, one after the other, up to one that is another, or that is not read; or to
-/// one that the visitor answers by an `Err`: that is given back with the operator's offset in the input. Those that open and close no
-/// frame it tells many at once, as far as the visitor takes them.
+/// one that the visitor answers by an `Err`: that is given back with the operator's offset in the input.
 #[inline(always)]
 pub(crate) fn visit_run<'a, E: Drop, V>(
     reader: &mut Cursor<'a>,
@@ -200,7 +180,7 @@ pub(crate) fn visit_run<'a, E: Drop, V>(
     visitor: &mut V,
 ) -> Option<(E, u64)>
 where
-    V: TellOperator<'a, Output = Result<(), E>> + TellPlain<'a, E>,
+    V: TellOperator<'a, Output = Result<(), E>>,
     ensures ended { IfSome result (λ last. WalksUntilTo V.visits (Ok tt)
         (record { bytes = reader.old; frames = control.old.frames }) visitor.old (Err last.0)
         (record { bytes = reader.new; frames = control.new.frames }) visitor.new last.1) }
@@ -209,10 +189,6 @@ where
         (record { bytes = reader.new; frames = control.new.frames }) visitor.new) }
 {
     while !reader.eof() {
-        visit_plain(reader, control, visitor);
-        if reader.eof() {
-            return None;
-        }
         let place = reader.original_position();
         let Some(answer) = visit_frequent(reader, control, visitor) else {
             return None;

@@ -35,5 +35,5 @@ pub use wasm_operators_encoding::expressions::{
     GcOperator, Handle, MemArg, MemArgOrdering, MemArgTarget, MemoryOperator, Operator,
     OperatorInfo, Ordering, ParametricOperator, Proposal, ResumeTable, Role, TryTable, V128,
 };
-pub use wasm_operators_frequent::reading::{TellOperator, TellPlain};
+pub use wasm_operators_frequent::reading::TellOperator;
 pub use wasm_operators_visit_simd_operator::Visitor;

@@ -14,8 +14,8 @@ use std::alloc::Global;
 use std::marker::Model;
 use wasm_operators_decode::read_operator;
 use wasm_operators_encoding::expressions::{ControlStack, FrameKind, FrameStack, Operator, Role};
-use wasm_operators_frequent::reading::{TellOperator, TellPlain};
-use wasm_types::{BinaryReader, Error, Result};
+use wasm_operators_frequent::reading::TellOperator;
+use wasm_types::{BinaryReader, Error, Result, Words};
 
 /// The memory of a reader's frames.
 #[derive(Drop)]
@@ -174,7 +174,7 @@ impl<'a> OperatorsReader<'a> {
     {
         if self.control.is_empty() {
             return Err(Error::new(
-                "operators remaining after end of function body or expression",
+                Words::OperatorsRemainingAfterEndOfFunctionBodyOrExpression,
                 self.original_position(),
             ));
         }
@@ -215,7 +215,7 @@ impl<'a> OperatorsReader<'a> {
     /// stands there then.
     pub fn tell_run<E: Drop, V>(&mut self, visitor: &mut V) -> Option<(E, u64)>
     where
-        V: TellOperator<'a, Output = std::result::Result<(), E>> + TellPlain<'a, E>,
+        V: TellOperator<'a, Output = std::result::Result<(), E>>,
         ensures ended { IfSome result (λ last. WalksUntilTo V.visits (Ok tt) self.old visitor.old
             (Err last.0) self.new visitor.new last.1) }
         ensures told { IfNone result (WalksTo V.visits (Ok tt) self.old visitor.old self.new visitor.new) }
@@ -246,13 +246,13 @@ impl<'a> OperatorsReader<'a> {
     {
         if !self.control.is_empty() {
             return Err(Error::new(
-                "control frames remain at end of function body or expression",
+                Words::ControlFramesRemainAtEndOfFunctionBodyOrExpression,
                 self.original_position(),
             ));
         }
         if !self.eof() {
             return Err(Error::new(
-                "unexpected data at the end of operators",
+                Words::UnexpectedDataAtTheEndOfOperators,
                 self.original_position(),
             ));
         }
@@ -278,10 +278,10 @@ pub fn misplaced(op: &Operator, reader: &BinaryReader) -> Error
     ensures offset { result.offset ≡ reader.now.place + 1 }
 {
     let message = match Role::of(op) {
-        Role::Else => "`else` found outside `if` block",
-        Role::Catch => "`catch` found outside `try` block",
-        Role::CatchAll => "`catch_all` found outside `try` block",
-        _ => "`delegate` found outside `try` block",
+        Role::Else => Words::ElseFoundOutsideIfBlock,
+        Role::Catch => Words::CatchFoundOutsideLegacyTryBlock,
+        Role::CatchAll => Words::CatchAllFoundOutsideLegacyTryBlock,
+        _ => Words::DelegateFoundOutsideLegacyTryBlock,
     };
     let left = reader.remaining_range();
     Error::new(message, left.start + 1)

@@ -5,7 +5,7 @@
 
 ghost use Rattle.wasm_operators_tests.specs.reader.Rows.{IteratorRows, TellingRows, VectorRows};
 ghost use Rattle.wasm_operators_tests.specs.reader.StandingRows.{ReadRows, RefusedRows, MemoryRows, RunRows};
-ghost use Rattle.wasm_operators_tests.specs.reader.VisitorRows.{VisitRows, WalkRows, PlainRunRows, FrameRows};
+ghost use Rattle.wasm_operators_tests.specs.reader.VisitorRows.{VisitRows, WalkRows, FirstByteRows, FrameRows};
 
 /// A constant of vectors is read, and refused where a visitor has no visits of vectors.
 #[tactic(auto, using(crate::specs::reader::RowLaws::vector_rows))]
@@ -36,10 +36,10 @@ pub const fn standings_are_worked()
 {}
 
 /// What a visitor is told of what is read, one operator or several, where frames are open and where only the innermost is known.
-#[tactic(auto, using(crate::specs::reader::VisitorRowLaws::visit_rows, crate::specs::reader::VisitorRowLaws::walk_rows, crate::specs::reader::VisitorRowLaws::plain_run_rows, crate::specs::reader::VisitorRowLaws::frame_rows))]
+#[tactic(auto, using(crate::specs::reader::VisitorRowLaws::visit_rows, crate::specs::reader::VisitorRowLaws::walk_rows, crate::specs::reader::VisitorRowLaws::first_byte_rows, crate::specs::reader::VisitorRowLaws::frame_rows))]
 pub const fn visits_are_worked()
     ensures visits { VisitRows }
     ensures walks { WalkRows }
-    ensures plain_runs { PlainRunRows }
+    ensures first_bytes { FirstByteRows }
     ensures frames { FrameRows }
 {}

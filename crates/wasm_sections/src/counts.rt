@@ -9,7 +9,7 @@ ghost use Rattle.wasm_sections.specs.Payloads.{cut, only_number};
 
 use std::alloc::Global;
 use wasm_sections_items::limited::SectionLimited;
-use wasm_types::{BinaryReader, Error, FromReader, Result};
+use wasm_types::{BinaryReader, Error, FromReader, Result, Words};
 
 /// The same error, where no more bytes can come: an end of data is a fault.
 #[cold]
@@ -18,7 +18,7 @@ fn settled(error: Error) -> Error
     ensures offset { result.offset ≡ error.offset }
 {
     if error.needed_hint().is_some() {
-        return Error::new("unexpected end of the section", error.offset());
+        return Error::new(Words::UnexpectedEndOfFile, error.offset());
     }
     error
 }
@@ -38,8 +38,8 @@ pub(crate) fn read_items<'a, T: FromReader<'a>>(
     }
 }
 
-/// A number that is the whole of the contents.
-pub(crate) fn read_only_number(reader: BinaryReader<'_>) -> Result<u32>
+/// A number that is the whole of the contents. What stands behind it is refused with this message.
+pub(crate) fn read_only_number(reader: BinaryReader<'_>, message: Words) -> Result<u32>
     ensures answer { MatchResult result (λ n. only_number reader.entry ≡ Done n reader.entry)
         (λ e. Fails e (only_number reader.entry)) }
     ensures no_memory { IfErr result (λ e. IsNotMemory e.kind) }
@@ -50,10 +50,7 @@ pub(crate) fn read_only_number(reader: BinaryReader<'_>) -> Result<u32>
         Err(error) => return Err(settled(error)),
     };
     if !reader.eof() {
-        return Err(Error::new(
-            "unexpected content at the end of the section",
-            reader.original_position(),
-        ));
+        return Err(Error::new(message, reader.original_position()));
     }
     Ok(number)
 }

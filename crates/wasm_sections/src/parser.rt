@@ -8,14 +8,14 @@ ghost use Rattle.wasm_sections_parser.specs.Parsing.{between};
 ghost use Rattle.wasm_sections_parser.specs.Steps.{counted};
 ghost use Rattle.wasm_sections_parser.specs.runs.calls.Runs.{fresh};
 ghost use Rattle.wasm_sections.specs.declared.parser.Chunk.TheVariants.{Parsed};
-ghost use Rattle.wasm_sections.specs.declared.payload.Payload.TheVariants.{CodeSectionEntry};
+ghost use Rattle.wasm_sections.specs.declared.payload.Payload.TheVariants.{CodeSectionEntry, CustomSection};
 ghost use Rattle.wasm_sections.specs.Parsing.{taken, ParsesPayload};
 
 use crate::walk::walk_from;
 use crate::{ParseAll, Payload};
 use std::alloc::Global;
 use wasm_operators_bodies::FunctionBody;
-use wasm_sections_parser::{Chunk as FrameChunk, Parser as FrameParser};
+use wasm_sections_parser::{Chunk as FrameChunk, CustomSectionReader, Parser as FrameParser};
 use wasm_types::{Limits, Result, WasmFeatures};
 
 /// What a call of a parser gives.
@@ -136,6 +136,21 @@ impl Parser {
             return None;
         };
         Some((FunctionBody::new(self.alloc, part), consumed))
+    }
+
+    /// The next custom section, if one comes next and its bytes are all at the front of these, and how many bytes it takes with its id and its
+    /// size: what `parse` gives then, in few steps. Else none: the parser stays as it is, and `parse` tells what comes.
+    #[inline(always)]
+    pub fn next_custom<'d>(&mut self, data: &'d [u8]) -> Option<(CustomSectionReader<'d>, usize)>
+        requires { self.old.frames.offset + length data.now < 2 ^ 64 }
+        ensures section { IfSome result (λ x. (eof : Bool) → ParsesPayload self.old.frames data.now eof
+            (Ok (Parsed x.1 (CustomSection x.0))) self.new.frames) }
+        ensures stays { IfNone result (self.new.frames ≡ self.old.frames) }
+    {
+        let Some((section, consumed)) = self.frames.next_custom(data) else {
+            return None;
+        };
+        Some((section, consumed))
     }
 
     /// The offset where it stands.

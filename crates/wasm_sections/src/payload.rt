@@ -15,7 +15,7 @@ use std::alloc::Global;
 use std::ops::Range;
 use wasm_operators_bodies::FunctionBody;
 use wasm_sections_parser::{CustomSectionReader, Encoding, Frame};
-use wasm_types::{BinaryReader, Limits, Result, WasmFeatures};
+use wasm_types::{BinaryReader, Limits, Result, WasmFeatures, Words};
 
 /// A piece of a module (WebAssembly 3.0, binary format, modules).
 #[derive(Drop)]
@@ -126,7 +126,7 @@ fn read_late_section<'a>(alloc: Global, id: u8, reader: BinaryReader<'a>) -> Res
 {
     let range = reader.range();
     if id == 8 {
-        let func = read_only_number(reader)?;
+        let func = read_only_number(reader, Words::UnexpectedContentInTheStartSection)?;
         return Ok(Payload::StartSection { func, range });
     }
     if id == 9 {
@@ -136,7 +136,7 @@ fn read_late_section<'a>(alloc: Global, id: u8, reader: BinaryReader<'a>) -> Res
         return Ok(Payload::DataSection(read_items(alloc, reader)?));
     }
     if id == 12 {
-        let count = read_only_number(reader)?;
+        let count = read_only_number(reader, Words::UnexpectedContentInTheDataCountSection)?;
         return Ok(Payload::DataCountSection { count, range });
     }
     if id == 13 {

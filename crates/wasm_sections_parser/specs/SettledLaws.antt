@@ -1,13 +1,16 @@
 -- A part that is all there is refused by its settled error; which bytes it has.
-use Rattle.std.proofs.Common.{◌≡◌, ℕ, ◌+◌, List, [], ◌∷◌, ◌++◌, length, refl, sym, ap, ◌∙◌, arith, Some}
+use Rattle.std.proofs.Common.{◌≡◌, ℕ, ◌+◌, List, [], ◌∷◌, ◌++◌, length, refl, sym, ap, ◌∙◌, arith, cond, Bool, true, false, Some}
 use Rattle.std.proofs.lemmas.List.{append-nil, length-append}
-use Rattle.wasm_types.specs.decoding.Decoder.{State, Outcome, Done, Short, Decoder, bytes}
+use Rattle.wasm_types.specs.decoding.Decoder.{State, Outcome, Done, Short, Fault, Decoder, continue_with, pure, refuse, bytes}
+use Rattle.wasm_types.specs.decoding.Leb.{u32}
+use Rattle.wasm_types.specs.decoding.declared.Refusal.TheVariants as refusals
 use Rattle.wasm_types.specs.decoding.ExactLaws.{decides-bytes}
 use Rattle.wasm_types.specs.decoding.declared.error.ErrorKind.{ErrorKind}
 use Rattle.wasm_types.specs.decoding.declared.error.ErrorKind.TheVariants.{EndOfData, MissingFeature, OutOfMemory, Failed, Other}
 use Rattle.wasm_types.specs.decoding.ErrorText.{hint_of}
 use Rattle.wasm_types.specs.reader.Reading.{FailsAt, IsNotMemory}
-use Rattle.wasm_sections_parser.specs.Steps.{found, in_part}
+use Rattle.wasm_sections_parser.specs.declared.progress.Progress.{Progress}
+use Rattle.wasm_sections_parser.specs.Steps.{counted, found, in_part, Next, section_next, is_announced, announced, counted_next}
 use Rattle.wasm_sections_parser.specs.Settled.{settled}
 
 module _ {A B : Type 0} (f : A → List ℕ → B) (t : State) where
@@ -35,6 +38,32 @@ module _ {A B : Type 0} (d : Decoder A) (f : A → List ℕ → B) (part t : Sta
   pub part_read : (x : A) (u : State) → d part ≡ Done x u → in_part d f part t ≡ Done (f x u.rest) t
   unfolding in_part
   part_read x u e = ap (found f t) e
+
+-- what refuses refuses what goes on with it
+pub then_refused : {A B : Type 0} (f : A → Decoder B) (k : ErrorKind) (p : ℕ) (o : Outcome A) → FailsAt k p o → FailsAt k p (continue_with o f)
+then_refused f (EndOfData h) p o e = rw e refl
+then_refused f (MissingFeature m) p o e = rw e refl
+then_refused f OutOfMemory p o e = tt
+then_refused f Failed p o e = e
+then_refused f Other p o e = rw e refl
+
+abbrev fault : ℕ → Outcome Next
+fault place = Fault refusals.Other place
+
+-- a section that begins with a count
+module _ (p : Progress) (id : ℕ) (part t : State) where
+  pub count_refused : (k : ErrorKind) (place : ℕ) → FailsAt k place (u32 part) → FailsAt (settled k) place (counted_next p id part t)
+  count_refused k place e = then_refused (announced id) (settled k) place (in_part u32 (section_next p id part.rest) part t) (part_refused u32 (section_next p id part.rest) part t k place e)
+
+  pub count_read : (k : ℕ) (u : State) → u32 part ≡ Done k u → counted_next p id part t ≡ announced id (section_next p id part.rest k u.rest) t
+  count_read k u e = ap (λ (o : Outcome Next). continue_with o (announced id)) (part_read u32 (section_next p id part.rest) part t k u e)
+
+  pub count_allowed : (k : ℕ) (u : State) → u32 part ≡ Done k u → is_announced id (counted p id k) ≡ true → counted_next p id part t ≡ Done (section_next p id part.rest k u.rest) t
+  count_allowed k u e fits = count_read k u e ∙ ap (λ (b : Bool). cond b (pure (section_next p id part.rest k u.rest)) (refuse refusals.Other 0) t) fits
+
+  pub count_denied : (k : ℕ) (u : State) → u32 part ≡ Done k u → is_announced id (counted p id k) ≡ false → counted_next p id part t ≡ Fault refusals.Other t.place
+  count_denied k u e other =
+      count_read k u e ∙ ap (λ (b : Bool). cond b (pure (section_next p id part.rest k u.rest)) (refuse refusals.Other 0) t) other ∙ ap fault (omega arith)
 
 -- ---- bytes
 

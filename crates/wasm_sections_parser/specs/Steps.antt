@@ -89,11 +89,12 @@ counts_agree p = if p.functions == p.bodies then said p.data_count p.segments el
 
 -- ---- decoders
 
--- A number that ends before this offset, where it begins at that one. It is refused where it begins.
+-- A number that ends before this offset, where it begins at that one. If it is malformed before this offset, it is refused as any number
+-- is. If it passes this offset, it is refused where it begins.
 abbrev pub kept : {A : Type 0} → ℕ → ℕ → Outcome A → Outcome A
 kept end start (Done x t) = if nat_lt end t.place then Fault Other start else Done x t
 kept end start (Short p h) = if nat_lt p end then Short p h else Fault Other start
-kept end start (Fault k p) = Fault Other start
+kept end start (Fault k p) = if nat_lt p end then Fault k p else Fault Other start
 
 unfoldable pub number_before : ℕ → Decoder ℕ
 number_before end s = kept end s.place (u32 s)
@@ -121,9 +122,19 @@ custom_next p n rest = (custom n rest, counted p 0 0)
 abbrev pub section_next : Progress → ℕ → List ℕ → ℕ → List ℕ → Next
 section_next p id text k rest = (section id text, counted p id k)
 
+-- after the data section as many segments as were announced, if they were; of another section nothing is asked
+abbrev pub is_announced : ℕ → Progress → Bool
+is_announced id p = if id == 11 then said p.data_count p.segments else true
+
+abbrev pub announced : ℕ → Next → Decoder Next
+announced id x = if is_announced id x.1 then pure x else refuse Other 0
+
+abbrev pub counted_next : Progress → ℕ → State → Decoder Next
+counted_next p id part = in_part u32 (section_next p id part.rest) part >>= announced id
+
 abbrev pub contents_next : Settings → Progress → ℕ → State → Decoder Next
 contents_next z p id part = if id == 0 then in_part (name z.limits.string_bytes) (custom_next p) part else
-    (if has_count id then in_part u32 (section_next p id part.rest) part else pure (section_next p id part.rest 0 []))
+    (if has_count id then counted_next p id part else pure (section_next p id part.rest 0 []))
 
 -- a whole section, behind its id and size
 unfoldable pub contents : Settings → Progress → ℕ → ℕ → Decoder Next
@@ -133,8 +144,12 @@ contents z p id n = next_part n >>= contents_next z p id
 abbrev pub code_next : Progress → ℕ → ℕ → ℕ → Next
 code_next p n end k = (code k n, in_code p k end)
 
+-- As many bodies are counted as functions were declared. Else it is refused where its contents begin.
+abbrev pub start_next : Progress → ℕ → ℕ → ℕ → Decoder Next
+start_next p n place k = if p.functions == k then pure (code_next p n (place + n) k) else refuse_at Other place
+
 abbrev pub code_at : Progress → ℕ → ℕ → Decoder Next
-code_at p n place = if nat_lt place (2 ^ 64 - n) then (number_before (place + n) >>= λ k. pure (code_next p n (place + n) k)) else refuse_at Other place
+code_at p n place = if nat_lt place (2 ^ 64 - n) then (number_before (place + n) >>= start_next p n place) else refuse_at Other place
 
 unfoldable pub code_start : Progress → ℕ → Decoder Next
 code_start p n s = code_at p n s.place s

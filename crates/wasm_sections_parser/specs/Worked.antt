@@ -22,7 +22,16 @@ at s place = record { stage = s; last = place; functions = 0; bodies = 0; data_c
 abbrev sections : Progress
 sections = at stages.Sections 0
 
--- the header; a section of each kind; a byte more than its size, and one fewer; a late section and one that has no place
+-- behind one function
+abbrev one_function : Progress
+one_function = record { stage = stages.Sections; last = 3; functions = 1; bodies = 0; data_count = None; segments = 0 }
+
+-- where so many data segments were announced
+abbrev announcing : ℕ → Progress
+announcing n = record { stage = stages.Sections; last = 11; functions = 0; bodies = 0; data_count = Some n; segments = 0 }
+
+-- the header; a section of each kind; a byte more than its size, and one fewer; a late section and one that has no place; a data section
+-- as it was announced, and one of fewer segments
 pub record SectionRows : Type 0 where
   pub first : step no_features (at stages.Header 0) (start_of (0x00 ∷ 0x61 ∷ 0x73 ∷ 0x6d ∷ 0x01 ∷ 0x00 ∷ 0x00 ∷ 0x00 ∷ [])) ≡ Done (version (record { version = 1; layer = 0 }), sections) (behind 8)
   pub magic : step no_features (at stages.Header 0) (start_of (0x01 ∷ 0x61 ∷ 0x73 ∷ 0x6d ∷ [])) ≡ Fault Other 0
@@ -36,6 +45,8 @@ pub record SectionRows : Type 0 where
   pub twice : step no_features (at stages.Sections 1) (start_of (0x01 ∷ 0x01 ∷ 0x00 ∷ [])) ≡ Fault Other 2
   pub in_time : step no_features (at stages.Sections 5) (start_of (0x0d ∷ 0x01 ∷ 0x00 ∷ [])) ≡ Done (section 13 (0x00 ∷ []), at stages.Sections 6) (behind 3)
   pub no_size : step no_features (at stages.Sections 4) (start_of (0x03 ∷ [])) ≡ Short 1 1
+  pub as_announced : step no_features (announcing 0) (start_of (0x0b ∷ 0x01 ∷ 0x00 ∷ [])) ≡ Done (section 11 (0x00 ∷ []), counted (announcing 0) 11 0) (behind 3)
+  pub more_announced : step no_features (announcing 1) (start_of (0x0b ∷ 0x01 ∷ 0x00 ∷ [])) ≡ Fault Other 3
   pub ended : step no_features (at stages.Ended 4) (start_of (0x03 ∷ [])) ≡ Fault Other 0
 
 pub section_rows : SectionRows
@@ -54,16 +65,22 @@ section_rows = record {
   twice = refl;
   in_time = refl;
   no_size = refl;
+  as_announced = refl;
+  more_announced = refl;
   ended = refl;
 }
 
--- The start of the code section, and a count that ends behind it. A body, one byte of which is missing, and one that takes a byte
+-- The start of the code section, of as many bodies as functions, and of more; a count that ends after it. A number that is malformed in the section, and one that is so only after
+-- it. A body, one byte of which is missing, and one that takes a byte
 -- behind the section. The section's end, a byte before it, and what follows it.
 pub record CodeRows : Type 0 where
-  pub start : step no_features sections (start_of (0x0a ∷ 0x04 ∷ 0x01 ∷ [])) ≡ Done (code 1 4, in_code sections 1 6) (behind 3)
+  pub start : step no_features one_function (start_of (0x0a ∷ 0x04 ∷ 0x01 ∷ [])) ≡ Done (code 1 4, in_code one_function 1 6) (behind 3)
+  pub more_bodies : step no_features sections (start_of (0x0a ∷ 0x04 ∷ 0x01 ∷ [])) ≡ Fault Other 2
   pub no_count : step no_features sections (start_of (0x0a ∷ 0x00 ∷ 0x01 ∷ [])) ≡ Fault Other 2
   pub long_count : step no_features sections (start_of (0x0a ∷ 0x01 ∷ 0x81 ∷ [])) ≡ Fault Other 2
   pub some_count : step no_features sections (start_of (0x0a ∷ 0x02 ∷ 0x81 ∷ [])) ≡ Short 3 1
+  pub malformed : step no_features (at (stages.Code 2 5) 12) (start_of (0x80 ∷ 0x80 ∷ 0x80 ∷ 0x80 ∷ 0x10 ∷ [])) ≡ Fault Other 4
+  pub malformed_after : step no_features (at (stages.Code 2 4) 12) (start_of (0x80 ∷ 0x80 ∷ 0x80 ∷ 0x80 ∷ 0x10 ∷ [])) ≡ Fault Other 0
   pub body : step no_features (at (stages.Code 2 9) 12) (start_of (0x02 ∷ 0x00 ∷ 0x0b ∷ [])) ≡ Done (entry (0x00 ∷ 0x0b ∷ []), at (stages.Code 1 9) 12) (behind 3)
   pub part_of_body : step no_features (at (stages.Code 2 9) 12) (start_of (0x02 ∷ 0x00 ∷ [])) ≡ Short 1 1
   pub past_the_section : step no_features (at (stages.Code 2 2) 12) (start_of (0x02 ∷ 0x00 ∷ 0x0b ∷ [])) ≡ Fault Other 1
@@ -72,7 +89,7 @@ pub record CodeRows : Type 0 where
 
 pub code_rows : CodeRows
 unfolding step next_section contents in_part code_start next_entry behind_code number_before unsigned
-code_rows = record { start = refl; no_count = refl; long_count = refl; some_count = refl; body = refl; part_of_body = refl; past_the_section = refl; byte_behind = refl; another_section = refl }
+code_rows = record { start = refl; more_bodies = refl; no_count = refl; long_count = refl; some_count = refl; malformed = refl; malformed_after = refl; body = refl; part_of_body = refl; past_the_section = refl; byte_behind = refl; another_section = refl }
 
 -- as many bodies as functions, and as many data segments as were announced
 abbrev with_counts : ℕ → ℕ → Progress

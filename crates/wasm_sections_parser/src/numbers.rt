@@ -7,17 +7,18 @@ ghost use Rattle.wasm_types.specs.reader.Reading.{Gives, NeedsNoMemory};
 ghost use Rattle.wasm_sections_parser.specs.Steps.{number_before};
 ghost use Rattle.wasm_sections_parser.specs.Settled.{settled};
 
-use wasm_types::{BinaryReader, Error, Result};
+use wasm_types::{BinaryReader, Error, Result, Words};
 
 #[cold]
 fn late_error(offset: u64) -> Error
     ensures kind { result.kind ≡ Other }
     ensures offset { result.offset ≡ offset }
 {
-    Error::new("unexpected end of the code section", offset)
+    Error::new(Words::UnexpectedEndOfFile, offset)
 }
 
-/// A number of 32 bits that ends before this offset; else it is refused where it begins.
+/// A number of 32 bits that ends before this offset. One that is malformed before it is refused as any number is, and one that passes it
+/// where it begins.
 #[tactic(auto, using(wasm_types::specs::Laws::reaches_self, wasm_types::specs::Laws::reaches_then), unfolding(crate::specs::Steps::number_before))]
 pub(crate) fn read_number_before(end: u64, reader: &mut BinaryReader<'_>) -> Result<u32>
     ensures answer { Gives (λ n. n) result reader.new (number_before end reader.old) }
@@ -33,7 +34,7 @@ pub(crate) fn read_number_before(end: u64, reader: &mut BinaryReader<'_>) -> Res
             Ok(number)
         }
         Err(error) => {
-            if error.needed_hint().is_some() && error.offset() < end {
+            if error.offset() < end {
                 return Err(error);
             }
             Err(late_error(start))
@@ -48,7 +49,7 @@ pub(crate) fn settled(error: Error) -> Error
     ensures offset { result.offset ≡ error.offset }
 {
     if error.needed_hint().is_some() {
-        return Error::new("unexpected end of the section", error.offset());
+        return Error::new(Words::UnexpectedEndOfFile, error.offset());
     }
     error
 }

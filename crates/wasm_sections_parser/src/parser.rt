@@ -2,6 +2,7 @@
 
 ghost use Rattle.std.specs.Prelude.{◌≡◌, ◌+◌, ◌<◌, ◌^◌, length, None};
 ghost use Rattle.wasm_types.specs.settings.Sets.{bits_of, default_features};
+ghost use Rattle.wasm_types.specs.decoding.declared.error.ErrorKind.TheVariants.{Other};
 ghost use Rattle.wasm_types.specs.settings.Limits.{default_limits, IsWithinCeilings};
 ghost use Rattle.wasm_types.specs.reader.Reading.{NeedsNoMemory};
 ghost use Rattle.wasm_sections_parser.specs.declared.progress.Stage.TheVariants.{Header, Failed};
@@ -13,7 +14,22 @@ use crate::progress::{counts_agree, is_over};
 use crate::sections::{Read, read_frame};
 use crate::{Frame, Progress, Stage};
 use std::marker::Model;
-use wasm_types::{BinaryReader, Error, Limits, Result, WasmFeatures};
+use wasm_types::{BinaryReader, Error, Limits, Result, WasmFeatures, Words};
+
+// Why a module may not end: it has functions and no code section, or data segments were announced and it has no data section.
+#[cold]
+fn absent_error(progress: &Progress, offset: u64) -> Error
+    ensures kind { result.kind ≡ Other }
+    ensures offset { result.offset ≡ offset }
+{
+    if progress.functions != progress.bodies {
+        return Error::new(
+            Words::FunctionSectionHasNonZeroCountButCodeSectionIsAbsent,
+            offset,
+        );
+    }
+    Error::new(Words::DataCountIsNonZeroButDataSectionIsAbsent, offset)
+}
 
 /// What a call gives.
 #[derive(Drop)]
@@ -142,7 +158,7 @@ impl Parser {
         ensures no_memory { NeedsNoMemory result }
     {
         if is_over(&self.progress) {
-            return Err(Error::failed("nothing more is parsed", self.offset));
+            return Err(Error::failed(Words::NothingMoreIsParsed, self.offset));
         }
         if data.len() == 0 && self.is_between() {
             return self.end(eof);
@@ -186,7 +202,7 @@ impl Parser {
         let place = self.offset;
         if !counts_agree(&self.progress) {
             self.set_stage(Stage::Failed);
-            return Err(Error::new("sections have inconsistent lengths", place));
+            return Err(absent_error(&self.progress, place));
         }
         self.set_stage(Stage::Ended);
         Ok(Chunk::Parsed {

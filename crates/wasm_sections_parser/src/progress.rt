@@ -1,7 +1,7 @@
 //! Where a parser stands.
 
 ghost use Rattle.std.specs.Prelude.{◌≡◌};
-ghost use Rattle.wasm_sections_parser.specs.Steps.{place_of, is_late, counted, in_code, one_less, begun, is_over, counts_agree};
+ghost use Rattle.wasm_sections_parser.specs.Steps.{place_of, is_late, counted, in_code, one_less, begun, is_over, counts_agree, said, is_announced};
 
 /// What comes next.
 #[derive(Clone, Copy)]
@@ -149,10 +149,27 @@ pub(crate) fn counts_agree(progress: &Progress) -> bool
     if progress.functions != progress.bodies {
         return false;
     }
+    are_announced(progress)
+}
+
+/// Whether as many data segments stand as the data count says.
+fn are_announced(progress: &Progress) -> bool
+    ensures { result ≡ said progress.now.data_count progress.now.segments }
+{
     match progress.data_count {
         Some(count) => count == progress.segments,
         None => true,
     }
+}
+
+/// Whether as many data segments stand as the data count says, if this is the data section.
+pub(crate) fn is_announced(progress: &Progress, id: u8) -> bool
+    ensures { result ≡ is_announced id progress.now }
+{
+    if id != 11 {
+        return true;
+    }
+    are_announced(progress)
 }
 
 /// Behind the header.

@@ -2,21 +2,21 @@
 
 ghost use Rattle.std.specs.Prelude.{◌≡◌, ◌+◌, ◌≤◌, length, take, drop, IfOk};
 ghost use Rattle.wasm_types.specs.decoding.Decoder.{Reaches};
-ghost use Rattle.wasm_types.specs.decoding.Leb.{u32 as u32_decoder};
+ghost use Rattle.wasm_types.specs.decoding.declared.error.ErrorKind.TheVariants.{Other};
 ghost use Rattle.wasm_types.specs.decoding.Text.{name};
 ghost use Rattle.wasm_types.specs.reader.Reading.{Gives, NeedsNoMemory};
 ghost use Rattle.wasm_types.specs.reader.Parts.{next_part};
 ghost use Rattle.wasm_sections_items.specs.frames.Decode.{is_magic, header_of};
 ghost use Rattle.wasm_types.specs.decoding.Text.{little_endian};
-ghost use Rattle.wasm_sections_parser.specs.Steps.{in_part, custom_next, section_next, contents, code_start, next_section, body, next_entry, behind_code, next_header, step};
+ghost use Rattle.wasm_sections_parser.specs.Steps.{in_part, custom_next, counted_next, contents, code_start, next_section, body, next_entry, behind_code, next_header, step};
 ghost use Rattle.wasm_sections_parser.specs.Parsing.{shape_of, layer_of};
 ghost use Rattle.wasm_sections_parser.specs.Places.{IsPlacedBy, IsPlaced};
 
 use crate::numbers::{read_number_before, settled};
-use crate::progress::{begun, counted, in_code, is_late, one_less};
+use crate::progress::{begun, counted, in_code, is_announced, is_late, one_less};
 use crate::{CustomSectionReader, Encoding, Frame, Progress, Stage};
 use std::ops::Range;
-use wasm_types::{BinaryReader, Error, Result};
+use wasm_types::{BinaryReader, Error, Result, Words};
 
 /// A frame, and where the parser stands behind it.
 #[derive(Drop)]
@@ -91,10 +91,10 @@ fn read_counted<'a>(
     progress: Progress,
     id: u8,
     part: BinaryReader<'a>,
-    _reader: &BinaryReader<'a>,
+    reader: &BinaryReader<'a>,
 ) -> Result<Read<'a>>
-    ensures answer { Gives (λ x. (shape_of x.frame, x.progress)) result _reader.now
-        (in_part u32_decoder (section_next progress id part.entry.rest) part.entry _reader.now) }
+    ensures answer { Gives (λ x. (shape_of x.frame, x.progress)) result reader.now
+        (counted_next progress id part.entry reader.now) }
     ensures placed { IfOk result (λ x. part.entry.start ≡ part.entry.place
         → IsPlacedBy (λ n. n ≡ part.entry.start) part.entry.settings x.frame x.progress
         (part.entry.place + length part.entry.rest)) }
@@ -105,10 +105,41 @@ fn read_counted<'a>(
         Ok(count) => count,
         Err(error) => return Err(settled(error)),
     };
+    let behind = counted(progress, id, count);
+    if !is_announced(&behind, id) {
+        return Err(segments_error(reader.original_position()));
+    }
     Ok(Read {
         frame: Frame::Section { id, reader: part },
-        progress: counted(progress, id, count),
+        progress: behind,
     })
+}
+
+// That there are other than as many bodies as functions, so many of which were declared.
+#[cold]
+fn bodies_error(functions: u32, offset: u64) -> Error
+    ensures kind { result.kind ≡ Other }
+    ensures offset { result.offset ≡ offset }
+{
+    if functions == 0 {
+        return Error::new(
+            Words::FunctionSectionIsAbsentButCodeSectionHasNonZeroCount,
+            offset,
+        );
+    }
+    Error::new(Words::FunctionAndCodeSectionHaveInconsistentLengths, offset)
+}
+
+// That there are other than as many data segments as were announced.
+#[cold]
+fn segments_error(offset: u64) -> Error
+    ensures kind { result.kind ≡ Other }
+    ensures offset { result.offset ≡ offset }
+{
+    Error::new(
+        Words::DataCountAndDataSectionHaveInconsistentLengths,
+        offset,
+    )
 }
 
 // A whole section, behind its id and size.
@@ -155,10 +186,13 @@ fn read_code_start<'a>(
 {
     let place = reader.original_position();
     if place > u64::MAX - u64::from(size) {
-        return Err(Error::new("code section out of range", place));
+        return Err(Error::new(Words::CodeSectionOutOfRange, place));
     }
     let end = place + u64::from(size);
     let count = read_number_before(end, reader)?;
+    if count != progress.functions {
+        return Err(bodies_error(progress.functions, place));
+    }
     Ok(Read {
         frame: Frame::CodeStart {
             count,
@@ -181,7 +215,7 @@ fn read_section<'a>(progress: Progress, reader: &mut BinaryReader<'a>) -> Result
     let id = reader.read_u8()?;
     let size = reader.read_var_u32()?;
     if is_late(&progress, id) {
-        return Err(Error::new("section out of order", reader.original_position()));
+        return Err(Error::new(Words::SectionOutOfOrder, reader.original_position()));
     }
     if id == 10 {
         return read_code_start(progress, size, reader);
@@ -206,7 +240,7 @@ fn read_body<'a>(
 {
     let place = reader.original_position();
     if u64::from(size) > end.saturating_sub(place) {
-        return Err(Error::new("unexpected end of the code section", place));
+        return Err(Error::new(Words::UnexpectedEndOfFile, place));
     }
     let text = reader.read_bytes(size as usize)?;
     let part = BinaryReader::new_limited(text, place, reader.features(), reader.limits());
@@ -249,7 +283,7 @@ fn read_behind_code<'a>(
 {
     let place = reader.original_position();
     if place < end {
-        return Err(Error::new("trailing bytes at end of section", place));
+        return Err(Error::new(Words::TrailingBytesAtEndOfSection, place));
     }
     read_section(progress, reader)
 }
@@ -298,13 +332,13 @@ fn read_header<'a>(progress: Progress, reader: &mut BinaryReader<'a>) -> Result<
     let start = reader.original_position();
     let magic = reader.read_bytes(4)?;
     if !is_magic(magic) {
-        return Err(Error::new("magic header not detected: bad magic number", start));
+        return Err(Error::new(Words::MagicHeaderNotDetectedBadMagicNumber, start));
     }
     let place = reader.original_position();
     let fields = reader.read_bytes(4)?;
     let layer = layer_in(fields);
     if layer > 1 {
-        return Err(Error::new("unknown binary version and encoding combination", place));
+        return Err(Error::new(Words::UnknownBinaryVersionAndEncodingCombination, place));
     }
     Ok(Read {
         frame: Frame::Version {
@@ -349,7 +383,7 @@ pub(crate) fn read_frame<'a>(progress: Progress, reader: &mut BinaryReader<'a>) 
             }
             read_entry(progress, left, end, reader)
         }
-        Stage::Ended => Err(Error::new("nothing follows the end", place)),
-        Stage::Failed => Err(Error::new("nothing follows a refusal", place)),
+        Stage::Ended => Err(Error::new(Words::NothingFollowsTheEnd, place)),
+        Stage::Failed => Err(Error::new(Words::NothingFollowsARefusal, place)),
     }
 }

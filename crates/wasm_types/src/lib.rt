@@ -30,7 +30,7 @@ pub use wasm_types_externs::{GlobalType, MemoryType, TableType, TagKind, TagType
 pub use wasm_types_fields::{
     AbstractHeapType, ArrayType, BinaryReader, BinaryReaderError, BinaryReaderIter, ContType,
     CoreTypeId, Error, ErrorKind, FieldType, FromReader, FuncType, HeapType, Ieee32, Ieee64,
-    Limits, PackedIndex, RefType, Result, StorageType, StructType, UnpackedIndex, ValType,
-    WasmFeatures, WasmFeaturesInflated, equality_is_identity, index_error, limits, read_list,
-    read_many,
+    Limits, Message, ModuleWords, Named, OperatorWords, PackedIndex, RefType, Result, StorageType,
+    StructType, Text, TypeWords, UnpackedIndex, ValType, WasmFeatures, WasmFeaturesInflated, Words,
+    equality_is_identity, index_error, limits, read_list, read_many,
 };

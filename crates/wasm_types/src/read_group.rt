@@ -10,7 +10,7 @@ ghost use Rattle.wasm_types.specs.Places.{place_of, places};
 use crate::read_types::sub_after_byte;
 use crate::{RecGroup, SubType};
 use std::alloc::Global;
-use wasm_types_fields::{BinaryReader, FromReader, Result};
+use wasm_types_fields::{BinaryReader, FromReader, Result, Words};
 
 // As many subtypes as are asked for, and their offsets. The lists grow as they are read.
 #[tactic(auto, using(wasm_types_fields::specs::Laws::reaches_self, wasm_types_fields::specs::Laws::reaches_then))]
@@ -44,7 +44,7 @@ fn read_explicit<'a>(alloc: Global, reader: &mut BinaryReader<'a>) -> Result<Rec
     ensures places { IfOk result (λ g. places reader.old.settings reader.old ≡ Done g.offsets.items reader.new) }
     ensures forward { Reaches reader.old reader.new }
 {
-    let count = reader.read_size(reader.limits().types as usize, "rec group types")?;
+    let count = reader.read_size(reader.limits().types as usize, Words::RecGroupTypes)?;
     let (types, offsets) = read_subtypes(alloc, count, reader)?;
     Ok(RecGroup::explicit(types, offsets))
 }

@@ -16,7 +16,7 @@ use std::alloc::Global;
 use wasm_types_fields::limits::MAX_WASM_SUPERTYPES;
 use wasm_types_fields::{
     ArrayType, BinaryReader, ContType, Error, FromReader, FuncType, PackedIndex, Result,
-    StructType, read_index,
+    StructType, Text, Words, read_index,
 };
 
 // The error of a byte that begins no type.
@@ -25,8 +25,8 @@ fn leading_byte_error(byte: u8, offset: u64) -> Error
     ensures kind { result.kind ≡ Other }
     ensures offset { result.offset ≡ offset }
 {
-    Error::fmt(
-        format_args!("invalid leading byte (0x{byte:x}) for type"),
+    Error::with(
+        Text::Hex(Words::InvalidLeadingByte0x, byte as u32, Words::ForType),
         offset,
     )
 }
@@ -130,9 +130,36 @@ fn describes_after_byte<'a>(
     descriptor_after_byte(shared, None, byte, alloc, reader)
 }
 
-// Whether it is shared.
-#[tactic(auto, using(wasm_types_fields::specs::Laws::reaches_self, wasm_types_fields::specs::Laws::reaches_then, wasm_types_fields::specs::Laws::beyond_0), unfolding(crate::specs::DecodeTypes::composite_after))]
+// What is said of it, and the type itself.
+#[inline(always)]
+#[tactic(auto, using(wasm_types_fields::specs::Laws::reaches_self, wasm_types_fields::specs::Laws::reaches_then, wasm_types_fields::specs::Laws::beyond_0), unfolding(crate::specs::DecodeTypes::composite_after, crate::specs::DecodeTypes::describes_after, crate::specs::DecodeTypes::descriptor_after))]
 fn composite_after_byte<'a>(
+    byte: u8,
+    alloc: Global,
+    reader: &mut BinaryReader<'a>,
+) -> Result<CompositeType>
+    requires { 0 < reader.old.place }
+    ensures answer { Gives composite_value result reader.new (composite_after reader.old.settings byte reader.old) }
+    ensures forward { Reaches reader.old reader.new }
+{
+    if is_marked(byte) {
+        return marked_after_byte(byte, alloc, reader);
+    }
+    last_after_byte(false, None, None, byte, alloc, reader)
+}
+
+// Whether something is said of a type before it.
+#[inline(always)]
+fn is_marked(byte: u8) -> bool
+    ensures { result ≡ false → (byte ≡ 0x65 → ⊥) × (byte ≡ 0x4c → ⊥) × (byte ≡ 0x4d → ⊥) }
+{
+    byte == 0x65 || byte == 0x4c || byte == 0x4d
+}
+
+// The same, if something is said of it.
+#[inline(never)]
+#[tactic(auto, using(wasm_types_fields::specs::Laws::reaches_self, wasm_types_fields::specs::Laws::reaches_then, wasm_types_fields::specs::Laws::beyond_0), unfolding(crate::specs::DecodeTypes::composite_after))]
+fn marked_after_byte<'a>(
     byte: u8,
     alloc: Global,
     reader: &mut BinaryReader<'a>,
@@ -193,7 +220,7 @@ fn read_supertypes<'a>(alloc: Global, reader: &mut BinaryReader<'a>) -> Result<V
     ensures answer { Gives (λ v. v.items) result reader.new (supertypes reader.old) }
     ensures forward { Reaches reader.old reader.new }
 {
-    let count = reader.read_size(MAX_WASM_SUPERTYPES, "supertype idxs")?;
+    let count = reader.read_size(MAX_WASM_SUPERTYPES, Words::SupertypeIdxs)?;
     if count == 0 {
         return Ok(Vec::new(alloc));
     }

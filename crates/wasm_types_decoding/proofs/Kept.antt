@@ -1,15 +1,16 @@
 -- What a message keeps, write by write.
-use Rattle.std.proofs.Common.{◌≡◌, ℕ, zero, suc, ◌+◌, ◌-◌, ◌<◌, ◌≤◌, List, [], ◌∷◌, ◌++◌, length, take, get_or, refl, sym, ap, ◌∙◌, arith}
+use Rattle.std.proofs.Common.{◌≡◌, ℕ, zero, suc, ◌+◌, ◌-◌, ◌/◌, ◌%◌, ◌<◌, ◌≤◌, List, [], ◌∷◌, ◌++◌, length, take, get_or, refl, sym, ap, ◌∙◌, arith}
 use Rattle.std.proofs.Common.{append_assoc, Bool, true, false, cond, inl, inr, nat_lt, Option, Some, None, IfSome, Result, Ok, Err}
 use Rattle.std.proofs.lemmas.Bool.{lt-ltb, le-ltb, lt-leb, cases_lt, ltb-true, ltb-false}
 use Rattle.std.proofs.lemmas.List.{append-nil, length-append, get_or_append_left, get_or-append-add, take-append-le}
 use Rattle.std.proofs.Math.Seq.{take-append-add}
-use Rattle.std.specs.Fmt.{is_char_start, WritesText}
+use Rattle.std.specs.Fmt.{is_char_start, WritesText, digit_glyph}
 use Rattle.std.specs.Fmt.Cut.{floor_char_boundary}
 use Rattle.std.specs.List.{FoldsTo, concat}
 use Rattle.std.specs.Result.{OnOk, is_err}
 use Rattle.std.specs.Str.{IsCharBoundary}
 use Rattle.wasm_types_decoding.specs.ErrorText.{cut_to, message_of, Keeps, IsWrittenMessage}
+use Rattle.wasm_types_decoding.specs.Texts.{hex_digits, bits}
 use Rattle.wasm_types_decoding.proofs.Cut.{starts, cut_fits}
 
 abbrev either : Bool → ℕ → ℕ → ℕ
@@ -132,3 +133,47 @@ written_nothing (Some text) message e = inr e
 pub of_ok : {X E : Type 0} (r : Result X E) (P : Type 0) → is_err r ≡ false → OnOk r P → P
 of_ok (Ok x) P e h = h
 of_ok (Err x) P e h = absurd cc
+
+-- what was written part by part is the text of these parts
+pub in_2 : (t a b kept : List ℕ) (full : Bool) → Keeps ((t ++ a) ++ b) kept full → Keeps (t ++ (a ++ b)) kept full
+in_2 t a b kept full k = rw (← append_assoc t a b) k
+
+pub in_3 : (t a b d kept : List ℕ) (full : Bool) → Keeps (((t ++ a) ++ b) ++ d) kept full → Keeps (t ++ ((a ++ b) ++ d)) kept full
+in_3 t a b d kept full k = rw (← append_assoc t (a ++ b) d, ← append_assoc t a b) k
+
+pub in_4 : (t a b d e kept : List ℕ) (full : Bool) → Keeps ((((t ++ a) ++ b) ++ d) ++ e) kept full → Keeps (t ++ (((a ++ b) ++ d) ++ e)) kept full
+in_4 t a b d e kept full k = rw (← append_assoc t ((a ++ b) ++ d) e, ← append_assoc t (a ++ b) d, ← append_assoc t a b) k
+
+pub in_5 : (t a b d e f kept : List ℕ) (full : Bool) → Keeps (((((t ++ a) ++ b) ++ d) ++ e) ++ f) kept full → Keeps (t ++ ((((a ++ b) ++ d) ++ e) ++ f)) kept full
+in_5 t a b d e f kept full k =
+    rw (← append_assoc t (((a ++ b) ++ d) ++ e) f, ← append_assoc t ((a ++ b) ++ d) e, ← append_assoc t (a ++ b) d, ← append_assoc t a b) k
+
+pub in_7 : (t a b d e f g h kept : List ℕ) (full : Bool) → Keeps (((((((t ++ a) ++ b) ++ d) ++ e) ++ f) ++ g) ++ h) kept full
+    → Keeps (t ++ ((((((a ++ b) ++ d) ++ e) ++ f) ++ g) ++ h)) kept full
+in_7 t a b d e f g h kept full k =
+    rw (
+      ← append_assoc t (((((a ++ b) ++ d) ++ e) ++ f) ++ g) h,
+      ← append_assoc t ((((a ++ b) ++ d) ++ e) ++ f) g,
+      ← append_assoc t (((a ++ b) ++ d) ++ e) f,
+      ← append_assoc t ((a ++ b) ++ d) e,
+      ← append_assoc t (a ++ b) d,
+      ← append_assoc t a b,
+    ) k
+
+-- digits, the last one apart
+pub suc_of : (m : ℕ) → (m ≡ 0 → ⊥) → m ≡ suc (m - 1)
+suc_of zero h = absurd (h refl)
+suc_of (suc k) h = omega arith
+
+pub hex_one : (m n : ℕ) → (m ≡ 0 → ⊥) → n < 16 → hex_digits m n ≡ digit_glyph false (n % 16) ∷ []
+hex_one zero n h lt = absurd (h refl)
+hex_one (suc k) n h lt = ap (λ (b : Bool). cond b [] (hex_digits k (n / 16)) ++ digit_glyph false (n % 16) ∷ []) (lt-ltb n 16 lt)
+
+pub hex_more : (m n : ℕ) → (m ≡ 0 → ⊥) → 16 ≤ n → hex_digits m n ≡ hex_digits (m - 1) (n / 16) ++ digit_glyph false (n % 16) ∷ []
+hex_more zero n h le = absurd (h refl)
+hex_more (suc k) n h le = ap (λ (b : Bool). cond b [] (hex_digits k (n / 16)) ++ digit_glyph false (n % 16) ∷ []) (le-ltb n 16 le)
+    ∙ ap (λ (j : ℕ). hex_digits j (n / 16) ++ digit_glyph false (n % 16) ∷ []) {x = k} {y = suc k - 1} (omega arith)
+
+pub bits_more : (m n : ℕ) → (m ≡ 0 → ⊥) → bits m n ≡ bits (m - 1) (n / 2) ++ digit_glyph false (n % 2) ∷ []
+bits_more zero n h = absurd (h refl)
+bits_more (suc k) n h = ap (λ (j : ℕ). bits j (n / 2) ++ digit_glyph false (n % 2) ∷ []) {x = k} {y = suc k - 1} (omega arith)

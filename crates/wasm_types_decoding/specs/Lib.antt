@@ -24,6 +24,8 @@ pub mod NumbersLaws
 -- Definitions: an error's value, its text, what an answer tells of a fact.
 pub mod ErrorValue
 pub mod ErrorText
+pub mod Words
+pub mod Texts
 pub mod Denials
 -- Worked errors.
 pub mod ErrorRows

@@ -1,14 +1,17 @@
 //! Why a call was refused.
 
+ghost use Rattle.wasm_types_decoding.specs.Words.{words_text};
 ghost use Rattle.std.specs.Prelude.{◌≡◌, ◌≤◌, codes, length, Some, IfSome};
 ghost use Rattle.wasm_types_decoding.specs.declared.error.ErrorKind.TheVariants as kinds;
-ghost use Rattle.wasm_types_decoding.specs.ErrorText.{cut_to, message_of, IsWrittenMessage, kind_number, hint_of, feature_of, shown};
+ghost use Rattle.wasm_types_decoding.specs.ErrorText.{message_of, kind_number, hint_of, feature_of, shown};
+ghost use Rattle.wasm_types_decoding.specs.Texts.{text_of};
 
-use crate::message::{Message, ROOM, front};
-use arrayvec::ArrayString;
+use crate::message::Message;
+use crate::text::Text;
+use crate::words::Words;
 use std::alloc::{AllocError, AllocFailed};
 use std::fmt;
-use std::fmt::{Display, Write};
+use std::fmt::Display;
 use std::marker::Model;
 use wasm_types_settings::WasmFeatures;
 
@@ -48,7 +51,7 @@ impl ErrorKind {
 pub struct Error {
     kind: ErrorKind,
     offset: u64,
-    message: ArrayString<{ ROOM }>,
+    text: Text,
 }
 
 /// The name of [`Error`] where readers are meant.
@@ -59,37 +62,60 @@ pub type Result<T, E = Error> = std::result::Result<T, E>;
 
 impl Model for Error {
     ghost use Rattle.wasm_types_decoding.specs.ErrorValue.{ErrorValue};
+    ghost use Rattle.wasm_types_decoding.specs.ErrorText.{message_of};
+    ghost use Rattle.wasm_types_decoding.specs.Texts.{text_of};
 
     ghost Value = { ErrorValue };
 
-    ghost view = { λ e. record { kind = e.kind; offset = e.offset; message = e.message.bytes } };
+    ghost view = { λ e. record { kind = e.kind; offset = e.offset; message = message_of (text_of e.text) } };
 }
 
 impl Error {
     /// A fault of content or state, kind 5.
     #[cold]
-    pub fn new(message: &str, offset: u64) -> Error
-        ensures { result ≡ record { kind = kinds.Other; offset = offset; message = message_of message.now } }
+    pub fn new(message: Words, offset: u64) -> Error
+        ensures { result ≡ record { kind = kinds.Other; offset = offset; message = message_of (words_text message) } }
     {
         Error::of_kind(ErrorKind::Other, message, offset)
     }
 
-    /// A fault of content or state, kind 5, whose message is what a value writes. Where the value itself gives up the
-    /// message is empty.
+    /// A fault of content or state, kind 5, with this text.
     #[cold]
-    pub fn fmt<M: Display + Drop>(message: M, offset: u64) -> Error
-        ensures kind { result.kind ≡ kinds.Other }
-        ensures offset { result.offset ≡ offset }
-        ensures message { IfSome (M.output message) (λ text. IsWrittenMessage text result.message) }
+    pub fn with(text: Text, offset: u64) -> Error
+        ensures { result ≡ record { kind = kinds.Other; offset = offset; message = message_of (text_of text) } }
     {
-        let mut text = Message::new();
-        if text.write(message).is_err() {
-            return Error::new("", offset);
-        }
         Error {
             kind: ErrorKind::Other,
             offset,
-            message: text.kept,
+            text,
+        }
+    }
+
+    /// What only these features allow, kind 2, with this text.
+    #[cold]
+    pub fn missing_with(feature: WasmFeatures, text: Text, offset: u64) -> Error
+        ensures { result ≡ record {
+          kind = kinds.MissingFeature feature;
+          offset = offset;
+          message = message_of (text_of text);
+        } }
+    {
+        Error {
+            kind: ErrorKind::MissingFeature(feature),
+            offset,
+            text,
+        }
+    }
+
+    /// The same error again.
+    pub fn again(&self) -> Error
+        ensures kind { result.kind ≡ self.now.kind }
+        ensures offset { result.offset ≡ self.now.offset }
+    {
+        Error {
+            kind: self.kind,
+            offset: self.offset,
+            text: self.text.again(),
         }
     }
 
@@ -104,18 +130,18 @@ impl Error {
     {
         Error::of_kind(
             ErrorKind::EndOfData { needed_hint },
-            "unexpected end-of-file",
+            Words::UnexpectedEndOfFile,
             offset,
         )
     }
 
     /// What only these features allow, kind 2.
     #[cold]
-    pub fn missing_feature(feature: WasmFeatures, message: &str, offset: u64) -> Error
+    pub fn missing_feature(feature: WasmFeatures, message: Words, offset: u64) -> Error
         ensures { result ≡ record {
           kind = kinds.MissingFeature feature;
           offset = offset;
-          message = message_of message.now;
+          message = message_of (words_text message);
         } }
     {
         Error::of_kind(ErrorKind::MissingFeature(feature), message, offset)
@@ -126,35 +152,34 @@ impl Error {
     pub fn out_of_memory(offset: u64) -> Error
         ensures { result ≡ record { kind = kinds.OutOfMemory; offset = offset; message = codes "out of memory" } }
     {
-        Error::of_kind(ErrorKind::OutOfMemory, "out of memory", offset)
+        Error::of_kind(ErrorKind::OutOfMemory, Words::OutOfMemory, offset)
     }
 
     /// A call after a failure, or out of turn, kind 4.
     #[cold]
-    pub fn failed(message: &str, offset: u64) -> Error
-        ensures { result ≡ record { kind = kinds.Failed; offset = offset; message = message_of message.now } }
+    pub fn failed(message: Words, offset: u64) -> Error
+        ensures { result ≡ record { kind = kinds.Failed; offset = offset; message = message_of (words_text message) } }
     {
         Error::of_kind(ErrorKind::Failed, message, offset)
     }
 
-    fn of_kind(kind: ErrorKind, message: &str, offset: u64) -> Error
-        ensures { result ≡ record { kind = kind; offset = offset; message = message_of message.now } }
+    fn of_kind(kind: ErrorKind, message: Words, offset: u64) -> Error
+        ensures { result ≡ record { kind = kind; offset = offset; message = message_of (words_text message) } }
     {
-        let mut room = ArrayString::new();
-        room.push_str(front(message, ROOM));
         Error {
             kind,
             offset,
-            message: room,
+            text: Text::Words(message),
         }
     }
 
     /// What is wrong, in at most 256 bytes of UTF-8.
-    pub fn message(&self) -> &str
-        ensures value { result.now ≡ self.now.message }
-        ensures fits { length result.now ≤ 256 }
+    pub fn message(&self) -> Message
+        ensures { result.kept.bytes ≡ self.now.message }
     {
-        self.message.as_str()
+        let mut message = Message::new();
+        self.text.write_to(&mut message);
+        message
     }
 
     /// The offset in the input, in bytes.
@@ -196,12 +221,8 @@ impl Display for Error {
     ghost output = { λ e. Some (shown e.message e.offset) };
 
     fn fmt<W: fmt::Write>(&self, f: &mut fmt::Formatter<W>) -> fmt::Result {
-        write!(
-            f,
-            "{} (at offset 0x{:x})",
-            self.message.as_str(),
-            self.offset
-        )
+        let message = self.message();
+        write!(f, "{} (at offset 0x{:x})", message.as_str(), self.offset)
     }
 }
 

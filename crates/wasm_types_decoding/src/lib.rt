@@ -23,14 +23,21 @@ mod error;
 mod groups;
 mod long;
 mod message;
+mod refusals;
 mod short;
+mod text;
+mod words;
 
 pub use error::{BinaryReaderError, Error, ErrorKind, Result};
 pub use long::{Flaw, long_i32_at, long_i64_at, long_s33_at, long_u32_at, long_u64_at};
+pub use message::Message;
+pub use refusals::{ModuleWords, OperatorWords};
 pub use short::{
     short_i32_at, short_i64_at, short_s33_at, short_u8_at, short_u32_at, short_u64_at,
 };
+pub use text::{Named, Text};
 pub use wasm_types_settings::{Limits, WasmFeatures, WasmFeaturesInflated};
+pub use words::{TypeWords, Words};
 
 /// What is wrong with bytes, where no further byte mends it.
 #[derive(Clone, Copy, Debug, PartialEq, Eq)]

@@ -5,7 +5,7 @@ ghost use Rattle.wasm_types_values.specs.decoding.Decoder.{Reaches};
 ghost use Rattle.wasm_types_values.specs.reader.Reading.{Gives, NeedsNoMemory};
 ghost use Rattle.wasm_types_externs.specs.Decode.{limits_flags, size, written};
 
-use wasm_types_values::{BinaryReader, Error, Result};
+use wasm_types_values::{BinaryReader, Error, Result, Words};
 
 // What the flags of limits say.
 #[derive(Clone, Copy)]
@@ -24,7 +24,7 @@ pub(crate) struct LimitsFlags {
 #[tactic(auto, using(wasm_types_values::specs::Laws::reaches_self, wasm_types_values::specs::Laws::reaches_then), unfolding(crate::specs::Decode::limits_flags))]
 pub(crate) fn read_flags<'a>(
     bound: u8,
-    message: &str,
+    message: Words,
     reader: &mut BinaryReader<'a>,
 ) -> Result<LimitsFlags>
     ensures answer { Gives (λ f. f) result reader.new (limits_flags bound reader.old) }

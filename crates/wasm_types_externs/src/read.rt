@@ -8,7 +8,7 @@ ghost use Rattle.wasm_types_externs.specs.Decode.{written, table_after};
 use crate::limits::{LimitsFlags, read_flags, read_maximum, read_size};
 use crate::{GlobalType, MemoryType, TableType, TagKind, TagType};
 use std::alloc::Global;
-use wasm_types_values::{BinaryReader, Error, FromReader, RefType, Result, ValType};
+use wasm_types_values::{BinaryReader, Error, FromReader, RefType, Result, ValType, Words};
 
 // The logarithm of a page's size, where one is written.
 #[tactic(auto, using(wasm_types_values::specs::Laws::reaches_self, wasm_types_values::specs::Laws::reaches_then), unfolding(crate::specs::Decode::written))]
@@ -53,7 +53,7 @@ impl<'a> FromReader<'a> for MemoryType {
         ensures forward { Reaches reader.old reader.new }
         ensures no_memory { NeedsNoMemory result }
     {
-        let flags = read_flags(16, "invalid memory limits flags", reader)?;
+        let flags = read_flags(16, Words::InvalidMemoryLimitsFlags, reader)?;
         let initial = read_size(flags.wide, reader)?;
         let maximum = read_maximum(flags.has_maximum, flags.wide, reader)?;
         let page_size_log2 = read_page_size(flags.has_page_size, reader)?;
@@ -119,7 +119,7 @@ impl<'a> FromReader<'a> for TableType {
         ensures no_memory { NeedsNoMemory result }
     {
         let element_type = RefType::from_reader(alloc, reader)?;
-        let flags = read_flags(8, "invalid table resizable limits flags", reader)?;
+        let flags = read_flags(8, Words::InvalidTableResizableLimitsFlags, reader)?;
         table_after_flags(element_type, flags, reader)
     }
 }
@@ -157,7 +157,7 @@ impl<'a> FromReader<'a> for GlobalType {
         let offset = reader.original_position();
         let flags = reader.read_u8()?;
         if flags >= 4 {
-            return Err(Error::new("malformed mutability", offset));
+            return Err(Error::new(Words::MalformedGlobalFlags, offset));
         }
         Ok(GlobalType {
             content_type,
@@ -198,7 +198,7 @@ impl<'a> FromReader<'a> for TagType {
         let offset = reader.original_position();
         let attribute = reader.read_u8()?;
         if attribute != 0 {
-            return Err(Error::new("invalid tag attributes", offset));
+            return Err(Error::new(Words::InvalidTagAttributes, offset));
         }
         let func_type_idx = reader.read_var_u32()?;
         Ok(TagType {

@@ -3,7 +3,7 @@ use Rattle.std.specs.Prelude.{ℕ, List, [], ◌∷◌, Bool, true, false, nat_l
 use Rattle.wasm_types_values.specs.decoding.declared.Refusal.TheVariants.{Other}
 use Rattle.wasm_types_values.specs.decoding.Decoder.{Decoder, ◌>>=◌, pure, refuse, byte, choice}
 use Rattle.wasm_types_values.specs.decoding.Leb.{u32}
-use Rattle.wasm_types_values.specs.decoding.Lists.{refuse_at, listed_within}
+use Rattle.wasm_types_values.specs.decoding.Lists.{listed_within}
 use Rattle.wasm_types_values.specs.settings.Settings.{Settings}
 use Rattle.wasm_types_values.specs.types_trees.declared.index.UnpackedIndex.{UnpackedIndex}
 use Rattle.wasm_types_values.specs.types_trees.declared.index.UnpackedIndex.TheVariants.{Module}
@@ -15,9 +15,9 @@ use Rattle.wasm_types_fields.specs.Signatures.{Signature}
 abbrev pub mutabilities : List (ℕ × Decoder Bool)
 mutabilities = (0x00, pure false) ∷ (0x01, pure true) ∷ []
 
--- one of these bytes
+-- one of these bytes; another is refused after it
 unfoldable pub mutability : Decoder Bool
-mutability = byte >>= choice mutabilities (refuse Other 1)
+mutability = byte >>= choice mutabilities (refuse Other 0)
 
 -- a storage type, and then the mutability
 unfoldable pub field_type : Decoder FieldType
@@ -31,10 +31,10 @@ fields z = listed_within z.limits.fields field_type
 unfoldable pub signature : Settings → Decoder Signature
 signature z = listed_within z.limits.params value_type >>= λ ps. listed_within z.limits.results value_type >>= λ rs. pure (record { params = ps; results = rs })
 
--- an index that begins at this offset
-abbrev pub index_from : ℕ → ℕ → Decoder UnpackedIndex
-index_from place n = if nat_lt n 0x10_0000 then pure (Module n) else refuse_at Other place
+-- an index, within the limit; one past it is refused after it
+abbrev pub index_of : ℕ → Decoder UnpackedIndex
+index_of n = if nat_lt n 0x10_0000 then pure (Module n) else refuse Other 0
 
 -- a type of the module, below 2^20
 unfoldable pub module_index : Decoder UnpackedIndex
-module_index s = (u32 >>= index_from s.place) s
+module_index = u32 >>= index_of

@@ -1,16 +1,16 @@
 -- The readers of fields, signatures and indices are lawful, and read what the bytes spell.
-use Rattle.std.proofs.Common.{◌≡◌, ℕ, ◌<◌, ◌≤◌, List, [], ◌∷◌, ◌++◌, refl, sym, ap, ◌∙◌, subst, arith, ltb, Bool, true, false}
+use Rattle.std.proofs.Common.{◌≡◌, ℕ, ◌<◌, ◌≤◌, List, [], ◌∷◌, ◌++◌, refl, sym, ap, ◌∙◌, subst, arith, ltb, eqb, Bool, true, false}
 use Rattle.std.specs.Prelude.{nat_lt}
-use Rattle.std.proofs.lemmas.Bool.{ltb-true, ltb-false}
+use Rattle.std.proofs.lemmas.Bool.{ltb-true, ltb-false, eqb-true, eqb-false}
 use Rattle.std.proofs.lemmas.List.{append-nil}
 use Rattle.wasm_types_values.specs.decoding.declared.Refusal.TheVariants.{Other}
-use Rattle.wasm_types_values.specs.decoding.Decoder.{Decoder, Grammar, ◌>>=◌, pure, byte, IsLawful, Decides, Then}
+use Rattle.wasm_types_values.specs.decoding.Decoder.{Decoder, Grammar, ◌>>=◌, pure, refuse, byte, IsLawful, Decides, Then}
 use Rattle.wasm_types_values.specs.decoding.Laws.{lawful-byte, lawful->>=, lawful-pure, lawful-refuse, lawful-choice, lawful-if}
-use Rattle.wasm_types_values.specs.decoding.ExactLaws.{decides->>=, decides-same, decides-pure, decides-if, decides-map, Mapped, decides-choice, has_tag}
+use Rattle.wasm_types_values.specs.decoding.ExactLaws.{decides->>=, decides-same, decides-pure, decides-if, decides-map, decides-byte, decides-refuse, Mapped}
 use Rattle.wasm_types_values.specs.decoding.Leb.{u32, IsUnsigned}
 use Rattle.wasm_types_values.specs.decoding.LebLaws.{lawful-unsigned, decides-u32}
-use Rattle.wasm_types_values.specs.decoding.Lists.{refuse_at, listed_within, IsListedWithin}
-use Rattle.wasm_types_values.specs.decoding.ListLaws.{lawful-from_place, decides-from_place, lawful-refuse_at, decides-refuse_at, lawful-listed_within, decides-listed_within}
+use Rattle.wasm_types_values.specs.decoding.Lists.{listed_within, IsListedWithin}
+use Rattle.wasm_types_values.specs.decoding.ListLaws.{lawful-listed_within, decides-listed_within}
 use Rattle.wasm_types_values.specs.settings.Settings.{Settings}
 use Rattle.wasm_types_values.specs.types_trees.declared.index.UnpackedIndex.{UnpackedIndex}
 use Rattle.wasm_types_values.specs.types_trees.declared.index.UnpackedIndex.TheVariants.{Module, RecGroup, Id}
@@ -23,13 +23,13 @@ use Rattle.wasm_types_values.specs.ValueLaws.{decides-value_type, decides-storag
 use Rattle.wasm_types_fields.specs.declared.field.FieldType.{FieldType}
 use Rattle.wasm_types_fields.specs.Signatures.{Signature}
 use Rattle.wasm_types_fields.specs.Spells.{IsMutability, SpelledField, SpelledFields, SpelledSignature, SpelledIndex}
-use Rattle.wasm_types_fields.specs.Decode.{mutabilities, mutability, field_type, fields, signature, index_from, module_index}
+use Rattle.wasm_types_fields.specs.Decode.{mutabilities, mutability, field_type, fields, signature, index_of, module_index}
 
 -- ---- mutability
 
 pub lawful-mutability : IsLawful mutability
 unfolding mutability
-lawful-mutability = lawful->>= byte _ lawful-byte (λ b. lawful-choice mutabilities _ b (lawful-pure false, (lawful-pure true, tt)) (lawful-refuse Other 1))
+lawful-mutability = lawful->>= byte _ lawful-byte (λ b. lawful-choice mutabilities _ b (lawful-pure false, (lawful-pure true, tt)) (lawful-refuse Other 0))
 
 heads : (a b : ℕ) (s t : List ℕ) → a ∷ s ≡ b ∷ t → a ≡ b
 heads a b s t e = cc
@@ -41,10 +41,6 @@ mutability_some : (m : Bool) → IsMutability m [] → ⊥
 mutability_some false h = cc
 mutability_some true h = cc
 
-mutability_tag : (b : ℕ) (m : Bool) (text : List ℕ) → IsMutability m (b ∷ text) → has_tag mutabilities b ≡ true
-mutability_tag b false text h = let e = heads b 0 text [] h in rw e refl
-mutability_tag b true text h = let e = heads b 1 text [] h in rw e refl
-
 only_const : (m : Bool) (text : List ℕ) → IsMutability m (0 ∷ text) → (m ≡ false) × (text ≡ [])
 only_const false text h = (refl, tails 0 0 text [] h)
 only_const true text h = absurd cc
@@ -53,11 +49,22 @@ only_var : (m : Bool) (text : List ℕ) → IsMutability m (1 ∷ text) → (m �
 only_var false text h = absurd cc
 only_var true text h = (refl, tails 1 1 text [] h)
 
+-- this byte alone
+after_byte : (b n : ℕ) (x : Bool) → eqb b n ≡ true → IsMutability x (n ∷ []) →
+    ((m : Bool) (text : List ℕ) → IsMutability m (n ∷ text) → (m ≡ x) × (text ≡ [])) → Decides (pure x) (λ m text. IsMutability m (b ∷ text))
+after_byte b n x t here only = subst (λ (c : ℕ). Decides (pure x) (λ m text. IsMutability m (c ∷ text))) (sym (eqb-true _ _ t))
+    (decides-pure x (λ m text. IsMutability m (n ∷ text)) here only)
+
+no_other : (b : ℕ) → eqb b 0 ≡ false → eqb b 1 ≡ false → (m : Bool) (text : List ℕ) → IsMutability m (b ∷ text) → ⊥
+no_other b i j false text h = eqb-false _ _ i (heads b 0 text [] h)
+no_other b i j true text h = eqb-false _ _ j (heads b 1 text [] h)
+
 pub decides-mutability : Decides mutability IsMutability
 unfolding mutability
-decides-mutability = decides-choice Other IsMutability mutabilities mutability_some
-    (decides-pure false (λ m text. IsMutability m (0 ∷ text)) refl only_const, (decides-pure true (λ m text. IsMutability m (1 ∷ text)) refl only_var, tt))
-    mutability_tag
+decides-mutability = decides-byte _ IsMutability mutability_some (λ b.
+    decides-if (eqb b 0) _ _ _ (λ t. after_byte b 0 false t refl only_const) (λ i.
+    decides-if (eqb b 1) _ _ _ (λ t. after_byte b 1 true t refl only_var) (λ j.
+    decides-refuse Other 0 _ (no_other b i j))))
 
 -- ---- fields
 
@@ -136,18 +143,17 @@ module _ (z : Settings) where
 
 pub lawful-module_index : IsLawful module_index
 unfolding module_index
-lawful-module_index = lawful-from_place (λ p. u32 >>= index_from p)
-    (λ p. lawful->>= u32 (index_from p) (lawful-unsigned 4 4)
-    (λ n. lawful-if (nat_lt n 0x10_0000) (pure (Module n)) (refuse_at Other p) (lawful-pure (Module n)) (lawful-refuse_at Other p)))
+lawful-module_index = lawful->>= u32 index_of (lawful-unsigned 4 4)
+    (λ n. lawful-if (nat_lt n 0x10_0000) (pure (Module n)) (refuse Other 0) (lawful-pure (Module n)) (lawful-refuse Other 0))
 
 -- the index of this number, and nothing behind it
 abbrev OnlyIndex : ℕ → Grammar UnpackedIndex
 OnlyIndex n i text = (i ≡ Module n) × (text ≡ []) × (n < 0x10_0000)
 
-only_index : (p n : ℕ) → Decides (index_from p n) (OnlyIndex n)
-only_index p n = decides-if (ltb n 0x10_0000) (pure (Module n)) (refuse_at Other p) (OnlyIndex n)
+only_index : (n : ℕ) → Decides (index_of n) (OnlyIndex n)
+only_index n = decides-if (ltb n 0x10_0000) (pure (Module n)) (refuse Other 0) (OnlyIndex n)
     (λ t. let small : n < 0x10_0000 = ltb-true _ _ t in decides-pure (Module n) (OnlyIndex n) (refl, refl, small) (λ i text h. (h.0, h.1)))
-    (λ f. let large : 0x10_0000 ≤ n = ltb-false _ _ f in decides-refuse_at Other p (OnlyIndex n) (λ i text h. omega (arith, h.2, large)))
+    (λ f. let large : 0x10_0000 ≤ n = ltb-false _ _ f in decides-refuse Other 0 (OnlyIndex n) (λ i text h. omega (arith, h.2, large)))
 
 index_to : (i : UnpackedIndex) (text : List ℕ) → Then (IsUnsigned 32) OnlyIndex i text → SpelledIndex i text
 index_to i text h =
@@ -161,5 +167,5 @@ index_back (Id i) text h = absurd h
 
 pub decides-module_index : Decides module_index SpelledIndex
 unfolding module_index
-decides-module_index = decides-from_place (λ p. u32 >>= index_from p) SpelledIndex
-    (λ p. decides-same _ (Then (IsUnsigned 32) OnlyIndex) SpelledIndex (decides->>= u32 (index_from p) (IsUnsigned 32) OnlyIndex decides-u32 (only_index p)) index_to index_back)
+decides-module_index =
+    decides-same _ (Then (IsUnsigned 32) OnlyIndex) SpelledIndex (decides->>= u32 index_of (IsUnsigned 32) OnlyIndex decides-u32 only_index) index_to index_back

@@ -18,7 +18,7 @@ array_text a = codes "(array " ++ field_text a.0 ++ codes ")"
 
 -- one field of a struct
 abbrev pub member_text : FieldType → List ℕ
-member_text x = codes " (field " ++ field_text x ++ codes ")"
+member_text x = codes " " ++ field_text x
 
 -- the struct of these fields
 abbrev pub struct_text : List FieldType → List ℕ

@@ -40,7 +40,7 @@ narrow = record { features = 0; limits = record default_limits { fields = 1; par
 
 abbrev pub FieldsAreRead : Type 0
 FieldsAreRead = (field_type (start_of (0x7f ∷ 0x00 ∷ [])) ≡ Done (field (Val I32) false) (behind 2)) × (field_type (start_of (0x78 ∷ 0x01 ∷ [])) ≡ Done (field I8 true) (behind 2))
-    × (field_type (start_of (0x7f ∷ 0x02 ∷ [])) ≡ Fault Other 1) × (field_type (start_of (0x76 ∷ 0x00 ∷ [])) ≡ Fault Other 0) × (field_type (start_of (0x7f ∷ [])) ≡ Short 1 1)
+    × (field_type (start_of (0x7f ∷ 0x02 ∷ [])) ≡ Fault Other 2) × (field_type (start_of (0x76 ∷ 0x00 ∷ [])) ≡ Fault Other 0) × (field_type (start_of (0x7f ∷ [])) ≡ Short 1 1)
     × (fields no_features (start_of (0x00 ∷ [])) ≡ Done [] (behind 1)) ×
     (fields no_features (start_of (0x02 ∷ 0x7f ∷ 0x00 ∷ 0x77 ∷ 0x01 ∷ [])) ≡ Done (field (Val I32) false ∷ field I16 true ∷ []) (behind 5))
     × (fields no_features (start_of (0x90 ∷ 0x4e ∷ [])) ≡ Short 2 1) × (fields no_features (start_of (0x91 ∷ 0x4e ∷ [])) ≡ Fault Other 0)
@@ -69,7 +69,7 @@ function_bytes = (refl, refl, refl, refl, refl, refl, refl, refl, refl, refl)
 
 abbrev pub IndicesAreRead : Type 0
 IndicesAreRead = (module_index (start_of (0x05 ∷ [])) ≡ Done (Module 5) (behind 1)) × (module_index (start_of (0xff ∷ 0xff ∷ 0x3f ∷ [])) ≡ Done (Module 1048575) (behind 3))
-    × (module_index (start_of (0x80 ∷ 0x80 ∷ 0xc0 ∷ 0x00 ∷ [])) ≡ Fault Other 0) ×
+    × (module_index (start_of (0x80 ∷ 0x80 ∷ 0xc0 ∷ 0x00 ∷ [])) ≡ Fault Other 4) ×
     (module_index (start_of (0x80 ∷ 0x80 ∷ 0x80 ∷ 0x80 ∷ 0x10 ∷ [])) ≡ Fault Other 4) × (module_index (start_of (0x80 ∷ [])) ≡ Short 1 1)
 
 pub index_bytes : IndicesAreRead
@@ -100,7 +100,7 @@ functions_hashed = (refl, λ e. let first : ◌≡◌ {A = ℕ} 1 0 = ap (λ ws.
 abbrev pub TextsAreWritten : Type 0
 TextsAreWritten = (field_text (field (Val I32) true) ≡ codes "(mut i32)") × (field_text (field I8 false) ≡ codes "i8") ×
     (array_text (record { 0 = field I16 true }) ≡ codes "(array (mut i16))")
-    × (struct_text [] ≡ codes "(struct)") × (struct_text (field (Val I64) true ∷ field I8 false ∷ []) ≡ codes "(struct (field (mut i64)) (field i8))")
+    × (struct_text [] ≡ codes "(struct)") × (struct_text (field (Val I64) true ∷ field I8 false ∷ []) ≡ codes "(struct (mut i64) i8)")
     × (func_text [] [] ≡ codes "(func)") × (func_text [] (I32 ∷ []) ≡ codes "(func (result i32))") ×
     (func_text (I32 ∷ Ref (reference true (Abstract false heap.Func)) ∷ []) (F32 ∷ []) ≡ codes "(func (param i32 funcref) (result f32))")
     × (cont_text (record { 0 = Module 4 }) ≡ codes "(cont (module " ++ decimal 4 ++ codes ")" ++ codes ")")

@@ -60,7 +60,7 @@ impl Display for StructType {
     fn fmt<W: fmt::Write>(&self, f: &mut fmt::Formatter<W>) -> fmt::Result {
         f.write_str("(struct")?;
         for field in self.fields.as_slice() {
-            write!(f, " (field {field})")?;
+            write!(f, " {field}")?;
         }
         f.write_str(")")
     }

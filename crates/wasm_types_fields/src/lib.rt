@@ -19,7 +19,7 @@ pub use read::read_index;
 pub use wasm_types_values::laws::equality_is_identity;
 pub use wasm_types_values::{
     AbstractHeapType, BinaryReader, BinaryReaderError, BinaryReaderIter, CoreTypeId, Error,
-    ErrorKind, FromReader, HeapType, Ieee32, Ieee64, Limits, PackedIndex, RefType, Result,
-    StorageType, UnpackedIndex, ValType, WasmFeatures, WasmFeaturesInflated, index_error, limits,
-    read_list, read_many,
+    ErrorKind, FromReader, HeapType, Ieee32, Ieee64, Limits, Message, ModuleWords, Named,
+    OperatorWords, PackedIndex, RefType, Result, StorageType, Text, TypeWords, UnpackedIndex,
+    ValType, WasmFeatures, WasmFeaturesInflated, Words, index_error, limits, read_list, read_many,
 };

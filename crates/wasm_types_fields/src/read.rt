@@ -7,7 +7,8 @@ ghost use Rattle.wasm_types_fields.specs.Decode.{field_type, mutability, module_
 use crate::{ArrayType, ContType, FieldType, FuncType, StructType};
 use std::alloc::Global;
 use wasm_types_values::{
-    BinaryReader, Error, FromReader, PackedIndex, Result, StorageType, index_error, read_list,
+    BinaryReader, Error, FromReader, PackedIndex, Result, StorageType, Words, index_error,
+    read_list,
 };
 
 // Whether a field may be written.
@@ -17,11 +18,13 @@ fn read_mutability<'a>(reader: &mut BinaryReader<'a>) -> Result<bool>
     ensures no_memory { NeedsNoMemory result }
     ensures forward { Reaches reader.old reader.new }
 {
-    let offset = reader.original_position();
     match reader.read_u8()? {
         0x00 => Ok(false),
         0x01 => Ok(true),
-        _ => Err(Error::new("malformed mutability", offset)),
+        _ => Err(Error::new(
+            Words::MalformedMutabilityByteForFieldType,
+            reader.original_position(),
+        )),
     }
 }
 
@@ -114,7 +117,7 @@ impl<'a> FromReader<'a> for StructType {
     #[tactic(auto, using(wasm_types_values::specs::Laws::reaches_self, wasm_types_values::specs::Laws::reaches_then), unfolding(crate::specs::Decode::fields))]
     fn from_reader(alloc: Global, reader: &mut BinaryReader<'a>) -> Result<StructType> {
         let limit = reader.limits().fields as usize;
-        let fields = read_list(alloc, limit, "struct fields", reader)?;
+        let fields = read_list(alloc, limit, Words::StructFields, reader)?;
         Ok(StructType { fields })
     }
 }
@@ -143,26 +146,30 @@ impl<'a> FromReader<'a> for FuncType {
     #[tactic(auto, using(wasm_types_values::specs::Laws::reaches_self, wasm_types_values::specs::Laws::reaches_then), unfolding(crate::specs::Decode::signature))]
     fn from_reader(alloc: Global, reader: &mut BinaryReader<'a>) -> Result<FuncType> {
         let limits = reader.limits();
-        let params = read_list(alloc, limits.params as usize, "function params", reader)?;
-        let results = read_list(alloc, limits.results as usize, "function returns", reader)?;
+        let params = read_list(alloc, limits.params as usize, Words::FunctionParams, reader)?;
+        let results = read_list(
+            alloc,
+            limits.results as usize,
+            Words::FunctionReturns,
+            reader,
+        )?;
         let function = FuncType::of_lists(alloc, params.as_slice(), results.as_slice())?;
         Ok(function)
     }
 }
 
 /// A type of the module by its index, which is below 2^20 (WebAssembly 3.0, binary format, indices). A larger one is refused
-/// at its offset.
+/// behind it.
 #[tactic(auto, using(wasm_types_values::specs::Laws::reaches_self, wasm_types_values::specs::Laws::reaches_then), unfolding(crate::specs::Decode::module_index))]
 pub fn read_index<'a>(reader: &mut BinaryReader<'a>) -> Result<PackedIndex>
     ensures answer { Gives (λ i. i) result reader.new (module_index reader.old) }
     ensures no_memory { NeedsNoMemory result }
     ensures forward { Reaches reader.old reader.new }
 {
-    let offset = reader.original_position();
     let index = reader.read_var_u32()?;
     match PackedIndex::from_module_index(index) {
         Some(index) => Ok(index),
-        None => Err(index_error(offset)),
+        None => Err(index_error(reader.original_position())),
     }
 }
 

@@ -1,5 +1,6 @@
 //! The reader of bytes.
 
+ghost use Rattle.wasm_types_decoding.specs.Words.{words_text};
 ghost use Rattle.std.specs.Prelude.{◌≡◌, ℕ, ◌+◌, ◌-◌, ◌<◌, ◌≤◌, ◌^◌, ◌==◌, ◌↔◌, [], ◌∷◌, ◌++◌, codes, IsTrue, length, take, Ok, Err, IfOk, IfErr, ⊤};
 ghost use Rattle.std.specs.Fn.{FnOnceReturnsAtMut};
 ghost use Rattle.wasm_types_decoding.specs.Decoder.{State, byte, bytes, look, pure, Reaches};
@@ -14,7 +15,7 @@ ghost use Rattle.wasm_types_reader.specs.Messages.{is_above, SaysIf};
 ghost use Rattle.wasm_types_reader.specs.Parts.{part_at, counted_part, IsPassed};
 ghost use Rattle.wasm_types_decoding.specs.Numbers.{behind};
 
-use crate::{Error, FromReader, Result};
+use crate::{Error, FromReader, Result, Text, Words};
 use std::alloc::{AllocError, Global};
 use std::marker::Model;
 use std::ops::Range;
@@ -356,11 +357,11 @@ impl<'a> BinaryReader<'a> {
     /// A number in LEB128 of at most `limit`, where 2^32 - 1 is the most that is read. A larger one is refused at its own
     /// offset, as `desc`.
     #[inline]
-    pub fn read_size(&mut self, limit: usize, desc: &str) -> Result<usize>
+    pub fn read_size(&mut self, limit: usize, desc: Words) -> Result<usize>
         ensures answer { Answers (λ n. n) result self.old self.new (size_within limit self.old) }
         ensures no_memory { NeedsNoMemory result }
         ensures message { SaysIf (is_above limit (u32_decoder self.old))
-            (IsWrittenMessage (desc.now ++ codes " size is out of bounds")) result }
+            (IsWrittenMessage (words_text desc ++ codes " size is out of bounds")) result }
         ensures forward { Reaches self.old self.new }
     {
         let mut ahead = self.clone();
@@ -448,10 +449,10 @@ impl<'a> BinaryReader<'a> {
 
 /// That a size is above its limit.
 #[cold]
-fn size_error(desc: &str, offset: u64) -> Error
+fn size_error(desc: Words, offset: u64) -> Error
     ensures kind { result.kind ≡ Other }
     ensures offset { result.offset ≡ offset }
-    ensures message { IsWrittenMessage (desc.now ++ codes " size is out of bounds") result.message }
+    ensures message { IsWrittenMessage (words_text desc ++ codes " size is out of bounds") result.message }
 {
-    Error::fmt(format_args!("{desc} size is out of bounds"), offset)
+    Error::with(Text::SizeOf(desc), offset)
 }

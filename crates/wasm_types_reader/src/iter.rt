@@ -1,5 +1,6 @@
 //! Values that follow one another, one by one.
 
+ghost use Rattle.wasm_types_decoding.specs.Words.{words_text};
 ghost use Rattle.std.specs.Prelude.{◌≡◌, ◌++◌, codes, IfOk, IfErr, IfSome, MatchResult};
 ghost use Rattle.std.specs.Iterator.{at_most};
 ghost use Rattle.wasm_types_decoding.specs.Lists.{size_within};
@@ -10,7 +11,7 @@ ghost use Rattle.wasm_types_reader.specs.Messages.{is_above, SaysIf};
 ghost use Rattle.wasm_types_reader.specs.Reading.{NextItem, Fails, IsNotMemory, MemoryOnlyIf};
 ghost use Rattle.wasm_types_reader.specs.Draining.{Drains};
 
-use crate::{BinaryReader, FromReader, Result};
+use crate::{BinaryReader, FromReader, Result, Words};
 use std::alloc::Global;
 use std::marker::PhantomData;
 
@@ -49,13 +50,13 @@ impl<'a> BinaryReader<'a> {
         &mut self,
         alloc: Global,
         limit: usize,
-        desc: &str,
+        desc: Words,
     ) -> Result<BinaryReaderIter<'a, '_, T>>
         ensures answer { MatchResult result (λ values. size_within limit self.old
             ≡ Done values.remaining values.reader.now) (λ e. Fails e (size_within limit self.old)) }
         ensures no_memory { IfErr result (λ e. IsNotMemory e.kind) }
         ensures message { SaysIf (is_above limit (u32_decoder self.old))
-            (IsWrittenMessage (desc.now ++ codes " size is out of bounds")) result }
+            (IsWrittenMessage (words_text desc ++ codes " size is out of bounds")) result }
         ensures same_reference { IfOk result (λ values. values.reader.ghost_name ≡ self.entry.ghost_name) }
     {
         let count = self.read_size(limit, desc)?;

@@ -10,7 +10,7 @@ ghost use Rattle.wasm_types_decoding.specs.Numbers.{flaw_offset};
 ghost use Rattle.wasm_types_reader.specs.Flaws.{flaw_kind};
 ghost use Rattle.wasm_types_reader.specs.Reading.{Answers, NeedsNoMemory};
 
-use crate::{BinaryReader, Error, Result};
+use crate::{BinaryReader, Error, Result, Words};
 use wasm_types_decoding::{Flaw, long_i32_at, long_i64_at, long_s33_at, long_u32_at, long_u64_at};
 
 /// What holds of numbers of any width, by their decoders: a value and a fault stay, whatever bytes follow; the hint of an end of data is
@@ -52,8 +52,8 @@ impl<'a> BinaryReader<'a> {
             Err(flaw) => Err(flaw_error(
                 flaw,
                 self.original_position(),
-                "invalid var_u32: integer representation too long",
-                "invalid var_u32: integer too large",
+                Words::InvalidVarU32IntegerRepresentationTooLong,
+                Words::InvalidVarU32IntegerTooLarge,
             )),
         }
     }
@@ -77,8 +77,8 @@ impl<'a> BinaryReader<'a> {
             Err(flaw) => Err(flaw_error(
                 flaw,
                 self.original_position(),
-                "invalid var_u64: integer representation too long",
-                "invalid var_u64: integer too large",
+                Words::InvalidVarU64IntegerRepresentationTooLong,
+                Words::InvalidVarU64IntegerTooLarge,
             )),
         }
     }
@@ -102,8 +102,8 @@ impl<'a> BinaryReader<'a> {
             Err(flaw) => Err(flaw_error(
                 flaw,
                 self.original_position(),
-                "invalid var_i32: integer representation too long",
-                "invalid var_i32: integer too large",
+                Words::InvalidVarI32IntegerRepresentationTooLong,
+                Words::InvalidVarI32IntegerTooLarge,
             )),
         }
     }
@@ -127,8 +127,8 @@ impl<'a> BinaryReader<'a> {
             Err(flaw) => Err(flaw_error(
                 flaw,
                 self.original_position(),
-                "invalid var_i33: integer representation too long",
-                "invalid var_i33: integer representation too long",
+                Words::InvalidVarS33IntegerRepresentationTooLong,
+                Words::InvalidVarS33IntegerRepresentationTooLong,
             )),
         }
     }
@@ -152,8 +152,8 @@ impl<'a> BinaryReader<'a> {
             Err(flaw) => Err(flaw_error(
                 flaw,
                 self.original_position(),
-                "invalid var_i64: integer representation too long",
-                "invalid var_i64: integer too large",
+                Words::InvalidVarI64IntegerRepresentationTooLong,
+                Words::InvalidVarI64IntegerTooLarge,
             )),
         }
     }
@@ -162,7 +162,7 @@ impl<'a> BinaryReader<'a> {
 /// The error of a flaw in the bytes from an offset of the input on, of a number with these messages: where the last byte
 /// says that more follow the number is too long, and else too large.
 #[cold]
-fn flaw_error(flaw: Flaw, start: u64, too_long: &str, too_large: &str) -> Error
+fn flaw_error(flaw: Flaw, start: u64, too_long: Words, too_large: Words) -> Error
     requires { start + flaw_offset flaw < 2 ^ 64 }
     ensures kind { result.kind ≡ flaw_kind flaw }
     ensures offset { result.offset ≡ start + flaw_offset flaw }

@@ -23,6 +23,7 @@ pub use laws::{lists_are_lawful, reading_is_lawful, texts_and_words_are_lawful, 
 pub use leb::numbers_are_lawful;
 pub use lists::{read_list, read_many};
 pub use wasm_types_decoding::{
-    BinaryReaderError, Error, ErrorKind, Limits, Result, WasmFeatures, WasmFeaturesInflated,
+    BinaryReaderError, Error, ErrorKind, Limits, Message, ModuleWords, Named, OperatorWords,
+    Result, Text, TypeWords, WasmFeatures, WasmFeaturesInflated, Words,
 };
 pub use words::{Ieee32, Ieee64};

@@ -1,5 +1,6 @@
 //! Lists that are counted within a limit.
 
+ghost use Rattle.wasm_types_decoding.specs.Words.{words_text};
 ghost use Rattle.std.specs.Prelude.{◌≡◌, ◌++◌, codes, map, IfErr};
 ghost use Rattle.wasm_types_decoding.specs.Decoder.{repeated, Reaches};
 ghost use Rattle.wasm_types_decoding.specs.Lists.{listed_within, size_within};
@@ -8,7 +9,7 @@ ghost use Rattle.wasm_types_decoding.specs.ErrorText.{IsWrittenMessage};
 ghost use Rattle.wasm_types_reader.specs.Messages.{is_above, SaysIf};
 ghost use Rattle.wasm_types_reader.specs.Reading.{Gives, MemoryOnlyIf, takes_room, counted_room};
 
-use crate::{BinaryReader, FromReader, Result};
+use crate::{BinaryReader, FromReader, Result, Words};
 use std::alloc::Global;
 
 /// The values that follow, as many as are counted before them, which are at most `limit`; a larger count is refused at
@@ -17,7 +18,7 @@ use std::alloc::Global;
 pub fn read_list<'a, T: FromReader<'a>>(
     alloc: Global,
     limit: usize,
-    desc: &str,
+    desc: Words,
     reader: &mut BinaryReader<'a>,
 ) -> Result<Vec<T>>
     ensures answer { Gives (λ v. map T.view v.items) result reader.new
@@ -26,7 +27,7 @@ pub fn read_list<'a, T: FromReader<'a>>(
         (size_within limit reader.old)) result }
     ensures stays { IfErr result (λ e. reader.new ≡ reader.old) }
     ensures message { SaysIf (is_above limit (u32_decoder reader.old))
-        (IsWrittenMessage (desc.now ++ codes " size is out of bounds")) result }
+        (IsWrittenMessage (words_text desc ++ codes " size is out of bounds")) result }
     ensures forward { Reaches reader.old reader.new }
 {
     let start = reader.clone();
@@ -69,7 +70,7 @@ pub fn read_many<'a, T: FromReader<'a>>(
 fn counted_items<'a, T: FromReader<'a>>(
     alloc: Global,
     limit: usize,
-    desc: &str,
+    desc: Words,
     reader: &mut BinaryReader<'a>,
 ) -> Result<Vec<T>>
     ensures answer { Gives (λ v. map T.view v.items) result reader.new
@@ -77,7 +78,7 @@ fn counted_items<'a, T: FromReader<'a>>(
     ensures memory { MemoryOnlyIf (counted_room T.takes_memory (T.decoder reader.old.settings)
         (size_within limit reader.old)) result }
     ensures message { SaysIf (is_above limit (u32_decoder reader.old))
-        (IsWrittenMessage (desc.now ++ codes " size is out of bounds")) result }
+        (IsWrittenMessage (words_text desc ++ codes " size is out of bounds")) result }
     ensures forward { Reaches reader.old reader.new }
 {
     let count = reader.read_size(limit, desc)?;

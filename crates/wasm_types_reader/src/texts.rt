@@ -1,5 +1,6 @@
 //! Texts (WebAssembly 3.0, binary format, names).
 
+ghost use Rattle.wasm_types_decoding.specs.Words.{words_text};
 ghost use Rattle.std.specs.Prelude.{◌≡◌, ◌-◌, codes};
 ghost use Rattle.wasm_types_decoding.specs.Decoder.{Reaches, bytes};
 ghost use Rattle.wasm_types_decoding.specs.Leb.{u32 as u32_decoder};
@@ -9,7 +10,7 @@ ghost use Rattle.wasm_types_decoding.specs.ErrorText.{message_of};
 ghost use Rattle.wasm_types_reader.specs.Reading.{Answers, Gives, NeedsNoMemory, is_read};
 ghost use Rattle.wasm_types_reader.specs.Messages.{is_above, is_whole, is_whole_within, SaysIf};
 
-use crate::{BinaryReader, Error, Result};
+use crate::{BinaryReader, Error, Result, Words};
 use std::str;
 
 impl<'a> BinaryReader<'a> {
@@ -88,7 +89,7 @@ impl<'a> BinaryReader<'a> {
         let limit = self.limits().string_bytes as usize;
         let count = self.read_var_u32()? as usize;
         if count > limit {
-            return Err(self.string_error("string size out of bounds"));
+            return Err(self.string_error(Words::StringSizeOutOfBounds));
         }
         self.text(count)
     }
@@ -116,7 +117,7 @@ impl<'a> BinaryReader<'a> {
         let limit = self.limits().string_bytes as usize;
         let count = self.read_var_u32()? as usize;
         if count > limit {
-            return Err(self.string_error("string size out of bounds"));
+            return Err(self.string_error(Words::StringSizeOutOfBounds));
         }
         let _ = self.read_bytes(count)?;
         Ok(())
@@ -133,16 +134,16 @@ impl<'a> BinaryReader<'a> {
         let bytes = self.read_bytes(n)?;
         match str::from_utf8(bytes) {
             Ok(text) => Ok(text),
-            Err(_) => Err(self.string_error("malformed UTF-8 encoding")),
+            Err(_) => Err(self.string_error(Words::MalformedUTF8Encoding)),
         }
     }
 
     /// A fault of the byte that was read last.
     #[cold]
-    fn string_error(&self, message: &str) -> Error
+    fn string_error(&self, message: Words) -> Error
         ensures kind { result.kind ≡ Other }
         ensures offset { result.offset ≡ self.now.place - 1 }
-        ensures message { result.message ≡ message_of message.now }
+        ensures message { result.message ≡ message_of (words_text message) }
     {
         Error::new(message, self.original_position().saturating_sub(1))
     }

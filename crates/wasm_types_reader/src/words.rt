@@ -6,7 +6,7 @@ ghost use Rattle.wasm_types_decoding.specs.Text.{word};
 ghost use Rattle.wasm_types_reader.specs.Reading.{Answers, Gives, NeedsNoMemory};
 ghost use Rattle.wasm_types_reader.specs.Words.{u7};
 
-use crate::{BinaryReader, Error, Result};
+use crate::{BinaryReader, Error, Result, Words};
 
 /// The bits of a float of 32 bits, as they stand in the input.
 #[derive(Clone, Copy, Debug, PartialEq, Eq, Hash)]
@@ -64,7 +64,7 @@ impl<'a> BinaryReader<'a> {
         let mut ahead = self.clone();
         let b = ahead.read_u8()?;
         if b >= 0x80 {
-            return Err(Error::new("invalid u7", self.original_position()));
+            return Err(Error::new(Words::InvalidU7, self.original_position()));
         }
         *self = ahead;
         Ok(b)

@@ -35,9 +35,9 @@ with_type None f = refuse Other 1
 unfoldable pub abstract_heap_type : Decoder AbstractHeapType
 abstract_heap_type = byte >>= λ b. with_type (type_of_byte b) (λ ty. ty)
 
--- a type of the module, by an index that begins at this offset
+-- a type of the module, by an index that begins at this offset: one past the limit is refused after it
 abbrev pub concrete_from : ℕ → ℤ → Decoder HeapType
-concrete_from place (pos n) = if nat_lt n 0x10_0000 then pure (Concrete (Module n)) else refuse_at Other place
+concrete_from place (pos n) = if nat_lt n 0x10_0000 then pure (Concrete (Module n)) else refuse Other 0
 concrete_from place (negsuc n) = refuse_at Other place
 
 -- exactly a type of the module, by an index that begins at this offset

@@ -27,7 +27,7 @@ unfolding abstract_heap_type
 lawful-abstract_heap_type = lawful->>= byte _ lawful-byte (λ b. lawful-with_type (type_of_byte b) (λ ty. ty))
 
 lawful-concrete_from : (p : ℕ) (v : ℤ) → IsLawful (concrete_from p v)
-lawful-concrete_from p (pos n) = lawful-if (nat_lt n 0x10_0000) _ _ (lawful-pure (Concrete (Module n))) (lawful-refuse_at Other p)
+lawful-concrete_from p (pos n) = lawful-if (nat_lt n 0x10_0000) _ _ (lawful-pure (Concrete (Module n))) (lawful-refuse Other 0)
 lawful-concrete_from p (negsuc n) = lawful-refuse_at Other p
 
 lawful-concrete_heap_type : IsLawful concrete_heap_type

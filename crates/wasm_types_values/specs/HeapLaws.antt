@@ -145,7 +145,7 @@ decides-concrete_from p (pos n) = decides-if (ltb n 0x10_0000) _ _ _
     (λ t. let small : n < 0x10_0000 = ltb-true _ _ t in
     decides-pure (Concrete (Module n)) _ ((n, refl, small, refl), refl) (λ h text q. (q.0.3 ∙ ap (λ (m : ℕ). Concrete (Module m)) (sym (pos_is n q.0.0 q.0.1)), q.1)))
     (λ f. let large : 0x10_0000 ≤ n = ltb-false _ _ f in
-    decides-refuse_at Other p _ (λ h text q. omega (arith, pos_is n q.0.0 q.0.1, q.0.2)))
+    decides-refuse Other 0 _ (λ h text q. omega (arith, pos_is n q.0.0 q.0.1, q.0.2)))
 decides-concrete_from p (negsuc n) = decides-refuse_at Other p _ (λ h text q. let no : negsuc n ≡ pos q.0.0 = q.0.1 in cc)
 
 decides-exact_from : (p n : ℕ) → Decides (exact_from p n) (λ h text. ByExact n h × (text ≡ []))

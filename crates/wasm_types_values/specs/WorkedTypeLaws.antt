@@ -61,7 +61,7 @@ abstract_bytes = (refl, refl, refl, refl, refl, refl, refl, refl, refl, refl, re
 -- an index is a number with a sign, of one byte or more, below 2^20; behind 0x62 it has no sign
 abbrev pub IndicesAreRead : Type 0
 IndicesAreRead = IsRead (0x00 ∷ []) (Concrete (Module 0)) 1 × IsRead (0x80 ∷ 0x00 ∷ []) (Concrete (Module 0)) 2 × IsRead (0xff ∷ 0xff ∷ 0x3f ∷ []) (Concrete (Module 1048575)) 3
-    × IsNoHeapType (0x80 ∷ 0x80 ∷ 0xc0 ∷ 0x00 ∷ []) 0 × IsNoHeapType (0xf0 ∷ 0x7f ∷ []) 0 × IsNoHeapType (0xff ∷ 0xff ∷ 0xff ∷ 0xff ∷ 0x0f ∷ []) 0
+    × IsNoHeapType (0x80 ∷ 0x80 ∷ 0xc0 ∷ 0x00 ∷ []) 4 × IsNoHeapType (0xf0 ∷ 0x7f ∷ []) 0 × IsNoHeapType (0xff ∷ 0xff ∷ 0xff ∷ 0xff ∷ 0x0f ∷ []) 5
     × IsRead (0x62 ∷ 0xff ∷ 0xff ∷ 0x3f ∷ []) (Exact (Module 1048575)) 4 × IsNoHeapType (0x62 ∷ 0x80 ∷ 0x80 ∷ 0xc0 ∷ 0x00 ∷ []) 1 × (heap_type (start_of []) ≡ Short 0 1)
 
 pub index_bytes : IndicesAreRead
@@ -77,7 +77,7 @@ abbrev pub ReferencesAreRead : Type 0
 ReferencesAreRead = IsReference (0x70 ∷ []) true (Abstract false heap.Func) 1 × IsReference (0x63 ∷ 0x70 ∷ []) true (Abstract false heap.Func) 2 ×
     IsReference (0x64 ∷ 0x70 ∷ []) false (Abstract false heap.Func) 2
     × IsReference (0x65 ∷ 0x6e ∷ []) true (Abstract true heap.Any) 2 × IsReference (0x64 ∷ 0xff ∷ 0xff ∷ 0x3f ∷ []) false (Concrete (Module 1048575)) 4
-    × (reference_type (start_of (0x64 ∷ 0x80 ∷ 0x80 ∷ 0xc0 ∷ 0x00 ∷ [])) ≡ Fault Other 1) × (reference_type (start_of (0x62 ∷ [])) ≡ Fault Other 0) ×
+    × (reference_type (start_of (0x64 ∷ 0x80 ∷ 0x80 ∷ 0xc0 ∷ 0x00 ∷ [])) ≡ Fault Other 5) × (reference_type (start_of (0x62 ∷ [])) ≡ Fault Other 0) ×
     (reference_type (start_of (0x63 ∷ [])) ≡ Short 1 1)
 
 pub reference_bytes : ReferencesAreRead

@@ -1,4 +1,7 @@
 //! Heap types: what a reference may refer to.
+ghost use Rattle.wasm_types_decoding.specs.Words.{words_text};
+
+use wasm_types_reader::{TypeWords, Words};
 use wasm_types_trees::UnpackedIndex;
 
 /// An abstract heap type (WebAssembly 3.0, structure, heap types; `Cont` and `NoCont` by the proposal for stack
@@ -169,90 +172,90 @@ impl AbstractHeapType {
     }
 
     // The short word of a nullable reference to it.
-    pub(crate) const fn short_word(self) -> &'static str
-        ensures { result.now ≡ short_text self }
+    pub(crate) const fn short_word(self) -> Words
+        ensures { words_text result ≡ short_text self }
     {
         match self {
-            AbstractHeapType::Func => "funcref",
-            AbstractHeapType::Extern => "externref",
-            AbstractHeapType::Any => "anyref",
-            AbstractHeapType::None => "nullref",
-            AbstractHeapType::NoExtern => "nullexternref",
-            AbstractHeapType::NoFunc => "nullfuncref",
-            AbstractHeapType::Eq => "eqref",
-            AbstractHeapType::Struct => "structref",
-            AbstractHeapType::Array => "arrayref",
-            AbstractHeapType::I31 => "i31ref",
-            AbstractHeapType::Exn => "exnref",
-            AbstractHeapType::NoExn => "nullexnref",
-            AbstractHeapType::Cont => "contref",
-            AbstractHeapType::NoCont => "nullcontref",
+            AbstractHeapType::Func => Words::Type(TypeWords::Funcref),
+            AbstractHeapType::Extern => Words::Type(TypeWords::Externref),
+            AbstractHeapType::Any => Words::Type(TypeWords::Anyref),
+            AbstractHeapType::None => Words::Type(TypeWords::Nullref),
+            AbstractHeapType::NoExtern => Words::Type(TypeWords::Nullexternref),
+            AbstractHeapType::NoFunc => Words::Type(TypeWords::Nullfuncref),
+            AbstractHeapType::Eq => Words::Type(TypeWords::Eqref),
+            AbstractHeapType::Struct => Words::Type(TypeWords::Structref),
+            AbstractHeapType::Array => Words::Type(TypeWords::Arrayref),
+            AbstractHeapType::I31 => Words::Type(TypeWords::I31ref),
+            AbstractHeapType::Exn => Words::Type(TypeWords::Exnref),
+            AbstractHeapType::NoExn => Words::Type(TypeWords::Nullexnref),
+            AbstractHeapType::Cont => Words::Type(TypeWords::Contref),
+            AbstractHeapType::NoCont => Words::Type(TypeWords::Nullcontref),
         }
     }
 
     // How a reference to it is written that is not null.
-    pub(crate) const fn non_null_word(self) -> &'static str
-        ensures { result.now ≡ non_null_text self }
+    pub(crate) const fn non_null_word(self) -> Words
+        ensures { words_text result ≡ non_null_text self }
     {
         match self {
-            AbstractHeapType::Func => "(ref func)",
-            AbstractHeapType::Extern => "(ref extern)",
-            AbstractHeapType::Any => "(ref any)",
-            AbstractHeapType::None => "(ref none)",
-            AbstractHeapType::NoExtern => "(ref noextern)",
-            AbstractHeapType::NoFunc => "(ref nofunc)",
-            AbstractHeapType::Eq => "(ref eq)",
-            AbstractHeapType::Struct => "(ref struct)",
-            AbstractHeapType::Array => "(ref array)",
-            AbstractHeapType::I31 => "(ref i31)",
-            AbstractHeapType::Exn => "(ref exn)",
-            AbstractHeapType::NoExn => "(ref noexn)",
-            AbstractHeapType::Cont => "(ref cont)",
-            AbstractHeapType::NoCont => "(ref nocont)",
+            AbstractHeapType::Func => Words::Type(TypeWords::RefFunc),
+            AbstractHeapType::Extern => Words::Type(TypeWords::RefExtern),
+            AbstractHeapType::Any => Words::Type(TypeWords::RefAny),
+            AbstractHeapType::None => Words::Type(TypeWords::RefNone),
+            AbstractHeapType::NoExtern => Words::Type(TypeWords::RefNoextern),
+            AbstractHeapType::NoFunc => Words::Type(TypeWords::RefNofunc),
+            AbstractHeapType::Eq => Words::Type(TypeWords::RefEq),
+            AbstractHeapType::Struct => Words::Type(TypeWords::RefStruct),
+            AbstractHeapType::Array => Words::Type(TypeWords::RefArray),
+            AbstractHeapType::I31 => Words::Type(TypeWords::RefI31),
+            AbstractHeapType::Exn => Words::Type(TypeWords::RefExn),
+            AbstractHeapType::NoExn => Words::Type(TypeWords::RefNoexn),
+            AbstractHeapType::Cont => Words::Type(TypeWords::RefCont),
+            AbstractHeapType::NoCont => Words::Type(TypeWords::RefNocont),
         }
     }
 
     // How a nullable reference to its shared form is written.
-    pub(crate) const fn shared_null_word(self) -> &'static str
-        ensures { result.now ≡ shared_null_text self }
+    pub(crate) const fn shared_null_word(self) -> Words
+        ensures { words_text result ≡ shared_null_text self }
     {
         match self {
-            AbstractHeapType::Func => "(ref null (shared func))",
-            AbstractHeapType::Extern => "(ref null (shared extern))",
-            AbstractHeapType::Any => "(ref null (shared any))",
-            AbstractHeapType::None => "(ref null (shared none))",
-            AbstractHeapType::NoExtern => "(ref null (shared noextern))",
-            AbstractHeapType::NoFunc => "(ref null (shared nofunc))",
-            AbstractHeapType::Eq => "(ref null (shared eq))",
-            AbstractHeapType::Struct => "(ref null (shared struct))",
-            AbstractHeapType::Array => "(ref null (shared array))",
-            AbstractHeapType::I31 => "(ref null (shared i31))",
-            AbstractHeapType::Exn => "(ref null (shared exn))",
-            AbstractHeapType::NoExn => "(ref null (shared noexn))",
-            AbstractHeapType::Cont => "(ref null (shared cont))",
-            AbstractHeapType::NoCont => "(ref null (shared nocont))",
+            AbstractHeapType::Func => Words::Type(TypeWords::RefNullSharedFunc),
+            AbstractHeapType::Extern => Words::Type(TypeWords::RefNullSharedExtern),
+            AbstractHeapType::Any => Words::Type(TypeWords::RefNullSharedAny),
+            AbstractHeapType::None => Words::Type(TypeWords::RefNullSharedNone),
+            AbstractHeapType::NoExtern => Words::Type(TypeWords::RefNullSharedNoextern),
+            AbstractHeapType::NoFunc => Words::Type(TypeWords::RefNullSharedNofunc),
+            AbstractHeapType::Eq => Words::Type(TypeWords::RefNullSharedEq),
+            AbstractHeapType::Struct => Words::Type(TypeWords::RefNullSharedStruct),
+            AbstractHeapType::Array => Words::Type(TypeWords::RefNullSharedArray),
+            AbstractHeapType::I31 => Words::Type(TypeWords::RefNullSharedI31),
+            AbstractHeapType::Exn => Words::Type(TypeWords::RefNullSharedExn),
+            AbstractHeapType::NoExn => Words::Type(TypeWords::RefNullSharedNoexn),
+            AbstractHeapType::Cont => Words::Type(TypeWords::RefNullSharedCont),
+            AbstractHeapType::NoCont => Words::Type(TypeWords::RefNullSharedNocont),
         }
     }
 
     // How a reference to its shared form is written that is not null.
-    pub(crate) const fn shared_word(self) -> &'static str
-        ensures { result.now ≡ shared_text self }
+    pub(crate) const fn shared_word(self) -> Words
+        ensures { words_text result ≡ shared_text self }
     {
         match self {
-            AbstractHeapType::Func => "(ref (shared func))",
-            AbstractHeapType::Extern => "(ref (shared extern))",
-            AbstractHeapType::Any => "(ref (shared any))",
-            AbstractHeapType::None => "(ref (shared none))",
-            AbstractHeapType::NoExtern => "(ref (shared noextern))",
-            AbstractHeapType::NoFunc => "(ref (shared nofunc))",
-            AbstractHeapType::Eq => "(ref (shared eq))",
-            AbstractHeapType::Struct => "(ref (shared struct))",
-            AbstractHeapType::Array => "(ref (shared array))",
-            AbstractHeapType::I31 => "(ref (shared i31))",
-            AbstractHeapType::Exn => "(ref (shared exn))",
-            AbstractHeapType::NoExn => "(ref (shared noexn))",
-            AbstractHeapType::Cont => "(ref (shared cont))",
-            AbstractHeapType::NoCont => "(ref (shared nocont))",
+            AbstractHeapType::Func => Words::Type(TypeWords::RefSharedFunc),
+            AbstractHeapType::Extern => Words::Type(TypeWords::RefSharedExtern),
+            AbstractHeapType::Any => Words::Type(TypeWords::RefSharedAny),
+            AbstractHeapType::None => Words::Type(TypeWords::RefSharedNone),
+            AbstractHeapType::NoExtern => Words::Type(TypeWords::RefSharedNoextern),
+            AbstractHeapType::NoFunc => Words::Type(TypeWords::RefSharedNofunc),
+            AbstractHeapType::Eq => Words::Type(TypeWords::RefSharedEq),
+            AbstractHeapType::Struct => Words::Type(TypeWords::RefSharedStruct),
+            AbstractHeapType::Array => Words::Type(TypeWords::RefSharedArray),
+            AbstractHeapType::I31 => Words::Type(TypeWords::RefSharedI31),
+            AbstractHeapType::Exn => Words::Type(TypeWords::RefSharedExn),
+            AbstractHeapType::NoExn => Words::Type(TypeWords::RefSharedNoexn),
+            AbstractHeapType::Cont => Words::Type(TypeWords::RefSharedCont),
+            AbstractHeapType::NoCont => Words::Type(TypeWords::RefSharedNocont),
         }
     }
 }

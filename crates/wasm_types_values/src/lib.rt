@@ -19,6 +19,7 @@ pub use reference::RefType;
 pub use value::{StorageType, ValType};
 pub use wasm_types_reader::{
     BinaryReader, BinaryReaderError, BinaryReaderIter, Error, ErrorKind, FromReader, Ieee32,
-    Ieee64, Limits, Result, WasmFeatures, WasmFeaturesInflated, limits, read_list, read_many,
+    Ieee64, Limits, Message, ModuleWords, Named, OperatorWords, Result, Text, TypeWords,
+    WasmFeatures, WasmFeaturesInflated, Words, limits, read_list, read_many,
 };
 pub use wasm_types_trees::{CoreTypeId, PackedIndex, UnpackedIndex};

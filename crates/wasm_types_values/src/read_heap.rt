@@ -3,11 +3,11 @@ ghost use Rattle.std.specs.Prelude.{◌≡◌, ◌<◌};
 ghost use Rattle.wasm_types_reader.specs.decoding.Decoder.{Reaches};
 ghost use Rattle.wasm_types_reader.specs.decoding.declared.error.ErrorKind.TheVariants.{Other};
 ghost use Rattle.wasm_types_reader.specs.Reading.{Gives, NeedsNoMemory};
-ghost use Rattle.wasm_types_values.specs.Decode.{type_of_byte, concrete_heap_type, exact_heap_type};
+ghost use Rattle.wasm_types_values.specs.Decode.{type_of_byte, abstract_heap_type, heap_type, concrete_heap_type, exact_heap_type};
 
 use crate::heap::{AbstractHeapType, HeapType};
 use std::alloc::Global;
-use wasm_types_reader::{BinaryReader, Error, FromReader, Result};
+use wasm_types_reader::{BinaryReader, Error, FromReader, Result, Words};
 use wasm_types_trees::UnpackedIndex;
 
 // An index of a type is below this number.
@@ -64,11 +64,24 @@ impl<'a> FromReader<'a> for AbstractHeapType {
         ensures forward { Reaches reader.old reader.new }
         ensures no_memory { NeedsNoMemory result }
     {
-        let byte = reader.read_u8()?;
-        match abstract_type_of(byte) {
-            Some(ty) => Ok(ty),
-            None => Err(Error::new("invalid abstract heap type", reader.original_position() - 1)),
-        }
+        read_abstract(Words::InvalidAbstractHeapType, reader)
+    }
+}
+
+// An abstract type behind the mark of a shared one. Another byte is refused with this message.
+#[tactic(auto, using(wasm_types_reader::specs::Laws::reaches_self, wasm_types_reader::specs::Laws::reaches_then), unfolding(crate::specs::Decode::abstract_heap_type))]
+pub(crate) fn read_abstract<'a>(
+    message: Words,
+    reader: &mut BinaryReader<'a>,
+) -> Result<AbstractHeapType>
+    ensures answer { Gives (λ ty. ty) result reader.new (abstract_heap_type reader.old) }
+    ensures forward { Reaches reader.old reader.new }
+    ensures no_memory { NeedsNoMemory result }
+{
+    let byte = reader.read_u8()?;
+    match abstract_type_of(byte) {
+        Some(ty) => Ok(ty),
+        None => Err(Error::new(message, reader.original_position() - 1)),
     }
 }
 
@@ -78,12 +91,13 @@ pub fn index_error(offset: u64) -> Error
     ensures kind { result.kind ≡ Other }
     ensures offset { result.offset ≡ offset }
 {
-    Error::new("type index greater than implementation limits", offset)
+    Error::new(Words::TypeIndexGreaterThanImplementationLimits, offset)
 }
 
-// A heap type that is an index in a number with a sign.
+// A heap type that is an index in a number with a sign. A negative one is refused where it begins, with this message, and one past the limit
+// behind it.
 #[tactic(auto, using(wasm_types_reader::specs::Laws::reaches_self, wasm_types_reader::specs::Laws::reaches_then), unfolding(crate::specs::Decode::concrete_heap_type))]
-fn read_concrete<'a>(reader: &mut BinaryReader<'a>) -> Result<HeapType>
+fn read_concrete<'a>(message: Words, reader: &mut BinaryReader<'a>) -> Result<HeapType>
     ensures answer { Gives (λ h. h) result reader.new (concrete_heap_type reader.old) }
     ensures no_memory { NeedsNoMemory result }
     ensures forward { Reaches reader.old reader.new }
@@ -91,10 +105,10 @@ fn read_concrete<'a>(reader: &mut BinaryReader<'a>) -> Result<HeapType>
     let offset = reader.original_position();
     let index = reader.read_var_s33()?;
     if index < 0 {
-        return Err(Error::new("invalid heap type", offset));
+        return Err(Error::new(message, offset));
     }
     if index >= INDEX_LIMIT as i64 {
-        return Err(index_error(offset));
+        return Err(index_error(reader.original_position()));
     }
     Ok(HeapType::Concrete(UnpackedIndex::Module(index as u32)))
 }
@@ -136,27 +150,44 @@ impl<'a> FromReader<'a> for HeapType {
 
     ghost exact = { λ z. decides-heap_type };
 
-    #[tactic(auto, using(wasm_types_reader::specs::Laws::reaches_self, wasm_types_reader::specs::Laws::reaches_then), unfolding(crate::specs::Decode::heap_type, crate::specs::Decode::heap_type_after))]
-    fn from_reader(alloc: Global, reader: &mut BinaryReader<'a>) -> Result<HeapType>
+    fn from_reader(_alloc: Global, reader: &mut BinaryReader<'a>) -> Result<HeapType>
         ensures answer { Gives (λ ty. ty) result reader.new (heap_type reader.old) }
         ensures forward { Reaches reader.old reader.new }
         ensures no_memory { NeedsNoMemory result }
     {
-        let first = reader.peek()?;
-        if first < 0x40 || first > 0x7f {
-            return read_concrete(reader);
-        }
-        let byte = reader.read_u8()?;
-        if byte == 0x65 {
-            let ty = AbstractHeapType::from_reader(alloc, reader)?;
-            return Ok(HeapType::Abstract { shared: true, ty });
-        }
-        if byte == 0x62 {
-            return read_exact(reader);
-        }
-        match abstract_type_of(byte) {
-            Some(ty) => Ok(HeapType::Abstract { shared: false, ty }),
-            None => Err(Error::new("invalid heap type", reader.original_position() - 1)),
-        }
+        read_heap_type(
+            Words::InvalidHeapType,
+            Words::InvalidAbstractHeapType,
+            reader,
+        )
+    }
+}
+
+// A heap type. What is none is refused with the first message, and behind the mark of a shared one with the second.
+#[tactic(auto, using(wasm_types_reader::specs::Laws::reaches_self, wasm_types_reader::specs::Laws::reaches_then), unfolding(crate::specs::Decode::heap_type, crate::specs::Decode::heap_type_after))]
+pub(crate) fn read_heap_type<'a>(
+    message: Words,
+    shared_message: Words,
+    reader: &mut BinaryReader<'a>,
+) -> Result<HeapType>
+    ensures answer { Gives (λ ty. ty) result reader.new (heap_type reader.old) }
+    ensures forward { Reaches reader.old reader.new }
+    ensures no_memory { NeedsNoMemory result }
+{
+    let first = reader.peek()?;
+    if first < 0x40 || first > 0x7f {
+        return read_concrete(message, reader);
+    }
+    let byte = reader.read_u8()?;
+    if byte == 0x65 {
+        let ty = read_abstract(shared_message, reader)?;
+        return Ok(HeapType::Abstract { shared: true, ty });
+    }
+    if byte == 0x62 {
+        return read_exact(reader);
+    }
+    match abstract_type_of(byte) {
+        Some(ty) => Ok(HeapType::Abstract { shared: false, ty }),
+        None => Err(Error::new(message, reader.original_position() - 1)),
     }
 }

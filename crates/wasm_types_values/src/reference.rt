@@ -1,4 +1,5 @@
 //! Reference types, in 25 bits.
+ghost use Rattle.wasm_types_decoding.specs.Words.{words_text};
 ghost use Rattle.std.specs.Prelude.{◌≡◌, ◌*◌};
 ghost use Rattle.wasm_types_values.specs.Bits.{bit};
 
@@ -7,6 +8,7 @@ use std::cmp::Ordering;
 use std::fmt::{self, Display};
 use std::hash::{Hash, Hasher};
 use std::marker::Model;
+use wasm_types_reader::{TypeWords, Words};
 use wasm_types_trees::PackedIndex;
 
 // The bits above the 22 of an index, and that of a shared abstract type.
@@ -372,6 +374,13 @@ impl RefType {
     pub const fn wat(&self) -> &'static str
         ensures { result.now ≡ wat_text self.now }
     {
+        self.words().text()
+    }
+
+    /// How it is written, with `$type` for an index.
+    pub const fn words(&self) -> Words
+        ensures { words_text result ≡ wat_text self.now }
+    {
         let nullable = self.is_nullable();
         match self.heap_type() {
             HeapType::Abstract { shared, ty } => {
@@ -390,14 +399,14 @@ impl RefType {
                 }
             }
             HeapType::Concrete(_) => if nullable {
-                "(ref null $type)"
+                Words::Type(TypeWords::RefNullType)
             } else {
-                "(ref $type)"
+                Words::Type(TypeWords::RefType)
             },
             HeapType::Exact(_) => if nullable {
-                "(ref null (exact $type))"
+                Words::Type(TypeWords::RefNullExactType)
             } else {
-                "(ref (exact $type))"
+                Words::Type(TypeWords::RefExactType)
             },
         }
     }

@@ -24,11 +24,11 @@ impl ValType {
             return Ok(());
         };
         let index = f(index)?;
-        *self = ValType::Ref(if ty.is_exact_type_ref() {
-            RefType::exact(ty.is_nullable(), index)
-        } else {
-            RefType::concrete(ty.is_nullable(), index)
-        });
+        if ty.is_exact_type_ref() {
+            *self = ValType::Ref(RefType::exact(ty.is_nullable(), index));
+            return Ok(());
+        }
+        *self = ValType::Ref(RefType::concrete(ty.is_nullable(), index));
         Ok(())
     }
 }

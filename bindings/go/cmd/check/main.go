@@ -1,6 +1,6 @@
 // Says of each file whether it is a valid WebAssembly module, by lines as those of wasm-check; the file - is standard input. With --vectors
 // operators on vectors are judged like all others, and after --entries it says what each imports and exports. Ends with 0 if all are valid, 1
-// if some file is not, and 2 if there is no verdict on some file, or no file.
+// if some file is not, and 2 if there is no verdict on some file, or no file. At a terminal it says below a refusal what may help.
 package main
 
 import (
@@ -9,7 +9,9 @@ import (
 	"fmt"
 	"io"
 	"os"
+	"strconv"
 	"strings"
+	"unicode/utf8"
 
 	"durskeyl"
 )
@@ -43,17 +45,23 @@ func list(out io.Writer, settings *durskeyl.Settings, module []byte) error {
 
 // read gives the bytes of a file.
 func read(name string) ([]byte, error) {
+	if !utf8.ValidString(name) {
+		return nil, errors.New("a name has to be UTF-8")
+	}
 	if name == "-" {
+		if isLost(0) {
+			return nil, errors.New("standard input is closed")
+		}
 		return io.ReadAll(os.Stdin)
 	}
 	return os.ReadFile(name)
 }
 
-// isLost says whether standard output was closed. Newer runtimes of Go open /dev/null in its place, to read and write, so that lines would be
-// lost without a word.
-func isLost() bool {
-	to, err := os.Readlink("/proc/self/fd/1")
-	how, _ := os.ReadFile("/proc/self/fdinfo/1")
+// isLost says whether this standard stream was closed. Newer runtimes of Go open /dev/null in its place, to read and write, so that lines would
+// be lost, and an input would be empty, without a word.
+func isLost(stream int) bool {
+	to, err := os.Readlink("/proc/self/fd/" + strconv.Itoa(stream))
+	how, _ := os.ReadFile("/proc/self/fdinfo/" + strconv.Itoa(stream))
 	for _, line := range strings.Split(string(how), "\n") {
 		if strings.HasPrefix(line, "flags:") && strings.HasSuffix(line, "2") {
 			return err == nil && to == os.DevNull
@@ -63,7 +71,7 @@ func isLost() bool {
 }
 
 // check writes the lines of a file, and gives its status.
-func check(out io.Writer, settings *durskeyl.Settings, name string, lists bool) int {
+func check(out *bufio.Writer, settings *durskeyl.Settings, name string, lists bool) int {
 	shown := durskeyl.Shown(name)
 	module, err := read(name)
 	switch {
@@ -81,15 +89,31 @@ func check(out io.Writer, settings *durskeyl.Settings, name string, lists bool) 
 		}
 		return 0
 	case errors.As(err, &fault) && fault.IsVerdict():
-		fmt.Fprintf(out, "%s: %v\n", shown, fault)
+		fmt.Fprintf(out, "%s: %s\n", shown, fault.Line())
+		if how, err := os.Stderr.Stat(); fault.Hint() != "" && err == nil && how.Mode()&os.ModeCharDevice != 0 {
+			out.Flush()
+			fmt.Fprintln(os.Stderr, "  --vectors judges operators on vectors")
+		}
 		return 1
 	}
 	fmt.Fprintf(os.Stderr, "check: %s: %s\n", shown, durskeyl.Shown(err.Error()))
 	return 2
 }
 
+const usage = "usage: check [--vectors] [--entries] FILE..."
+
 func main() {
 	words := os.Args[1:]
+	if len(words) > 0 && (words[0] == "--help" || words[0] == "--version") {
+		text := usage
+		if words[0] == "--version" {
+			text = "durskeyl " + durskeyl.VersionText()
+		}
+		if _, err := fmt.Println(text); err != nil {
+			os.Exit(2)
+		}
+		return
+	}
 	settings := durskeyl.DefaultSettings()
 	if len(words) > 0 && words[0] == "--vectors" {
 		words = words[1:]
@@ -100,10 +124,10 @@ func main() {
 		words = words[1:]
 	}
 	if len(words) == 0 {
-		fmt.Fprintln(os.Stderr, "usage: check [--vectors] [--entries] FILE...")
+		fmt.Fprintln(os.Stderr, usage)
 		os.Exit(2)
 	}
-	if isLost() {
+	if isLost(1) {
 		fmt.Fprintln(os.Stderr, "check: cannot write: standard output is closed")
 		os.Exit(2)
 	}

@@ -17,6 +17,9 @@ use Rattle.wasm_operator_validator_soundness.specs.runs.Progress.{GlobalsHaveVal
 use Rattle.wasm_operator_validator_store.specs.Stores.{Store}
 use Rattle.wasm_operator_validator_store.specs.ValidStores.{Knows, HasState, StoreFits}
 use Rattle.wasm_operator_validator_store.specs.Soundness.{IsSoundOver}
+use Rattle.wasm_operator_validator_store.specs.Determined.{RunsAreDetermined}
+use Rattle.wasm_operator_validator_store.specs.Exact.{BytesAreKept, MemoriesAreKept}
+use Rattle.wasm_operator_validator_store.specs.Pinned.{IsPinnedOver}
 use Rattle.wasm_operator_validator_store.specs.Instantiation.{imports_of, IsFirstStore}
 use Rattle.wasm_module_validator.specs.soundness.Modules.{program_of, AreHosts}
 use Rattle.wasm_module_validator.specs.soundness.Constants.{EachConstantFits}
@@ -29,10 +32,12 @@ MayStart p x = (f : Function) × (slice_get p.functions x ≡ Some f)
 
 -- Whatever function of the module is started, with arguments that fit its parameters, and whatever is answered, it is never stuck; what
 -- it returns or throws fits, and at each place on the way each value fits what the rules know of it there. Over any store in which all
--- fits, what is read is what was written last, each step is answered, and all fits again on the way. So is each step by types alone, if no
--- global is of a type without values. The function that starts the module takes and gives nothing. Each constant gives what fits its place.
--- Whatever the host gives for imports, if all fits in it, all fits in the first store. The module is a valid program, and whichever
--- derivations of its bodies are given, at each place on the way all fits what they say there.
+-- fits, what is read is what was written last, each step is answered, and all fits again on the way. There each step comes to one state and
+-- one store, unless its operator leaves something open, and two such runs come to the same; what traps is known beforehand; numbers stay within
+-- their widths; and what is read from a memory is what was written to it. Each step is answered by types alone too, if no global is of a
+-- type without values. The function that starts the module takes and gives nothing. Each constant gives what fits its place. Whatever the
+-- host gives for imports, if all fits in it, all fits in the first store. The module is a valid program, and whichever derivations of its
+-- bodies are given, at each place on the way all fits what they say there.
 pub record RunsFrom (z : Settings) (m : ModuleTree) (hosts : List TypeTree) : Type 0 where
   pub functions : (s : State) (results : List ValueType) → IsStarted (program_of z m hosts) s results
       → IsNeverStuck (program_of z m hosts) results s
@@ -42,6 +47,11 @@ pub record RunsFrom (z : Settings) (m : ModuleTree) (hosts : List TypeTree) : Ty
       → IsStarted (program_of z m hosts) s results → IsAlwaysAnswered (program_of z m hosts) s
   pub stores : (s : State) (results : List ValueType) (u : Store) → IsStarted (program_of z m hosts) s results
       → StoreFits (program_of z m hosts) u → HasState (Knows u) s → IsSoundOver (program_of z m hosts) results u s
+  pub pinned : (s : State) (results : List ValueType) (u : Store) → IsStarted (program_of z m hosts) s results
+      → StoreFits (program_of z m hosts) u → HasState (Knows u) s → IsPinnedOver (program_of z m hosts) u s
+  pub determined : RunsAreDetermined (program_of z m hosts)
+  pub bytes : BytesAreKept
+  pub memories : MemoriesAreKept
   pub start : IfThere (MayStart (program_of z m hosts)) m.start
   pub constants : EachConstantFits z m hosts
   pub first_stores : (host u : Store) → StoreFits (imports_of (program_of z m hosts) (initials_of m)) host

@@ -8,7 +8,7 @@ ghost use Rattle.wasm_module_validator_rules.specs.Valid.{IsFunctionIndex};
 
 use wasm_operator_validator_state::WasmModuleResources;
 use wasm_operator_validator_state::blocks::function_at;
-use wasm_types::{Error, FuncType, Result};
+use wasm_types::{Error, FuncType, ModuleWords, Result, Text, Words};
 
 // The refusal of an index that is no function type's.
 #[cold]
@@ -17,13 +17,17 @@ fn no_function_type<R: WasmModuleResources>(resources: &R, type_index: u32, offs
     ensures at { result.offset ≡ offset }
 {
     if resources.sub_type_at(type_index).is_none() {
-        return Error::fmt(
-            format_args!("unknown type {type_index}: type index out of bounds"),
+        return Error::with(
+            Text::Number(Words::UnknownType, type_index, Words::TypeIndexOutOfBounds),
             offset,
         );
     }
-    Error::fmt(
-        format_args!("type index {type_index} is not a function type"),
+    Error::with(
+        Text::Number(
+            Words::Module(ModuleWords::TypeIndex),
+            type_index,
+            Words::Module(ModuleWords::IsNotAFunctionType),
+        ),
         offset,
     )
 }

@@ -10,7 +10,7 @@ ghost use Rattle.wasm_module_validator_checks.specs.externs.Refusals.{IsNeeded, 
 
 use crate::externs::sizes::{are_within, check_limits, require};
 use crate::limits::Settings;
-use wasm_types::{Error, MemoryType, Result, WasmFeatures};
+use wasm_types::{Error, MemoryType, ModuleWords, Result, Text, WasmFeatures, Words};
 
 // How many bytes a page has, by its logarithm where it is written: 1 or 65,536.
 #[tactic(auto, unfolding(crate::specs::externs::Refusals::has))]
@@ -28,7 +28,9 @@ fn check_page_size(page_size_log2: Option<u32>, settings: &Settings, offset: u64
     require(
         settings.features().custom_page_sizes(),
         WasmFeatures::CUSTOM_PAGE_SIZES,
-        "the custom page sizes proposal must be enabled to customize a memory's page size",
+        Words::Module(
+            ModuleWords::TheCustomPageSizesProposalMustBeEnabledToCustomizeAMemorySPageSize,
+        ),
         offset,
     )?;
     if logarithm == 0 {
@@ -37,7 +39,7 @@ fn check_page_size(page_size_log2: Option<u32>, settings: &Settings, offset: u64
     if logarithm == 16 {
         return Ok(65_536);
     }
-    Err(Error::new("invalid custom page size", offset))
+    Err(Error::new(Words::Module(ModuleWords::InvalidCustomPageSize), offset))
 }
 
 // The most pages that there are addresses for.
@@ -63,10 +65,7 @@ fn too_large(most: u64, page_size: u64, offset: u64) -> Error
     ensures kind { result.kind ≡ Other }
     ensures at { result.offset ≡ offset }
 {
-    Error::fmt(
-        format_args!("memory size must be at most {most:#x} {page_size}-byte pages"),
-        offset,
-    )
+    Error::with(Text::Pages(most, page_size), offset)
 }
 
 // The features of wide and of shared memories.
@@ -81,13 +80,13 @@ fn check_memory_features(ty: &MemoryType, settings: &Settings, offset: u64) -> R
     require(
         !ty.memory64 || settings.features().memory64(),
         WasmFeatures::MEMORY64,
-        "memory64 must be enabled for 64-bit memories",
+        Words::Module(ModuleWords::Memory64MustBeEnabledFor64BitMemories),
         offset,
     )?;
     require(
         !ty.shared || settings.features().threads(),
         WasmFeatures::THREADS,
-        "threads must be enabled for shared memories",
+        Words::Module(ModuleWords::ThreadsMustBeEnabledForSharedMemories),
         offset,
     )
 }
@@ -116,7 +115,10 @@ pub fn check_memory_type(ty: &MemoryType, settings: &Settings, offset: u64) -> R
         return Err(too_large(most, page_size, offset));
     }
     if ty.shared && ty.maximum.is_none() {
-        return Err(Error::new("shared memory must have maximum size", offset));
+        return Err(Error::new(
+            Words::Module(ModuleWords::SharedMemoryMustHaveMaximumSize),
+            offset,
+        ));
     }
     Ok(())
 }

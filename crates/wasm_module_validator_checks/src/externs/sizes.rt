@@ -5,7 +5,7 @@ ghost use Rattle.wasm_types.specs.decoding.Denials.{Tells};
 ghost use Rattle.wasm_types.specs.decoding.declared.error.ErrorKind.TheVariants.{Other, MissingFeature};
 ghost use Rattle.wasm_module_validator_rules.specs.Valid.{IfThere};
 
-use wasm_types::{Error, Result, WasmFeatures};
+use wasm_types::{Error, ModuleWords, Result, WasmFeatures, Words};
 
 /// Refuses a minimum above its maximum.
 ///
@@ -20,7 +20,10 @@ pub fn check_limits(initial: u64, maximum: Option<u64>, offset: u64) -> Result<(
         return Ok(());
     };
     if initial > max {
-        return Err(Error::new("size minimum must not be greater than maximum", offset));
+        return Err(Error::new(
+            Words::Module(ModuleWords::SizeMinimumMustNotBeGreaterThanMaximum),
+            offset,
+        ));
     }
     Ok(())
 }
@@ -36,7 +39,7 @@ pub(crate) fn are_within(most: u64, initial: u64, maximum: Option<u64>) -> bool
 }
 
 /// Asks for a feature that is there or not.
-pub fn require(has: bool, feature: WasmFeatures, message: &str, offset: u64) -> Result<()>
+pub fn require(has: bool, feature: WasmFeatures, message: Words, offset: u64) -> Result<()>
     ensures answer { Tells result (IsTrue has) }
     ensures refused { IfErr result (λ e. (e.kind ≡ MissingFeature feature) × (e.offset ≡ offset) × (has ≡ false)) }
 {

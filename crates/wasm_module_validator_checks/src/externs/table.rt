@@ -16,7 +16,9 @@ ghost use Rattle.wasm_module_validator_checks.specs.externs.Refusals.{IsRefusal,
 use crate::externs::sizes::{are_within, check_limits, require};
 use crate::limits::Settings;
 use wasm_operator_validator_state::{WasmModuleResources, check_value_type_features};
-use wasm_types::{Error, RefType, Result, TableType, ValType, WasmFeatures};
+use wasm_types::{
+    Error, ModuleWords, RefType, Result, TableType, Text, ValType, WasmFeatures, Words,
+};
 
 // The type of a table's elements: funcref needs no feature, and any other is a reference that the module may write.
 fn check_element_type<R: WasmModuleResources>(
@@ -56,10 +58,7 @@ fn too_large(most: u64, offset: u64) -> Error
     ensures kind { result.kind ≡ Other }
     ensures at { result.offset ≡ offset }
 {
-    Error::fmt(
-        format_args!("table size must be at most {most:#x} entries"),
-        offset,
-    )
+    Error::with(Text::Entries(most), offset)
 }
 
 // The features of wide and of shared tables.
@@ -74,13 +73,13 @@ fn check_table_features(ty: &TableType, settings: &Settings, offset: u64) -> Res
     require(
         !ty.table64 || settings.features().memory64(),
         WasmFeatures::MEMORY64,
-        "memory64 must be enabled for 64-bit tables",
+        Words::Module(ModuleWords::Memory64MustBeEnabledFor64BitTables),
         offset,
     )?;
     require(
         !ty.shared || settings.features().shared_everything_threads(),
         WasmFeatures::SHARED_EVERYTHING_THREADS,
-        "shared tables require the shared-everything-threads proposal",
+        Words::Module(ModuleWords::SharedTablesRequireTheSharedEverythingThreadsProposal),
         offset,
     )
 }
@@ -120,7 +119,10 @@ pub fn check_table_type<R: WasmModuleResources>(
         return Err(too_large(most, offset));
     }
     if ty.shared && !resources.is_shared(element_type) {
-        return Err(Error::new("shared tables must have a shared element type", offset));
+        return Err(Error::new(
+            Words::Module(ModuleWords::SharedTablesMustHaveASharedElementType),
+            offset,
+        ));
     }
     ty.element_type = element_type;
     Ok(())

@@ -10,7 +10,7 @@ use crate::externs::functions::func_type_at;
 use crate::externs::sizes::require;
 use crate::limits::Settings;
 use wasm_operator_validator_state::WasmModuleResources;
-use wasm_types::{FuncType, Result, TagType, WasmFeatures};
+use wasm_types::{FuncType, ModuleWords, Result, TagType, WasmFeatures, Words};
 
 /// The function type of a tag, which is valid: it gives nothing, unless stacks may be switched.
 ///
@@ -35,14 +35,14 @@ pub fn check_tag_type<'a, R: WasmModuleResources>(
     require(
         settings.features().exceptions(),
         WasmFeatures::EXCEPTIONS,
-        "exceptions proposal not enabled",
+        Words::Module(ModuleWords::ExceptionsProposalNotEnabled),
         offset,
     )?;
     let function = func_type_at(resources, ty.func_type_idx, offset)?;
     require(
         function.results().is_empty() || settings.features().stack_switching(),
         WasmFeatures::STACK_SWITCHING,
-        "invalid exception type: non-empty tag result type",
+        Words::InvalidExceptionTypeNonEmptyTagResultType,
         offset,
     )?;
     Ok(function)

@@ -14,7 +14,7 @@ ghost use Rattle.wasm_module_validator_checks.specs.externs.Refusals.{IsRefusal,
 use crate::externs::sizes::require;
 use crate::limits::Settings;
 use wasm_operator_validator_state::{WasmModuleResources, check_value_type_features};
-use wasm_types::{Error, GlobalType, Result, ValType, WasmFeatures};
+use wasm_types::{Error, GlobalType, ModuleWords, Result, ValType, WasmFeatures, Words};
 
 /// Refuses a value type that the features don't allow, and one that names no type of the module; else it names types by their
 /// ids. A refused one stays as it was.
@@ -88,11 +88,14 @@ pub fn check_global_type<R: WasmModuleResources>(
     require(
         !ty.shared || settings.features().shared_everything_threads(),
         WasmFeatures::SHARED_EVERYTHING_THREADS,
-        "shared globals require the shared-everything-threads proposal",
+        Words::Module(ModuleWords::SharedGlobalsRequireTheSharedEverythingThreadsProposal),
         offset,
     )?;
     if ty.shared && !is_shared(resources, content_type) {
-        return Err(Error::new("shared globals must have a shared value type", offset));
+        return Err(Error::new(
+            Words::Module(ModuleWords::SharedGlobalsMustHaveASharedValueType),
+            offset,
+        ));
     }
     ty.content_type = content_type;
     Ok(())

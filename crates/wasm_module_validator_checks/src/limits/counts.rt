@@ -4,14 +4,14 @@ ghost use Rattle.std.specs.Prelude.{◌≡◌, ◌+◌, ◌≤◌, ◌<◌, IfEr
 ghost use Rattle.wasm_types.specs.decoding.Denials.{Tells};
 ghost use Rattle.wasm_types.specs.decoding.declared.error.ErrorKind.TheVariants.{Other};
 
-use wasm_types::{Error, Result};
+use wasm_types::{Error, ModuleWords, Result, Text, Words};
 
 /// Refuses more things than the limit: so many that are there, and so many that are to come.
 ///
 /// # Errors
 ///
 /// Both together are more than `max`: an error of kind `Other`, at `offset`.
-pub fn check_max(cur_len: usize, amt_added: u32, max: u32, desc: &str, offset: u64) -> Result<()>
+pub fn check_max(cur_len: usize, amt_added: u32, max: u32, desc: Words, offset: u64) -> Result<()>
     ensures answer { Tells result (cur_len + amt_added ≤ max) }
     ensures refused { IfErr result (λ e. (e.kind ≡ Other) × (e.offset ≡ offset)) }
 {
@@ -24,14 +24,17 @@ pub fn check_max(cur_len: usize, amt_added: u32, max: u32, desc: &str, offset: u
 
 /// The refusal of more things than the limit.
 #[cold]
-pub fn too_many(max: u32, desc: &str, offset: u64) -> Error
+pub fn too_many(max: u32, desc: Words, offset: u64) -> Error
     ensures kind { result.kind ≡ Other }
     ensures at { result.offset ≡ offset }
 {
     if max == 1 {
-        return Error::fmt(format_args!("multiple {desc}"), offset);
+        return Error::with(
+            Text::Word(Words::Module(ModuleWords::Multiple), desc),
+            offset,
+        );
     }
-    Error::fmt(format_args!("{desc} count exceeds limit of {max}"), offset)
+    Error::with(Text::PastLimit(desc, max), offset)
 }
 
 /// The sum of two sizes of types, which is below the limit.
@@ -47,8 +50,12 @@ pub fn combine_type_sizes(a: u32, b: u32, limit: u32, offset: u64) -> Result<u32
     if a < limit && b < limit - a {
         return Ok(a + b);
     }
-    Err(Error::fmt(
-        format_args!("effective type size exceeds the limit of {limit}"),
+    Err(Error::with(
+        Text::Number(
+            Words::Module(ModuleWords::EffectiveTypeSizeExceedsTheLimitOf),
+            limit,
+            Words::Nothing,
+        ),
         offset,
     ))
 }

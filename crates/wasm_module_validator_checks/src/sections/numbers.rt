@@ -9,7 +9,7 @@ ghost use Rattle.wasm_module_validator_rules.specs.Valid.{IsValidStart};
 ghost use Rattle.wasm_module_validator_checks.specs.sections.Functions.{IsFunctionOf, HasFunction};
 
 use crate::externs::{Settings, WasmModuleResources, func_type_at};
-use wasm_types::{Error, FuncType, Result};
+use wasm_types::{Error, FuncType, ModuleWords, Result, Text, Words};
 
 // The refusal of an index past the end of the functions.
 #[cold]
@@ -17,8 +17,12 @@ fn unknown_function(index: u32, offset: u64) -> Error
     ensures kind { result.kind ≡ Other }
     ensures at { result.offset ≡ offset }
 {
-    Error::fmt(
-        format_args!("unknown function {index}: func index out of bounds"),
+    Error::with(
+        Text::Number(
+            Words::UnknownFunction,
+            index,
+            Words::Module(ModuleWords::FuncIndexOutOfBounds),
+        ),
         offset,
     )
 }
@@ -57,7 +61,7 @@ pub fn check_start<R: WasmModuleResources>(resources: &R, func: u32, offset: u64
         Err(error) => return Err(error),
     };
     if !function.params().is_empty() || !function.results().is_empty() {
-        return Err(Error::new("invalid start function type", offset));
+        return Err(Error::new(Words::Module(ModuleWords::InvalidStartFunctionType), offset));
     }
     Ok(())
 }
@@ -73,13 +77,13 @@ pub fn check_data_count(count: u32, settings: &Settings, offset: u64) -> Result<
 {
     if !settings.features().bulk_memory() {
         return Err(Error::new(
-            "data count section requires the bulk-memory proposal",
+            Words::Module(ModuleWords::DataCountSectionRequiresTheBulkMemoryProposal),
             offset,
         ));
     }
     if count > settings.limits().data_segments {
         return Err(Error::new(
-            "data count section specifies too many data segments",
+            Words::Module(ModuleWords::DataCountSectionSpecifiesTooManyDataSegments),
             offset,
         ));
     }

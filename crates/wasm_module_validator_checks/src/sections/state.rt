@@ -5,7 +5,7 @@ ghost use Rattle.wasm_types.specs.decoding.Denials.{Tells};
 ghost use Rattle.wasm_types.specs.decoding.declared.error.ErrorKind.TheVariants.{Other};
 ghost use Rattle.wasm_module_validator_checks.specs.sections.Turns.{is_in_turn, after};
 
-use wasm_types::{Error, Result};
+use wasm_types::{Error, ModuleWords, Result, Words};
 
 /// Where a validator is in a module.
 #[derive(Clone, Copy, Debug, PartialEq, Eq)]
@@ -93,13 +93,25 @@ fn out_of_turn(state: State, call: Call, offset: u64) -> Error
     ensures at { result.offset ≡ offset }
 {
     if matches!(call, Call::Header) {
-        return Error::new("wasm version header out of order", offset);
+        return Error::new(
+            Words::Module(ModuleWords::WasmVersionHeaderOutOfOrder),
+            offset,
+        );
     }
     if matches!(state, State::Unparsed) {
-        return Error::new("unexpected section before header was parsed", offset);
+        return Error::new(
+            Words::Module(ModuleWords::UnexpectedSectionBeforeHeaderWasParsed),
+            offset,
+        );
     }
     if matches!(state, State::End) {
-        return Error::new("unexpected section after parsing has completed", offset);
+        return Error::new(
+            Words::Module(ModuleWords::UnexpectedSectionAfterParsingHasCompleted),
+            offset,
+        );
     }
-    Error::new("unexpected section behind the code section", offset)
+    Error::new(
+        Words::Module(ModuleWords::UnexpectedSectionBehindTheCodeSection),
+        offset,
+    )
 }

@@ -1,6 +1,6 @@
 //! Exports, by their names.
 
-ghost use Rattle.std.specs.Prelude.{◌≡◌, ◌++◌, ◌∷◌, ◌<◌, [], length, vec_len, vec_capacity, IfErr, OnOk, OnErr};
+ghost use Rattle.std.specs.Prelude.{◌≡◌, ◌++◌, ◌∷◌, ◌<◌, ◌≤◌, [], length, vec_len, vec_capacity, IfErr, OnOk, OnErr};
 ghost use Rattle.wasm_types.specs.decoding.Denials.{Tells, UnlessMemory};
 ghost use Rattle.wasm_types.specs.decoding.declared.error.ErrorKind.TheVariants.{Other};
 ghost use Rattle.wasm_module_validator_exports.specs.names.Exports.{HasTried, IsNew, names_of};
@@ -10,8 +10,9 @@ use crate::names::slots::{Tried, after, rebuilt, settle};
 use std::alloc::Global;
 use std::collections::BTreeSet;
 use std::marker::Model;
+use std::mem::replace;
 use wasm_sections_items::imports::ExternalKind;
-use wasm_types::{Error, Result};
+use wasm_types::{Error, Result, Text, Words};
 
 /// What a module exports by a name: what stands at this index of the space of this kind.
 #[derive(Clone, Copy)]
@@ -47,6 +48,8 @@ pub struct Exports {
     slots: Vec<u32>,
     // The names whose slots others have.
     others: BTreeSet<String>,
+    // Room for a name that is there twice: an error that names it takes no memory.
+    twice: String,
 }
 
 impl Model for Exports {
@@ -104,17 +107,29 @@ impl<'a> Iterator for NamedExports<'a> {
     }
 }
 
-// The refusal of a name that is taken.
-#[cold]
-#[inline(never)]
-fn duplicate(name: &str, offset: u64) -> Error
+// How much room a name has in the message of one that is there twice.
+const TWICE: usize = 256;
+
+// The front of a name, of so many bytes at most: up to the end of a character.
+fn front(name: &str, most: usize) -> &str
+    ensures { length result.now ≤ most }
+{
+    if name.len() <= most {
+        return name;
+    }
+    &name[..name.floor_char_boundary(most)]
+}
+
+// The refusal of a name that is taken: it is written into this room, as far as it goes there.
+fn duplicate(mut room: String, name: &str, offset: u64) -> Error
     ensures kind { result.kind ≡ Other }
     ensures at { result.offset ≡ offset }
 {
-    Error::fmt(
-        format_args!("duplicate export name `{name}` already defined"),
-        offset,
-    )
+    let most = room.capacity();
+    if room.len() > 0 || room.push_str(front(name, most)).is_err() {
+        return Error::new(Words::DuplicateExportName, offset);
+    }
+    Error::with(Text::DuplicateExport(room), offset)
 }
 
 // An export behind the others, in room that is there.
@@ -136,6 +151,7 @@ impl Exports {
             exports: Vec::new(alloc),
             slots: Vec::new(alloc),
             others: BTreeSet::new(alloc),
+            twice: String::new(alloc),
         }
     }
 
@@ -156,8 +172,40 @@ impl Exports {
         }
     }
 
-    /// An export more where its name is new, and there is memory. Else they stay.
+    // Takes the room for a name that is there twice, which is all that a message has room for.
+    fn take_room(&mut self) -> bool
+        ensures { self.new ≡ self.old }
+    {
+        if self.twice.capacity() < TWICE {
+            return self.twice.reserve(TWICE).is_ok();
+        }
+        true
+    }
+
+    // The refusal of a name that is taken. It takes no memory: its room goes with it.
+    #[cold]
+    #[inline(never)]
+    fn refuse(&mut self, name: &str, offset: u64) -> Error
+        ensures kind { result.kind ≡ Other }
+        ensures at { result.offset ≡ offset }
+        ensures kept { self.new ≡ self.old }
+    {
+        let room = replace(&mut self.twice, String::new(self.alloc));
+        duplicate(room, name, offset)
+    }
+
+    /// An export more, if its name is new and there is memory, also for the message of a name that is there twice. Else they stay.
     pub fn add(&mut self, name: &str, kind: ExternalKind, index: u32) -> Tried
+        ensures { HasTried (record { name = name.now; kind = kind; index = index }) self.old self.new result }
+    {
+        if !self.take_room() {
+            return Tried::NoMemory;
+        }
+        self.add_named(name, kind, index)
+    }
+
+    // The same, if there is room for a name that is there twice.
+    fn add_named(&mut self, name: &str, kind: ExternalKind, index: u32) -> Tried
         ensures { HasTried (record { name = name.now; kind = kind; index = index }) self.old self.new result }
     {
         let Ok(()) = self.names.reserve(name.len()) else {
@@ -207,7 +255,7 @@ impl Exports {
     {
         match self.add(name, kind, index) {
             Tried::Added => Ok(()),
-            Tried::Taken => Err(duplicate(name, offset)),
+            Tried::Taken => Err(self.refuse(name, offset)),
             Tried::NoMemory => Err(Error::out_of_memory(0)),
         }
     }

@@ -9,7 +9,7 @@ ghost use Rattle.wasm_module_validator_section_order.specs.items.Bodies.{IsReadB
 ghost use Rattle.wasm_module_validator_function_bodies.specs.code.Code.{IsFunctionOf};
 
 use crate::plain::{PlainJudge, entries_for};
-use crate::{BodyJudge, FuncToValidate, WasmModuleResources, judge_function};
+use crate::{FuncToValidate, FuncValidatorAllocations, WasmModuleResources, judge_function};
 use std::alloc::Global;
 use wasm_module_validator_section_order::items::Body;
 use wasm_types::{Limits, Result, WasmFeatures};
@@ -34,7 +34,7 @@ pub fn judge_bodies<R: WasmModuleResources>(
         → Tells result (Each (λ b. IsFunctionOf z (R.meaning resources.now).«module» b.type_index
         b.body.rest) bodies.now) }
 {
-    let mut judge = BodyJudge::new(alloc, features);
+    let mut memory = FuncValidatorAllocations::new(alloc);
     let entries = entries_for(bodies.len() as u64, bytes_of(bodies));
     let mut plain = PlainJudge::new(alloc, resources, features, entries);
     for i in 0..bodies.len() {
@@ -46,7 +46,7 @@ pub fn judge_bodies<R: WasmModuleResources>(
             features,
             limits,
         };
-        match judge_function(alloc, &mut plain, &mut judge, function, &body.body) {
+        match judge_function(alloc, &mut plain, &mut memory, function, &body.body) {
             Ok(()) => (),
             Err(error) => return Err(error),
         }

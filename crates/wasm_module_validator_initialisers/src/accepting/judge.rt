@@ -37,6 +37,26 @@ fn next<R: WasmModuleResources>(
     }
 }
 
+// The same, with room for one operand more, which is all that an operator needs. If there is no memory for it, `lacks` is set.
+#[inline(always)]
+fn next_in_room<R: WasmModuleResources>(
+    bytes: &[u8],
+    at: usize,
+    resources: &R,
+    features: &WasmFeatures,
+    stack: &mut Vec<ValType>,
+    lacks: &mut bool,
+) -> Option<usize>
+    requires { at < length bytes.now }
+    ensures { IfSome result (λ j. Nexts features.now.0 (R.meaning resources.now) bytes.now at stack.old.items j stack.new.items) }
+{
+    let Ok(()) = stack.reserve(1) else {
+        *lacks = true;
+        return None;
+    };
+    next(bytes, at, resources, features, stack)
+}
+
 // Whether the one operand is of this type.
 #[inline(always)]
 fn is_of<R: WasmModuleResources>(stack: &[ValType], ty: &ValType, resources: &R) -> bool
@@ -50,7 +70,7 @@ fn is_of<R: WasmModuleResources>(stack: &[ValType], ty: &ValType, resources: &R)
 }
 
 /// Where the constant at an offset of these bytes ends, if it is one of this type, over ids, in the module so far, and one that the pass knows.
-/// It refers to no function. `stack` is memory.
+/// It refers to no function. `stack` is memory; if a growth of it is refused, `lacks` is set.
 pub fn accepts_constant<R: WasmModuleResources>(
     bytes: &[u8],
     start: usize,
@@ -58,6 +78,7 @@ pub fn accepts_constant<R: WasmModuleResources>(
     resources: &R,
     features: &WasmFeatures,
     stack: &mut Vec<ValType>,
+    lacks: &mut bool,
 ) -> Option<usize>
     requires { start ≤ length bytes.now }
     ensures { IfSome result (λ j. IsShortConstant features.now.0 (R.meaning resources.now).«module»
@@ -72,7 +93,7 @@ pub fn accepts_constant<R: WasmModuleResources>(
             }
             return Some(at + 1);
         }
-        let Some(end) = next(bytes, at, resources, features, stack) else {
+        let Some(end) = next_in_room(bytes, at, resources, features, stack, lacks) else {
             return None;
         };
         at = end;

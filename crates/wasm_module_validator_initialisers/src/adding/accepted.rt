@@ -28,7 +28,7 @@ fn type_at(alloc: Global, bytes: &[u8], at: usize) -> Option<(GlobalType, usize)
     Some((ty, bytes.len() - left))
 }
 
-// The type of a global over ids, and where its value ends, which begins at an offset.
+// The type of a global over ids, and where its value ends, which begins at an offset. If a growth is refused, `lacks` is set.
 fn judge<R: WasmModuleResources>(
     alloc: Global,
     ty: &GlobalType,
@@ -36,6 +36,7 @@ fn judge<R: WasmModuleResources>(
     at: usize,
     resources: &R,
     settings: &Settings,
+    lacks: &mut bool,
 ) -> Option<(GlobalType, usize)>
     requires { at ≤ length bytes.now }
     ensures { IfSome result (λ r. IsTypedGlobal settings.now (R.meaning resources.now) ty.now r.0 bytes.now at r.1) }
@@ -47,8 +48,15 @@ fn judge<R: WasmModuleResources>(
     let features = settings.features();
     let content_type = named.content_type;
     let mut stack = Vec::new(alloc);
-    let Some(end) = accepts_constant(bytes, at, &content_type, resources, &features, &mut stack)
-    else {
+    let Some(end) = accepts_constant(
+        bytes,
+        at,
+        &content_type,
+        resources,
+        &features,
+        &mut stack,
+        lacks,
+    ) else {
         return None;
     };
     Some((named, end))
@@ -62,6 +70,7 @@ fn judge_here(
     at: usize,
     state: &ModuleState,
     types: &TypeList,
+    lacks: &mut bool,
 ) -> Option<(GlobalType, usize)>
     requires over { IsReadOver types.now.groups state.now.spaces }
     requires inside { at ≤ length bytes.now }
@@ -76,6 +85,7 @@ fn judge_here(
         at,
         &ReferringToAll::new(&module),
         &state.settings(),
+        lacks,
     )
 }
 
@@ -99,11 +109,16 @@ pub(crate) fn add_accepted_global(
     let Some((ty, middle)) = type_at(alloc, bytes, at) else {
         return None;
     };
-    let Some((named, end)) = judge_here(alloc, &ty, bytes, middle, state, types) else {
+    let mut lacks = false;
+    let Some((named, end)) = judge_here(alloc, &ty, bytes, middle, state, types, &mut lacks) else {
+        state.note_lack(lacks);
         return None;
     };
     match state.push_global(named, 0) {
         Ok(()) => Some(end),
-        Err(_error) => None,
+        Err(error) => {
+            state.note(&error);
+            None
+        }
     }
 }

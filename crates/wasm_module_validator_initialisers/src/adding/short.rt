@@ -148,7 +148,10 @@ fn add_integer(state: &mut ModuleState, types: &TypeList, bytes: &[u8], at: usiz
     }
     match state.push_global(integers(wide, mutable), 0) {
         Ok(()) => Some(at + 2 + long),
-        Err(_error) => None,
+        Err(error) => {
+            state.note(&error);
+            None
+        }
     }
 }
 
@@ -171,6 +174,9 @@ pub fn add_short_global(
 {
     if let Some(end) = add_integer(state, types, bytes, at) {
         return Some(end);
+    }
+    if state.lacks_memory() {
+        return None;
     }
     add_accepted_global(alloc, state, types, bytes, at)
 }

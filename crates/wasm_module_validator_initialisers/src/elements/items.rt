@@ -19,7 +19,7 @@ use crate::segments::{ConstExpr, OperatorValidatorAllocations, Settings, WasmMod
 use std::alloc::Global;
 use wasm_sections_items::elements::ElementItemsOf;
 use wasm_sections_items::limited::SectionLimited;
-use wasm_types::{BinaryReader, Error, Result, ValType};
+use wasm_types::{BinaryReader, Error, ModuleWords, Result, ValType, Words};
 
 // Refuses more elements than the limit.
 fn check_count(count: u32, settings: &Settings, offset: u64) -> Result<()>
@@ -27,7 +27,10 @@ fn check_count(count: u32, settings: &Settings, offset: u64) -> Result<()>
     ensures refused { IfErr result (λ e. (settings.now.limits.segment_items < count) × IsFault offset e) }
 {
     if count > settings.limits().segment_items {
-        return Err(Error::new("number of elements is out of bounds", offset));
+        return Err(Error::new(
+            Words::Module(ModuleWords::NumberOfElementsIsOutOfBounds),
+            offset,
+        ));
     }
     Ok(())
 }
@@ -103,7 +106,11 @@ fn check_constants<'a, R: WasmModuleResources>(
     let end = constants.range().end;
     let mut elements = constants.into_iter_with_offsets();
     'elements: loop {
-        take_short_elements(&mut elements, ty, resources, settings, names);
+        let mut lacks = false;
+        take_short_elements(&mut elements, ty, resources, settings, names, &mut lacks);
+        if lacks {
+            return Err(Error::out_of_memory(0));
+        }
         let item = match elements.next() {
             None => return Ok(()),
             Some(Ok(item)) => item,

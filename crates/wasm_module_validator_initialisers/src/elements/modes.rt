@@ -22,7 +22,7 @@ use crate::segments::{
 use std::alloc::Global;
 use wasm_operator_validator_state::ty_to_str;
 use wasm_sections_items::elements::ElementKindOf;
-use wasm_types::{Error, RefType, Result, ValType, WasmFeatures};
+use wasm_types::{Error, ModuleWords, RefType, Result, Text, ValType, WasmFeatures, Words};
 
 // The refusal of an index past the end of the tables.
 #[cold]
@@ -30,8 +30,8 @@ fn unknown_table(index: u32, offset: u64) -> Error
     ensures kind { result.kind ≡ Other }
     ensures at { result.offset ≡ offset }
 {
-    Error::fmt(
-        format_args!("unknown table {index}: table index out of bounds"),
+    Error::with(
+        Text::Number(Words::UnknownTable, index, Words::TableIndexOutOfBounds),
         offset,
     )
 }
@@ -54,12 +54,7 @@ fn does_not_fit(element_type: RefType, table_type: RefType, offset: u64) -> Erro
 {
     let element_name = ty_to_str(ValType::Ref(element_type));
     let table_name = ty_to_str(ValType::Ref(table_type));
-    Error::fmt(
-        format_args!(
-            "type mismatch: invalid element type `{element_name}` for table type `{table_name}`"
-        ),
-        offset,
-    )
+    Error::with(Text::ElementMismatch(element_name, table_name), offset)
 }
 
 // The table that the elements of this type, over ids, are copied into, and where.
@@ -111,7 +106,7 @@ fn check_bulk(settings: &Settings, offset: u64) -> Result<()>
     require(
         settings.features().bulk_memory(),
         WasmFeatures::BULK_MEMORY,
-        "bulk memory must be enabled",
+        Words::Module(ModuleWords::BulkMemoryMustBeEnabled),
         offset,
     )
 }

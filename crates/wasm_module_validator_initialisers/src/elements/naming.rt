@@ -20,7 +20,7 @@ use crate::segments::{
 };
 use std::alloc::Global;
 use wasm_module_validator_resources::referring::name_references;
-use wasm_types::{Error, Result, ValType};
+use wasm_types::{Error, ModuleWords, Result, Text, ValType, Words};
 
 // The refusal of an index past the end of the functions.
 #[cold]
@@ -28,8 +28,12 @@ fn unknown_function(index: u32, offset: u64) -> Error
     ensures kind { result.kind ≡ Other }
     ensures at { result.offset ≡ offset }
 {
-    Error::fmt(
-        format_args!("unknown function {index}: func index out of bounds"),
+    Error::with(
+        Text::Number(
+            Words::UnknownFunction,
+            index,
+            Words::Module(ModuleWords::FuncIndexOutOfBounds),
+        ),
         offset,
     )
 }

@@ -59,7 +59,7 @@ fn short_function_at<R: WasmModuleResources>(
 }
 
 // Where the element at an offset ends, if its bytes alone tell that it is of this type; the function that it refers to is named. Else no
-// name is added. `stack` is memory.
+// name is added. `stack` is memory; if a growth is refused, `lacks` is set.
 fn take_short_element<R: WasmModuleResources>(
     bytes: &[u8],
     at: usize,
@@ -68,6 +68,7 @@ fn take_short_element<R: WasmModuleResources>(
     features: &WasmFeatures,
     stack: &mut Vec<ValType>,
     names: &mut Vec<u32>,
+    lacks: &mut bool,
 ) -> Option<usize>
     requires inside { at ≤ length bytes.now }
     requires allowed { Has features.now.0 ReferenceTypes }
@@ -76,14 +77,17 @@ fn take_short_element<R: WasmModuleResources>(
     ensures stays { IfNone result (names.new.items ≡ names.old.items) }
 {
     let Some((index, end)) = short_function_at(bytes, at, ty, resources, features) else {
-        let Some(end) = accepts_constant(bytes, at, ty, resources, features, stack) else {
+        let Some(end) = accepts_constant(bytes, at, ty, resources, features, stack, lacks) else {
             return None;
         };
         return Some(end);
     };
     match names.push(index) {
         Ok(()) => Some(end),
-        Err(_) => None,
+        Err(_) => {
+            *lacks = true;
+            None
+        }
     }
 }
 
@@ -95,6 +99,7 @@ fn take_front<R: WasmModuleResources>(
     resources: &R,
     features: &WasmFeatures,
     names: &mut Vec<u32>,
+    lacks: &mut bool,
 ) -> (u32, usize)
     requires allowed { Has features.now.0 ReferenceTypes }
     ensures inside { result.1 ≤ length bytes.now }
@@ -104,8 +109,9 @@ fn take_front<R: WasmModuleResources>(
     let mut stack = Vec::new(*names.allocator());
     let mut at = 0;
     for passed in 0..most {
-        let Some(end) = take_short_element(bytes, at, ty, resources, features, &mut stack, names)
-        else {
+        let Some(end) = take_short_element(
+            bytes, at, ty, resources, features, &mut stack, names, lacks,
+        ) else {
             return (most - passed, at);
         };
         at = end;
@@ -114,12 +120,14 @@ fn take_front<R: WasmModuleResources>(
 }
 
 /// Goes past the elements that come next and that their bytes alone tell to be of this type, and names the functions that they refer to.
+/// If a growth is refused, `lacks` is set.
 pub(crate) fn take_short_elements<'a, R: WasmModuleResources>(
     elements: &mut SectionLimitedIntoIterWithOffsets<'a, ConstExpr<'a>>,
     ty: &ValType,
     resources: &R,
     settings: &Settings,
     names: &mut Vec<u32>,
+    lacks: &mut bool,
 )
     ensures left { elements.new.remaining ≤ elements.old.remaining }
     ensures over { elements.new.end ≡ elements.old.end }
@@ -141,6 +149,7 @@ pub(crate) fn take_short_elements<'a, R: WasmModuleResources>(
         resources,
         &features,
         names,
+        lacks,
     );
     elements.pass(at, left);
 }

@@ -15,7 +15,7 @@ use wasm_module_validator_checks::externs::Settings;
 use wasm_operator_validator_constants::{
     ConstExpr, OperatorValidatorAllocations, ShortConstant, WasmModuleResources, check_const_expr,
 };
-use wasm_types::{BinaryReader, Result, ValType};
+use wasm_types::{BinaryReader, Error, Result, ValType};
 
 /// A reader of the bytes of an expression, by the settings that the module is judged by, whatever they were read by.
 pub fn reader_by<'a>(expr: &ConstExpr<'a>, settings: &Settings) -> BinaryReader<'a>
@@ -52,13 +52,14 @@ fn bytes_of<'a>(expr: &ConstExpr<'a>) -> &'a [u8]
     bytes
 }
 
-// Whether one pass over the bytes tells that an expression is a constant of this type.
+// Whether one pass over the bytes tells that an expression is a constant of this type. If a growth is refused, `lacks` is set.
 fn is_accepted<R: WasmModuleResources>(
     alloc: Global,
     expr: &ConstExpr<'_>,
     ty: &ValType,
     resources: &R,
     settings: &Settings,
+    lacks: &mut bool,
 ) -> bool
     ensures { IsTrue result → (count : ℕ) → IsConstantText settings.now (R.meaning resources.now).«module» count
         (type_in (R.meaning resources.now) ty.now) expr.now.rest }
@@ -66,7 +67,7 @@ fn is_accepted<R: WasmModuleResources>(
     let bytes = bytes_of(expr);
     let features = settings.features();
     let mut stack = Vec::new(alloc);
-    let Some(end) = accepts_constant(bytes, 0, ty, resources, &features, &mut stack) else {
+    let Some(end) = accepts_constant(bytes, 0, ty, resources, &features, &mut stack, lacks) else {
         return false;
     };
     end == bytes.len()
@@ -97,8 +98,12 @@ pub fn check_constant<R: WasmModuleResources>(
     if is_number(expr, &ty) {
         return Ok(());
     }
-    if is_accepted(alloc, expr, &ty, resources, settings) {
+    let mut lacks = false;
+    if is_accepted(alloc, expr, &ty, resources, settings, &mut lacks) {
         return Ok(());
+    }
+    if lacks {
+        return Err(Error::out_of_memory(0));
     }
     let judged = ConstExpr::new(alloc, reader_by(expr, settings));
     check_const_expr(

@@ -17,7 +17,7 @@ use wasm_operator_validator_constants::{
     ConstExpr, OperatorValidatorAllocations, WasmModuleResources,
 };
 use wasm_sections_items::segments::{DataKindOf, DataOf};
-use wasm_types::{Error, Result, WasmFeatures};
+use wasm_types::{Error, ModuleWords, Result, Text, WasmFeatures, Words};
 
 // The refusal of an index past the end of the memories.
 #[cold]
@@ -25,8 +25,12 @@ fn unknown_memory(index: u32, offset: u64) -> Error
     ensures kind { result.kind ≡ Other }
     ensures at { result.offset ≡ offset }
 {
-    Error::fmt(
-        format_args!("unknown memory {index}: memory index out of bounds"),
+    Error::with(
+        Text::Number(
+            Words::UnknownMemory,
+            index,
+            Words::Module(ModuleWords::MemoryIndexOutOfBounds),
+        ),
         offset,
     )
 }
@@ -40,7 +44,7 @@ fn check_bulk(settings: &Settings, offset: u64) -> Result<()>
     require(
         settings.features().bulk_memory(),
         WasmFeatures::BULK_MEMORY,
-        "passive data segments require the bulk-memory proposal",
+        Words::Module(ModuleWords::PassiveDataSegmentsRequireTheBulkMemoryProposal),
         offset,
     )
 }

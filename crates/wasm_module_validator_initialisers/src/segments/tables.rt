@@ -21,7 +21,7 @@ use wasm_operator_validator_constants::{
     ConstExpr, OperatorValidatorAllocations, WasmModuleResources,
 };
 use wasm_sections_items::segments::{TableInitOf, TableOf};
-use wasm_types::{Error, RefType, Result, TableType, ValType, WasmFeatures};
+use wasm_types::{Error, ModuleWords, RefType, Result, TableType, ValType, WasmFeatures, Words};
 
 // Asks for the feature of tables with expressions.
 #[tactic(auto, unfolding(crate::specs::segments::Refusals::has))]
@@ -32,7 +32,9 @@ fn check_allowed(settings: &Settings, offset: u64) -> Result<()>
     require(
         settings.features().function_references(),
         WasmFeatures::FUNCTION_REFERENCES,
-        "tables with expression initializers require the function-references proposal",
+        Words::Module(
+            ModuleWords::TablesWithExpressionInitializersRequireTheFunctionReferencesProposal,
+        ),
         offset,
     )
 }
@@ -59,7 +61,10 @@ fn check_init<R: WasmModuleResources>(
     match init {
         TableInitOf::RefNull => {
             if !element_type.is_nullable() {
-                return Err(Error::new("type mismatch: non-defaultable element type", offset));
+                return Err(Error::new(
+                    Words::Module(ModuleWords::TypeMismatchNonDefaultableElementType),
+                    offset,
+                ));
             }
             Ok(())
         }

@@ -22,6 +22,7 @@ use Rattle.wasm_sections_parser.specs.runs.Modules.{IsModule}
 use Rattle.wasm_sections_parser.specs.runs.ModuleLaws.{end_given}
 use Rattle.wasm_sections_parser.specs.runs.RefusalLaws.{IsStuck}
 use Rattle.wasm_sections_parser.specs.runs.RunsComplete.{module_run}
+use Rattle.wasm_sections_parser.specs.runs.steps.CompareLaws.{module_compares}
 use Rattle.wasm_module_validator_section_order.specs.frames.Walks.{HasSettings}
 
 abbrev given : Next → State → Outcome Next
@@ -62,8 +63,8 @@ modules_one z text xs ys room m n =
     let s : State = record { rest = text; place = 0; settings = z; start = 0 } in
     let t : State = record { rest = []; place = length text; settings = z; start = 0 } in
     let taken : Takes s text t = record { parts = sym (append-nil text); place = omega arith; settings = refl; start = refl } in
-    let first = module_run z m.outer text xs s t m.frames m.ordered m.counted taken room in
-    let second = module_run z n.outer text ys s t n.frames n.ordered n.counted taken room in
+    let first = module_run z m.outer text xs s t m.frames m.ordered m.counted (module_compares m.outer.parts m.ordered m.counted m.counts) taken room in
+    let second = module_run z n.outer text ys s t n.frames n.ordered n.counted (module_compares n.outer.parts n.ordered n.counted n.counts) taken room in
     let left = run_prefix z xs ys fresh first.0 second.0 s t t first.1 second.1 (no_section z second.0 t second.3 refl) in
     let none = nothing_left z left.0 first.0 second.0 t t left.2 (no_section z first.0 t first.3 refl) in
     no_more xs ys left.0 left.1 none
@@ -77,7 +78,7 @@ calls_first p q text rest fs ys first room m calls going =
     let z : Settings = p.settings in
     let t : State = record { rest = []; place = p.offset + length text; settings = z; start = p.offset } in
     let taken : Takes (reads p text) text t = record { parts = sym (append-nil text); place = refl; settings = refl; start = refl } in
-    let run = module_run z m.outer text ys (reads p text) t m.frames m.ordered m.counted taken room in
+    let run = module_run z m.outer text ys (reads p text) t m.frames m.ordered m.counted (module_compares m.outer.parts m.ordered m.counted m.counts) taken room in
     let so_far : Run z fresh (reads p text) (shapes_of fs) q.progress (stands q rest p.offset) =
     subst (λ (v : Progress). Run z v (reads p text) (shapes_of fs) q.progress (stands q rest p.offset)) first (calls_run fs p q text rest calls going).0 in
     let left = run_prefix z (shapes_of fs) ys fresh q.progress run.0 (reads p text) (stands q rest p.offset) t so_far run.1 (no_section z run.0 t run.3 refl) in

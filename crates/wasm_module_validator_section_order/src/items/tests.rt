@@ -7,7 +7,7 @@ use crate::items::{AddItem, AddLent, add_items, add_lent_items};
 use std::alloc::Global;
 use std::process::Abort;
 use wasm_sections_items::limited::SectionLimited;
-use wasm_types::{BinaryReader, Error, Limits, Result};
+use wasm_types::{BinaryReader, Error, Limits, ModuleWords, Result, Words};
 
 /// The sum of the numbers that were read, and the most that it may be.
 #[derive(Drop)]
@@ -37,7 +37,10 @@ impl<'a> AddItem<'a, u32> for Total {
 
     fn add(&mut self, item: u32, offset: u64) -> Result<()> {
         if self.most < self.sum || self.most - self.sum < item {
-            return Err(Error::new("more than the most", offset));
+            return Err(Error::new(
+                Words::Module(ModuleWords::ImplementationLimitTooManyCoreTypes),
+                offset,
+            ));
         }
         self.sum += item;
         Ok(())

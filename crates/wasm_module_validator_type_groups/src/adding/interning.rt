@@ -12,7 +12,7 @@ ghost use Rattle.wasm_module_validator_type_groups.specs.ValidTypes.{HaveKnownId
 ghost use Rattle.wasm_module_validator_canonical_types.specs.Written.{AreModuleIndices};
 ghost use Rattle.wasm_module_validator_type_groups.specs.adding.Interned.{space_of, AreIdsKnown, written_group, kept_group, IsChecked, ids_from, AddsGroup, AreGroupTypesValid};
 
-use crate::adding::written::{check_written, kept_form};
+use crate::adding::written::{check_written, put_in_form};
 use crate::check_types;
 use wasm_module_validator_canonical_types::InternRecGroup;
 use wasm_module_validator_type_list::{RecGroupId, TypeList};
@@ -98,7 +98,8 @@ pub fn canonicalize_and_intern_rec_group<M: InternRecGroup>(
     check_written(*target.features(), &rec_group, offset)?;
     let needs_canonical = target.features().needs_type_canonicalization();
     let _count = types.type_count();
-    let group = kept_form(target, rec_group, offset)?;
+    let mut group = rec_group;
+    put_in_form(target, &mut group, offset)?;
     target.reserve_type_ids(group.types().len())?;
     let (is_new, number) = types.intern_canonical_rec_group(needs_canonical, group, offset)?;
     let (start, end) = check_added(target, types, is_new, number, offset)?;

@@ -14,7 +14,9 @@ use crate::adding::canonicalize_and_intern_rec_group;
 use std::alloc::{AllocError, Global};
 use wasm_module_validator_canonical_types::InternRecGroup;
 use wasm_module_validator_type_list::TypeList;
-use wasm_types::{CoreTypeId, Error, Limits, RecGroup, Result as Reading, WasmFeatures};
+use wasm_types::{
+    CoreTypeId, Error, Limits, ModuleWords, RecGroup, Result as Reading, Text, WasmFeatures, Words,
+};
 
 /// A module as far as it was validated: the ids of its types, with the features that are allowed and the limits that hold.
 #[derive(Drop)]
@@ -43,8 +45,8 @@ impl InternRecGroup for Module {
     fn type_id_at(&self, idx: u32, offset: u64) -> Reading<CoreTypeId> {
         match self.types.get(idx as usize) {
             Some(id) => Ok(*id),
-            None => Err(Error::fmt(
-                format_args!("unknown type {idx}: type index out of bounds"),
+            None => Err(Error::with(
+                Text::Number(Words::UnknownType, idx, Words::TypeIndexOutOfBounds),
                 offset,
             )),
         }
@@ -68,7 +70,7 @@ impl InternRecGroup for Module {
 }
 
 // Refuses more of a thing than a limit allows.
-fn check_max(len: usize, further: usize, most: u32, name: &str, offset: u64) -> Reading<()>
+fn check_max(len: usize, further: usize, most: u32, name: Words, offset: u64) -> Reading<()>
     ensures answer { Tells result (len + further ≤ most) }
     ensures at { IfErr result (λ e. (e.kind ≡ Other) × (e.offset ≡ offset)) }
 {
@@ -77,9 +79,12 @@ fn check_max(len: usize, further: usize, most: u32, name: &str, offset: u64) -> 
         return Ok(());
     }
     if most == 1 {
-        return Err(Error::fmt(format_args!("multiple {name}"), offset));
+        return Err(Error::with(
+            Text::Word(Words::Module(ModuleWords::Multiple), name),
+            offset,
+        ));
     }
-    Err(Error::fmt(format_args!("{name} count exceeds limit of {most}"), offset))
+    Err(Error::with(Text::PastLimit(name, most as u32), offset))
 }
 
 impl Module {
@@ -145,7 +150,7 @@ impl Module {
                 self.types.len(),
                 further,
                 self.limits.types,
-                "types",
+                Words::Module(ModuleWords::Types),
                 offset,
             )?;
         }

@@ -1,6 +1,6 @@
 //! What is asked of a group as it is written, and its form in a list.
 
-ghost use Rattle.std.specs.Prelude.{◌≡◌, ◌+◌, ◌<◌, ◌≤◌, All, IsTrue, IfOk, length, map};
+ghost use Rattle.std.specs.Prelude.{◌≡◌, ◌+◌, ◌<◌, ◌≤◌, All, IsTrue, OnOk, length, map};
 ghost use Rattle.wasm_types.specs.decoding.Denials.{Tells, RefusedAt};
 ghost use Rattle.wasm_types.specs.settings.Features.{has, Gc, needs_canonical_types};
 ghost use Rattle.wasm_types.specs.trees.Gates.{Has};
@@ -13,7 +13,7 @@ ghost use Rattle.wasm_module_validator_type_groups.specs.adding.Interned.{kept_t
 
 use crate::composites::require;
 use wasm_module_validator_canonical_types::{InternRecGroup, TypeCanonicalizer};
-use wasm_types::{Error, RecGroup, Result, SubType, WasmFeatures};
+use wasm_types::{Error, ModuleWords, RecGroup, Result, SubType, WasmFeatures, Words};
 
 // Refuses a type with more than one supertype.
 fn check_supertypes(types: &[SubType], offset: u64) -> Result<()>
@@ -22,7 +22,7 @@ fn check_supertypes(types: &[SubType], offset: u64) -> Result<()>
 {
     for i in 0..types.len() {
         if types[i].supertype_idxs.as_slice().len() > 1 {
-            return Err(Error::new("multiple supertypes", offset));
+            return Err(Error::new(Words::Module(ModuleWords::MultipleSupertypes), offset));
         }
     }
     Ok(())
@@ -37,32 +37,31 @@ pub(crate) fn check_written(features: WasmFeatures, rec_group: &RecGroup, offset
     require(
         !rec_group.is_explicit_rec_group() || features.gc(),
         WasmFeatures::GC,
-        "rec group usage requires `gc` proposal to be enabled",
+        Words::Module(ModuleWords::RecGroupUsageRequiresGcProposalToBeEnabled),
         offset,
     )?;
     check_supertypes(rec_group.types(), offset)
 }
 
-/// The group as a list keeps it: where the features ask for it in canonical form, which refuses an index that the group may
-/// not have.
-pub(crate) fn kept_form<M: InternRecGroup>(
+/// Puts the group into the form in which a list keeps it: if the features ask for it the canonical one, which refuses an index that the
+/// group may not have.
+pub(crate) fn put_in_form<M: InternRecGroup>(
     target: &M,
-    rec_group: RecGroup,
+    rec_group: &mut RecGroup,
     offset: u64,
-) -> Result<RecGroup>
+) -> Result<()>
     requires ids { All IdFits (M.ids target.now) }
     ensures answer { Tells result (WhereCanonical (M.settings target.now).features
         (AreTypesAllowed (has Gc (M.settings target.now).features) (length (M.ids target.now))
-        (length (M.ids target.now) + length (declared_types rec_group)) (length (M.ids target.now))
-        (declared_types rec_group))) }
-    ensures kept { IfOk result (λ g. declared_types g ≡ kept_types
-        (needs_canonical_types (M.settings target.now).features) (M.ids target.now) (declared_types rec_group)) }
+        (length (M.ids target.now) + length (declared_types rec_group.old)) (length (M.ids target.now))
+        (declared_types rec_group.old))) }
+    ensures kept { OnOk result (declared_types rec_group.new ≡ kept_types
+        (needs_canonical_types (M.settings target.now).features) (M.ids target.now) (declared_types rec_group.old)) }
     ensures at { FailsAt offset result }
 {
     if !target.features().needs_type_canonicalization() {
-        return Ok(rec_group);
+        return Ok(());
     }
-    let mut group = rec_group;
-    TypeCanonicalizer::new(target, offset).canonicalize_rec_group(&mut group)?;
-    Ok(group)
+    TypeCanonicalizer::new(target, offset).canonicalize_rec_group(rec_group)?;
+    Ok(())
 }

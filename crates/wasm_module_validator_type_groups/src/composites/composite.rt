@@ -16,8 +16,8 @@ use crate::composites::parts::{Check, require};
 use wasm_module_validator_canonical_types::matches::stored_type;
 use wasm_module_validator_type_list::TypeList;
 use wasm_types::{
-    CompositeInnerType, CompositeType, ContType, CoreTypeId, Error, FuncType, Result,
-    UnpackedIndex, WasmFeatures,
+    CompositeInnerType, CompositeType, ContType, CoreTypeId, Error, FuncType, ModuleWords, Result,
+    Text, UnpackedIndex, WasmFeatures, Words,
 };
 
 // Whether the type of an id is a function type.
@@ -39,7 +39,14 @@ fn no_function(number: u32, offset: u64) -> Error
     ensures kind { result.kind ≡ Other }
     ensures offset { result.offset ≡ offset }
 {
-    Error::fmt(format_args!("non-function type {number}"), offset)
+    Error::with(
+        Text::Number(
+            Words::Module(ModuleWords::NonFunctionType),
+            number,
+            Words::Nothing,
+        ),
+        offset,
+    )
 }
 
 impl<'a> Check<'a> {
@@ -56,13 +63,15 @@ impl<'a> Check<'a> {
         require(
             ty.results().len() <= 1 || self.features.multi_value(),
             WasmFeatures::MULTI_VALUE,
-            "func type returns multiple values but the multi-value feature is not enabled",
+            Words::Module(
+                ModuleWords::FuncTypeReturnsMultipleValuesButTheMultiValueFeatureIsNotEnabled,
+            ),
             self.offset,
         )
     }
 
     // The features of arrays and structs.
-    fn check_collected(&self, needs_gc: &str, needs_gc_types: &str) -> Result<()>
+    fn check_collected(&self, needs_gc: Words, needs_gc_types: Words) -> Result<()>
         ensures answer { Tells result (Has self.now.features.0 Gc × Has self.now.features.0 GcTypes) }
         ensures at { RefusedAt self.now.offset result }
         ensures memory { NeedsNoMemory result }
@@ -87,13 +96,13 @@ impl<'a> Check<'a> {
         require(
             self.features.stack_switching(),
             WasmFeatures::STACK_SWITCHING,
-            "cannot define continuation types when stack switching is disabled",
+            Words::Module(ModuleWords::CannotDefineContinuationTypesWhenStackSwitchingIsDisabled),
             self.offset,
         )?;
         require(
             self.features.gc_types(),
             WasmFeatures::GC_TYPES,
-            "cannot define continuation types when gc types are disabled",
+            Words::Module(ModuleWords::CannotDefineContinuationTypesWhenGcTypesAreDisabled),
             self.offset,
         )?;
         let UnpackedIndex::Id(id) = ty.0.unpack() else {
@@ -117,15 +126,15 @@ impl<'a> Check<'a> {
             CompositeInnerType::Func(ty) => self.check_function(shared, ty),
             CompositeInnerType::Array(ty) => {
                 self.check_collected(
-                    "array indexed types not supported without the gc feature",
-                    "cannot define array types when gc types are disabled",
+                    Words::Module(ModuleWords::ArrayIndexedTypesNotSupportedWithoutTheGcFeature),
+                    Words::Module(ModuleWords::CannotDefineArrayTypesWhenGcTypesAreDisabled),
                 )?;
                 self.check_storage(shared, &ty.0.element_type)
             }
             CompositeInnerType::Struct(ty) => {
                 self.check_collected(
-                    "struct indexed types not supported without the gc feature",
-                    "cannot define struct types when gc types are disabled",
+                    Words::Module(ModuleWords::StructIndexedTypesNotSupportedWithoutTheGcFeature),
+                    Words::Module(ModuleWords::CannotDefineStructTypesWhenGcTypesAreDisabled),
                 )?;
                 self.check_fields(shared, ty.fields.as_slice())
             }
@@ -150,7 +159,7 @@ pub fn check_composite_type(
     require(
         !ty.shared || features.shared_everything_threads(),
         WasmFeatures::SHARED_EVERYTHING_THREADS,
-        "shared composite types require the shared-everything-threads proposal",
+        Words::Module(ModuleWords::SharedCompositeTypesRequireTheSharedEverythingThreadsProposal),
         offset,
     )?;
     let check = Check {

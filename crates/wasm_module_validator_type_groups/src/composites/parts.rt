@@ -13,10 +13,12 @@ ghost use Rattle.wasm_module_validator_type_groups.specs.composites.Composites.{
 
 use wasm_module_validator_type_list::TypeList;
 use wasm_operator_validator_resources::check_value_type_features;
-use wasm_types::{Error, FieldType, Result, StorageType, ValType, WasmFeatures};
+use wasm_types::{
+    Error, FieldType, ModuleWords, Result, StorageType, ValType, WasmFeatures, Words,
+};
 
 /// Asks for a feature that is there or not.
-pub fn require(has: bool, feature: WasmFeatures, message: &str, offset: u64) -> Result<()>
+pub fn require(has: bool, feature: WasmFeatures, message: Words, offset: u64) -> Result<()>
     ensures answer { Tells result (IsTrue has) }
     ensures refused { IfErr result (λ e. (e.kind ≡ MissingFeature feature) × (e.offset ≡ offset)) }
 {
@@ -47,7 +49,7 @@ impl<'a> Check<'a> {
         check_value_type_features(&self.features, ty, self.offset)?;
         if shared && !self.types.valtype_is_shared(*ty) {
             return Err(Error::new(
-                "shared composite type must contain shared types",
+                Words::Module(ModuleWords::SharedCompositeTypeMustContainSharedTypes),
                 self.offset,
             ));
         }

@@ -48,3 +48,10 @@ pub record Takes (order : ℕ → Ordering) (chunks : List (List ℕ)) (at : ℕ
   pub sized : AreChunks chunks
   pub room : length (chunk_at chunks at) < most
   pub belongs : Belongs order chunks at
+
+-- a place inside a chunk: the number before it is less than what is sought, and the one that is there is greater
+pub record IsInside (order : ℕ → Ordering) (ns : List ℕ) (place : ℕ) : Type 0 where
+  pub some : 0 < place
+  pub within : place < length ns
+  pub less : order (slice_index ns (place - 1)) ≡ Less
+  pub greater : order (slice_index ns place) ≡ Greater

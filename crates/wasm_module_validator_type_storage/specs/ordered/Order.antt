@@ -1,5 +1,5 @@
 -- Numbers in ascending order, beside something that is sought: `order n` tells where the number `n` stands beside it.
-use Rattle.std.specs.Prelude.{◌≡◌, ◌≢◌, ◌⊎◌, ℕ, List, ◌∷◌, ◌++◌, All, AllPairs, Contains}
+use Rattle.std.specs.Prelude.{◌≡◌, ◌≢◌, ◌⊎◌, ◌≤◌, ℕ, List, ◌∷◌, ◌++◌, length, take, drop, All, AllPairs, Contains}
 use Rattle.std.specs.declared.cmp.Ordering.{Ordering}
 use Rattle.std.specs.declared.cmp.Ordering.TheVariants.{Less, Equal, Greater}
 
@@ -24,3 +24,9 @@ pub record IsPut (order : ℕ → Ordering) (n : ℕ) (old new : List ℕ) : Typ
   pub is : new ≡ before ++ n ∷ after
   pub less : All (λ m. order m ≡ Less) before
   pub greater : All (λ m. order m ≡ Greater) after
+
+-- a place in a list: all before it are less than what is sought, and all from it on are greater
+pub record IsPlace (order : ℕ → Ordering) (ns : List ℕ) (at : ℕ) : Type 0 where
+  pub within : at ≤ length ns
+  pub less : All (λ m. order m ≡ Less) (take at ns)
+  pub greater : All (λ m. order m ≡ Greater) (drop at ns)

@@ -2,12 +2,13 @@
 
 ghost use Rattle.std.specs.Prelude.{◌≡◌, ◌↔◌, ◌<◌, ◌++◌, ◌∷◌, [], length, take, IsTrue, IfOk, OnOk, OnErr};
 ghost use Rattle.std.specs.List.{concat};
-ghost use Rattle.wasm_module_validator_type_storage.specs.ordered.Chunks.{AreChunks, Belongs, Takes, chunk_at, halved_at, half, most, numbers_of};
-ghost use Rattle.wasm_module_validator_type_storage.specs.ordered.Order.{Ascends, Misses, IsPut};
+ghost use Rattle.wasm_module_validator_type_storage.specs.ordered.Chunks.{AreChunks, Belongs, IsInside, Takes, chunk_at, halved_at, half, most, numbers_of};
+ghost use Rattle.wasm_module_validator_type_storage.specs.ordered.Order.{Ascends, Misses, IsPlace, IsPut};
 
-use crate::ordered::Compare;
 use crate::ordered::finding::{chunk_for, is_passed, place_in};
+use crate::ordered::{Compare, SearchEnd};
 use std::alloc::AllocError;
+use std::cmp::Ordering;
 
 // How many numbers a chunk has at most: to put one more into it moves two kilobytes at most.
 const CHUNK: usize = 512;
@@ -137,7 +138,7 @@ fn with_room<C: Compare>(
 }
 
 // Adds a number where what is sought belongs.
-pub(crate) fn insert_among<C: Compare>(
+fn insert_among<C: Compare>(
     chunks: &mut Vec<Vec<u32>>,
     sought: &C,
     number: u32,
@@ -156,4 +157,91 @@ pub(crate) fn insert_among<C: Compare>(
     }
     let at = with_room(chunks, at, sought)?;
     put_into(chunks, at, sought, number)
+}
+
+// Whether this place is inside a chunk, which has room, and what is sought belongs there.
+fn is_inside<C: Compare>(numbers: &[u32], place: usize, sought: &C) -> bool
+    ensures inside { IsTrue result → IsInside (C.order sought.now) numbers.now place }
+    ensures room { IsTrue result → length numbers.now < most }
+{
+    if place == 0 || place >= numbers.len() || numbers.len() >= CHUNK {
+        return false;
+    }
+    match sought.compare(numbers[place - 1]) {
+        Ordering::Less => (),
+        Ordering::Equal => return false,
+        Ordering::Greater => return false,
+    }
+    match sought.compare(numbers[place]) {
+        Ordering::Less => false,
+        Ordering::Equal => false,
+        Ordering::Greater => true,
+    }
+}
+
+// Whether a search for what is sought ended where that belongs, inside a chunk that has room.
+fn is_there<C: Compare>(chunks: &[Vec<u32>], end: SearchEnd, sought: &C) -> bool
+    requires sized { AreChunks (numbers_of chunks.now) }
+    requires ascends { Ascends (C.order sought.now) (concat (numbers_of chunks.now)) }
+    ensures takes { IsTrue result → Takes (C.order sought.now) (numbers_of chunks.now) end.chunk }
+    ensures place { IsTrue result → IsPlace (C.order sought.now) (chunk_at (numbers_of chunks.now) end.chunk)
+        end.place }
+{
+    if end.chunk >= chunks.len() {
+        return false;
+    }
+    is_inside(chunks[end.chunk].as_slice(), end.place, sought)
+}
+
+// Puts a number at a place of a chunk, where what is sought belongs.
+fn put_at<C: Compare>(
+    chunk: &mut Vec<u32>,
+    place: usize,
+    _sought: &C,
+    number: u32,
+) -> Result<(), AllocError>
+    requires { IsPlace (C.order _sought.now) chunk.old.items place }
+    ensures ok { OnOk result (IsPut (C.order _sought.now) number chunk.old.items chunk.new.items) }
+    ensures err { OnErr result (chunk.new.items ≡ chunk.old.items) }
+{
+    chunk.insert(place, number)?;
+    Ok(())
+}
+
+// Puts a number at a place of a chunk that has room for it.
+fn put_there<C: Compare>(
+    chunks: &mut Vec<Vec<u32>>,
+    end: SearchEnd,
+    sought: &C,
+    number: u32,
+) -> Result<(), AllocError>
+    requires takes { Takes (C.order sought.now) (numbers_of chunks.old.items) end.chunk }
+    requires place { IsPlace (C.order sought.now) (chunk_at (numbers_of chunks.old.items) end.chunk) end.place }
+    ensures ok { OnOk result (IsPut (C.order sought.now) number (concat (numbers_of chunks.old.items))
+        (concat (numbers_of chunks.new.items))) }
+    ensures err { OnErr result (concat (numbers_of chunks.new.items) ≡ concat (numbers_of chunks.old.items)) }
+    ensures sized { AreChunks (numbers_of chunks.new.items) }
+{
+    put_at(&mut chunks[end.chunk], end.place, sought, number)
+}
+
+// Adds a number where what is sought belongs: where a search ended, if it is there.
+pub(crate) fn insert_near<C: Compare>(
+    chunks: &mut Vec<Vec<u32>>,
+    sought: &C,
+    number: u32,
+    end: SearchEnd,
+) -> Result<(), AllocError>
+    requires sized { AreChunks (numbers_of chunks.old.items) }
+    requires ascends { Ascends (C.order sought.now) (concat (numbers_of chunks.old.items)) }
+    requires misses { Misses (C.order sought.now) (concat (numbers_of chunks.old.items)) }
+    ensures ok { OnOk result (IsPut (C.order sought.now) number (concat (numbers_of chunks.old.items))
+        (concat (numbers_of chunks.new.items))) }
+    ensures err { OnErr result (concat (numbers_of chunks.new.items) ≡ concat (numbers_of chunks.old.items)) }
+    ensures sized { AreChunks (numbers_of chunks.new.items) }
+{
+    if is_there(chunks.as_slice(), end, sought) {
+        return put_there(chunks, end, sought, number);
+    }
+    insert_among(chunks, sought, number)
 }

@@ -1,13 +1,13 @@
 //! Looking for a place in a chunk, and for a chunk.
 
-ghost use Rattle.std.specs.Prelude.{◌≡◌, ◌≢◌, ◌<◌, ◌≤◌, length, take, drop, All, MatchOption};
+ghost use Rattle.std.specs.Prelude.{◌≡◌, ◌≢◌, ◌<◌, ◌≤◌, length, take, drop, All, MatchOption, IfOk, IfErr};
 ghost use Rattle.std.specs.List.{concat};
 ghost use Rattle.std.specs.Ordering.{is_lt};
 ghost use Rattle.std.specs.declared.cmp.Ordering.TheVariants.{Less};
 ghost use Rattle.wasm_module_validator_type_storage.specs.ordered.Chunks.{AreChunks, Belongs, chunk_at, last_of, numbers_of};
-ghost use Rattle.wasm_module_validator_type_storage.specs.ordered.Order.{Ascends, Misses, Finds};
+ghost use Rattle.wasm_module_validator_type_storage.specs.ordered.Order.{Ascends, Misses, Finds, IsPlace};
 
-use crate::ordered::Compare;
+use crate::ordered::{Compare, SearchEnd};
 use std::cmp::Ordering;
 
 // Where the numbers that are not less begin.
@@ -30,21 +30,35 @@ pub(crate) fn place_in<C: Compare>(numbers: &[u32], sought: &C) -> usize
     low
 }
 
-// The number that is equal to what is sought, if there is one.
-fn find_in<C: Compare>(numbers: &[u32], sought: &C) -> Option<u32>
+// The number that is equal to what is sought, or else the place where that belongs.
+fn search_in<C: Compare>(numbers: &[u32], sought: &C) -> Result<u32, usize>
     requires { Ascends (C.order sought.now) numbers.now }
-    ensures { MatchOption result (Misses (C.order sought.now) numbers.now)
+    ensures found { IfOk result (λ n. Finds (C.order sought.now) numbers.now n) }
+    ensures place { IfErr result (λ at. IsPlace (C.order sought.now) numbers.now at) }
+{
+    let mut low = 0;
+    let mut high = numbers.len();
+    'search: while low < high {
+        let middle = low + (high - low) / 2;
+        let number = numbers[middle];
+        match sought.compare(number) {
+            Ordering::Less => low = middle + 1,
+            Ordering::Equal => return Ok(number),
+            Ordering::Greater => high = middle,
+        }
+    }
+    Err(low)
+}
+
+// The number that is equal to what is sought, if there is one, and the place where the search ended.
+fn find_in<C: Compare>(numbers: &[u32], sought: &C) -> (Option<u32>, usize)
+    requires { Ascends (C.order sought.now) numbers.now }
+    ensures { MatchOption result.0 (Misses (C.order sought.now) numbers.now)
         (λ n. Finds (C.order sought.now) numbers.now n) }
 {
-    let at = place_in(numbers, sought);
-    if at == numbers.len() {
-        return None;
-    }
-    let number = numbers[at];
-    match sought.compare(number) {
-        Ordering::Equal => Some(number),
-        Ordering::Less => None,
-        Ordering::Greater => None,
+    match search_in(numbers, sought) {
+        Ok(number) => (Some(number), 0),
+        Err(place) => (None, place),
     }
 }
 
@@ -78,16 +92,36 @@ pub(crate) fn chunk_for<C: Compare>(chunks: &[Vec<u32>], sought: &C) -> usize
     low
 }
 
-// The number that is equal to what is sought, if there is one in these chunks.
-pub(crate) fn find_among<C: Compare>(chunks: &[Vec<u32>], sought: &C) -> Option<u32>
+// The same: a chunk that is the only one needs no look.
+fn chunk_to_search<C: Compare>(chunks: &[Vec<u32>], sought: &C) -> usize
     requires sized { AreChunks (numbers_of chunks.now) }
     requires ascends { Ascends (C.order sought.now) (concat (numbers_of chunks.now)) }
-    ensures { MatchOption result (Misses (C.order sought.now) (concat (numbers_of chunks.now)))
+    ensures within { result ≤ length chunks.now }
+    ensures belongs { Belongs (C.order sought.now) (numbers_of chunks.now) result }
+{
+    if chunks.len() == 1 {
+        return 0;
+    }
+    chunk_for(chunks, sought)
+}
+
+// The number that is equal to what is sought, if there is one in these chunks, and where the search ended.
+pub(crate) fn find_among<C: Compare>(chunks: &[Vec<u32>], sought: &C) -> (Option<u32>, SearchEnd)
+    requires sized { AreChunks (numbers_of chunks.now) }
+    requires ascends { Ascends (C.order sought.now) (concat (numbers_of chunks.now)) }
+    ensures { MatchOption result.0 (Misses (C.order sought.now) (concat (numbers_of chunks.now)))
         (λ n. Finds (C.order sought.now) (concat (numbers_of chunks.now)) n) }
 {
-    let at = chunk_for(chunks, sought);
+    let at = chunk_to_search(chunks, sought);
     if at == chunks.len() {
-        return None;
+        return (
+            None,
+            SearchEnd {
+                chunk: at,
+                place: 0,
+            },
+        );
     }
-    find_in(chunks[at].as_slice(), sought)
+    let (found, place) = find_in(chunks[at].as_slice(), sought);
+    (found, SearchEnd { chunk: at, place })
 }

@@ -29,7 +29,7 @@ fn unknown_type(written: &ValType) -> Refusal
     ensures { kind_of result ≡ refusal_kind ErrorKind.Other }
 {
     Refusal::Unknown {
-        space: Space::Type,
+        space: Space::NamedType,
         index: index_in(written),
     }
 }

@@ -2,7 +2,7 @@
 
 ghost use Rattle.std.specs.Prelude.{◌≡◌, ◌↔◌, MatchResult};
 ghost use Rattle.wasm_types.specs.decoding.Denials.{Denies};
-ghost use Rattle.wasm_types.specs.decoding.declared.error.ErrorKind.TheVariants.{OutOfMemory};
+ghost use Rattle.wasm_types.specs.decoding.declared.error.ErrorKind.TheVariants.{OutOfMemory, Other};
 ghost use Rattle.wasm_operator_validator_rules.specs.Operands.{ValueType};
 ghost use Rattle.wasm_operator_validator_rules.specs.Context.{Signature, IsType};
 ghost use Rattle.wasm_operator_validator_resources.specs.Meaning.{type_in};
@@ -40,13 +40,22 @@ pub fn check_block_type<R: WasmModuleResources>(
             }
             match function_at(resources, type_index) {
                 Some(_) => Ok(BlockType::FuncType(type_index)),
-                None => Err(Refusal::Unknown {
-                    space: Space::FunctionType,
-                    index: type_index,
-                }),
+                None => Err(no_function(resources, type_index)),
             }
         }
     }
+}
+
+/// Why an index names no function type.
+#[cold]
+fn no_function<R: WasmModuleResources>(resources: &R, index: u32) -> Refusal
+    ensures { kind_of result ≡ Other }
+{
+    let space = match resources.sub_type_at(index) {
+        Some(_) => Space::FunctionType,
+        None => Space::Type,
+    };
+    Refusal::Unknown { space, index }
 }
 
 /// A value type as code writes it, with the types in it named by their ids. Numbers that need no feature are not asked.
@@ -80,8 +89,18 @@ fn type_refusal(error: &Error, ty: ValType) -> Refusal
     match error.kind() {
         ErrorKind::MissingFeature(feature) => Refusal::TypeNotEnabled { feature, ty },
         ErrorKind::OutOfMemory => Refusal::OutOfMemory,
-        ErrorKind::EndOfData { needed_hint: _ } => Refusal::Because(Reason::UnknownType),
-        ErrorKind::Failed => Refusal::Because(Reason::UnknownType),
-        ErrorKind::Other => Refusal::Because(Reason::UnknownType),
+        ErrorKind::EndOfData { needed_hint: _ } => unknown_type(ty),
+        ErrorKind::Failed => unknown_type(ty),
+        ErrorKind::Other => unknown_type(ty),
+    }
+}
+
+// That a value type names a type that the module does not have.
+fn unknown_type(ty: ValType) -> Refusal
+    ensures { kind_of result ≡ Other }
+{
+    match ty.as_reference_type() {
+        Some(reference) => Refusal::unknown_heap(reference.heap_type()),
+        None => Refusal::Because(Reason::UnknownType),
     }
 }

@@ -1,6 +1,6 @@
 -- Worked steps over a store, one for each way in which an operator goes on: what branches and what does not, what traps and what passes.
 use Rattle.std.specs.Prelude.{ℕ, pos, negsuc, true, false, List, [], ◌∷◌, Some}
-use Rattle.wasm_types.specs.trees.Types.{any, func, extern, i31, abstract, concrete, number, ref, i32}
+use Rattle.wasm_types.specs.trees.Types.{any, func, extern, abstract, number, ref, i32}
 use Rattle.wasm_types.specs.values.Reference.{Reference}
 use Rattle.wasm_types.specs.values.declared.heap.AbstractHeapType.TheVariants as heap
 use Rattle.wasm_types.specs.values.declared.heap.HeapType.TheVariants as written_heap
@@ -11,12 +11,11 @@ use Rattle.wasm_operators_enums.specs.declared.memory.MemoryOperator.TheVariants
 use Rattle.wasm_operators_enums.specs.Op as op
 use Rattle.wasm_operators_encoding.specs.expressions.Code.{Code, close, plain, nested, turn}
 use Rattle.wasm_operator_validator_rules.specs.Operands.{ValueType}
-use Rattle.wasm_operator_validator_soundness.specs.runs.Values.{ref_null, ref_i31, ref_exn, IsMade, Fits}
+use Rattle.wasm_operator_validator_soundness.specs.runs.Values.{ref_null, ref_i31}
 use Rattle.wasm_operator_validator_soundness.specs.runs.States.{Answer, returned, trapped, thrown}
-use Rattle.wasm_operator_validator_soundness.specs.runs.worked.Runs.{silent, deciding, throw, tried, end, gives_i32, takes_i32}
+use Rattle.wasm_operator_validator_soundness.specs.runs.worked.Runs.{silent, deciding, throw, tried, end, takes_i32}
 use Rattle.wasm_operator_validator_store.specs.Stores.{nothing}
-use Rattle.wasm_operator_validator_store.specs.ValidStores.{StoreFits}
-use Rattle.wasm_operator_validator_store.specs.worked.Program.{num, first_pair, some_cells, some_octets, scalar, own, store, giving, making, trapping, finding, throwing, program, in_place, LeadsFrom, Leads, returns, gc_then, bulk_then, control_then, memory_then, const_then, drop_then, unreachable}
+use Rattle.wasm_operator_validator_store.specs.worked.Program.{num, first_pair, some_cells, some_octets, scalar, own, giving, making, trapping, finding, throwing, in_place, LeadsFrom, Leads, returns, gc_then, bulk_then, control_then, memory_then, const_then, drop_then, unreachable}
 use Rattle.wasm_operator_validator_store.specs.worked.Rows.{handled}
 
 -- ---- types of casts
@@ -84,19 +83,16 @@ pub record CallsWorked : Type 0 where
   pub replaced : Leads (control_then (control.ReturnCallRef 0) unreachable) (own ∷ [])
       (silent ∷ giving (num 5 ∷ []) ∷ []) silent (returns 5)
   pub null_traps : Leads (control_then (control.ReturnCallRef 0) unreachable) (nothing ∷ []) [] silent trapped
-  pub replaced_through : Fits program own (ref false (concrete gives_i32))
-      → Leads (bulk_then (bulk.TableSet 0) (control_then (control.ReturnCallIndirect 0 0) unreachable))
+  pub replaced_through : Leads (bulk_then (bulk.TableSet 0) (control_then (control.ReturnCallIndirect 0 0) unreachable))
       (own ∷ num 1 ∷ num 1 ∷ []) (silent ∷ finding own ∷ giving (num 5 ∷ []) ∷ []) silent (returns 5)
   pub null_through : Leads (control_then (control.ReturnCallIndirect 0 0) unreachable) (num 0 ∷ []) []
       (record silent { held = ref_null false func }) trapped
   pub past_the_table : Leads (control_then (control.ReturnCallIndirect 0 0) unreachable) (num 2 ∷ []) []
       trapping trapped
   -- what a host throws is caught around a call, and not around a tail call
-  pub host_caught : StoreFits program store → IsMade program (ref_exn 0 takes_i32)
-      → Leads (handled (control_then (control.Call 6) (drop_then end))) []
+  pub host_caught : Leads (handled (control_then (control.Call 6) (drop_then end))) []
       (silent ∷ silent ∷ host_throws 0 1 ∷ []) silent (returns 6)
-  pub host_passes : StoreFits program store → IsMade program (ref_exn 0 takes_i32)
-      → Leads (handled (control_then (control.ReturnCall 6) unreachable)) [] (silent ∷ silent ∷ [])
+  pub host_passes : Leads (handled (control_then (control.ReturnCall 6) unreachable)) [] (silent ∷ silent ∷ [])
       (host_throws 0 0) (thrown takes_i32 (num 6 ∷ []))
 
 -- ---- exceptions of the older form
@@ -116,8 +112,7 @@ pub record CastsWorked : Type 0 where
       [] silent (returned (nothing ∷ []))
   pub scalar_passes : Leads (gc_then (gc.BrOnCastFail 0 any_reference scalars_alone) (gc_then gc.I31GetU end))
       (scalar ∷ []) (deciding ∷ making 4 ∷ []) silent (returns 4)
-  pub object_fails : (Fits program first_pair (ref false (abstract false i31)) → ⊥)
-      → LeadsFrom (in_place references (first_pair ∷ []) fails_or_passes)
+  pub object_fails : LeadsFrom (in_place references (first_pair ∷ []) fails_or_passes)
       [] silent (returned (first_pair ∷ []))
   pub null_extern : LeadsFrom (in_place externals (nothing ∷ []) (gc_then gc.ExternConvertAny end))
       (silent ∷ []) silent (returned (ref_null false extern ∷ []))
@@ -163,8 +158,8 @@ pub record AccessesWorked : Type 0 where
   pub past_the_table : Leads (bulk_then (bulk.TableCopy 0 0) end) (num 2 ∷ num 1 ∷ num 0 ∷ []) [] trapping trapped
   pub not_grown : Leads (bulk_then (bulk.TableGrow 0) end) (num 1 ∷ own ∷ []) (giving (num 4294967295 ∷ []) ∷ []) silent
       (returns 4294967295)
-  pub memory_grown : Leads (memory_then (memory.MemoryGrow 0) end) (num 1 ∷ []) (giving (num 1 ∷ []) ∷ []) silent
-      (returns 1)
+  pub memory_grown : Leads (memory_then (memory.MemoryGrow 0) end) (num 1 ∷ []) (giving (num 8 ∷ []) ∷ []) silent
+      (returns 8)
   pub memory_copied : Leads (bulk_then (bulk.MemoryCopy 0 0) end) (num 1 ∷ num 0 ∷ num 2 ∷ num 3 ∷ []) (silent ∷ [])
       silent (returns 3)
   pub memory_discarded : Leads (bulk_then (bulk.MemoryDiscard 0) end) (num 0 ∷ num 0 ∷ num 3 ∷ []) (silent ∷ []) silent

@@ -1,8 +1,9 @@
--- A worked program that imports one global and one table twice, and the store that the host gives it. What the premises of the laws ask
--- holds of both, so the laws are not about nothing. What is written by one index is read by the other, a function of the host is called
--- through a table and returns or traps, and the program's own global, table, tag and segment are at new addresses.
+-- A worked program that imports one global, one table and one memory twice, and the store that the host gives it. What the premises of the
+-- laws ask holds of both, so the laws are not about nothing. What is written by one index is read by the other, a function of the host is
+-- called through a table and returns or traps, and the program's own global, table, memory, tag and segments are at new addresses.
 use Rattle.std.specs.Prelude.{◌≡◌, ◌+◌, ◌^◌, ℕ, ℤ, pos, true, false, List, [], ◌∷◌, Some, None}
 use Rattle.wasm_types.specs.trees.Types.{func, ref, abstract}
+use Rattle.wasm_types.specs.externs.declared.memory.MemoryType.{MemoryType}
 use Rattle.wasm_operators_enums.specs.declared.constant.ConstOperator.TheVariants as const
 use Rattle.wasm_operators_enums.specs.declared.control.ControlOperator.TheVariants as control
 use Rattle.wasm_operators_enums.specs.declared.memory.MemoryOperator.TheVariants as memory
@@ -16,14 +17,14 @@ use Rattle.wasm_operator_validator_soundness.specs.runs.Soundness.{step, IsValid
 use Rattle.wasm_operator_validator_soundness.specs.runs.worked.Caught.{gives_number, own, end}
 use Rattle.wasm_operator_validator_soundness.specs.runs.worked.Older.{gives_type, tag_type}
 use Rattle.wasm_operator_validator_soundness.specs.runs.worked.Runs.{silent}
-use Rattle.wasm_operator_validator_store.specs.Stores.{TableInstance, Store, integer_bits}
+use Rattle.wasm_operator_validator_store.specs.Stores.{TableInstance, Store, integer_bits, memory_in}
 use Rattle.wasm_operator_validator_store.specs.ValidStores.{Knows, HasState, StoreFits}
 use Rattle.wasm_operator_validator_store.specs.Giving.{GivesStep}
 use Rattle.wasm_operator_validator_store.specs.Soundness.{StoreRuns, IsSoundOver}
-use Rattle.wasm_operator_validator_store.specs.Instantiation.{function_item, written, Initials, AreInitials, imports_of, IsFirstStore}
-use Rattle.wasm_operator_validator_store.specs.worked.Program.{num, numbers, counter, callees, holds, giving, returns}
+use Rattle.wasm_operator_validator_store.specs.Instantiation.{function_item, kept, written, Initials, AreInitials, imports_of, IsFirstStore}
+use Rattle.wasm_operator_validator_store.specs.worked.Program.{num, numbers, counter, callees, small_memory, small_bytes, memory_of, holds, giving, returns}
 
--- ---- what the host gives: a number, and a table of a function of its own and a null
+-- ---- what the host gives: a number, a table of a function of its own and a null, and a memory of eight bytes
 
 abbrev pub of_host : Value
 of_host = ref_function None gives_type
@@ -35,13 +36,23 @@ abbrev pub given : Store
 given = record {
   globals = holds counter (num 0) ∷ [];
   tables = callable ∷ [];
+  memories = memory_of small_memory small_bytes ∷ [];
   segments = [];
+  data_segments = [];
   objects = [];
   exceptions = [];
   tags = tag_type ∷ [];
   externs = [];
-  addresses = record { globals = 0 ∷ 0 ∷ []; tables = 0 ∷ 0 ∷ []; tags = 0 ∷ [] };
+  addresses = record { globals = 0 ∷ 0 ∷ []; tables = 0 ∷ 0 ∷ []; memories = 0 ∷ 0 ∷ []; tags = 0 ∷ [] };
 }
+
+-- the program's own memory, of two bytes
+abbrev pub own_memory : MemoryType
+own_memory = record { memory64 = false; shared = false; initial = 2; maximum = Some 2; page_size_log2 = Some 0 }
+
+-- what the imported memory holds after the active segment is written to it
+abbrev pub written_bytes : List ℕ
+written_bytes = 1 ∷ 9 ∷ 10 ∷ 254 ∷ 5 ∷ 6 ∷ 7 ∷ 128 ∷ []
 
 -- exceptions, references and garbage collection
 abbrev pub bits : ℕ
@@ -72,7 +83,7 @@ module _ (x : ℤ) where
       types = gives_type ∷ tag_type ∷ [];
       functions = gives_type ∷ gives_type ∷ gives_type ∷ [];
       tables = callees ∷ callees ∷ callees ∷ [];
-      memories = [];
+      memories = small_memory ∷ small_memory ∷ own_memory ∷ [];
       globals = counter ∷ counter ∷ counter ∷ [];
       tags = tag_type ∷ tag_type ∷ [];
       elements = ref true (abstract false func) ∷ [];
@@ -84,27 +95,33 @@ module _ (x : ℤ) where
         ∷ record { type = gives_type; body = Some calling } ∷ [];
   }
 
-  -- its own global is that number; its own table has two nulls, over the second of which the segment writes a function
+  -- Its own global is that number. Its own table has two nulls, over the second of which the segment writes a function. One data segment is
+  -- written over two bytes of the imported memory, by its second index, and one is kept.
   abbrev pub initials : Initials
   initials = record {
     imported_globals = 2;
     imported_tables = 2;
+    imported_memories = 2;
     imported_tags = 1;
     globals = plain five end ∷ [];
     tables = record { size = 2; constant = None } ∷ [];
     segments = record { items = function_item 1 ∷ []; first_use = written 2 (plain one end) } ∷ [];
+    data_segments = record { bytes = 9 ∷ 10 ∷ []; first_use = written 1 (plain one end) }
+        ∷ record { bytes = 11 ∷ []; first_use = kept } ∷ [];
   }
 
   abbrev pub first : Store
   first = record {
     globals = holds counter (num 0) ∷ holds counter five_bits ∷ [];
     tables = callable ∷ record { type = callees; elements = ref_null false func ∷ ref_function (Some 1) gives_type ∷ [] } ∷ [];
+    memories = memory_of small_memory written_bytes ∷ memory_of own_memory (0 ∷ 0 ∷ []) ∷ [];
     segments = [] ∷ [];
+    data_segments = [] ∷ (11 ∷ []) ∷ [];
     objects = [];
     exceptions = [];
     tags = tag_type ∷ tag_type ∷ [];
     externs = [];
-    addresses = record { globals = 0 ∷ 0 ∷ 1 ∷ []; tables = 0 ∷ 0 ∷ 1 ∷ []; tags = 0 ∷ 1 ∷ [] };
+    addresses = record { globals = 0 ∷ 0 ∷ 1 ∷ []; tables = 0 ∷ 0 ∷ 1 ∷ []; memories = 0 ∷ 0 ∷ 1 ∷ []; tags = 0 ∷ 1 ∷ [] };
   }
 
   abbrev pub started : Body → State
@@ -128,6 +145,8 @@ module _ (x : ℤ) where
     pub given_fits : StoreFits (imports_of linked initials) given
     pub first_store : IsFirstStore linked initials given first
     pub fits : StoreFits linked first
+    pub bytes : memory_in first 0 ≡ written_bytes
+    pub own_bytes : memory_in first 2 ≡ 0 ∷ 0 ∷ []
     pub writing_from : IsStarted linked (started writing) numbers
     pub calling_from : IsStarted linked (started calling) numbers
     pub known : HasState (Knows first) (started writing)

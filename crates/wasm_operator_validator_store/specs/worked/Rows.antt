@@ -1,7 +1,7 @@
 -- Worked steps over a store: what is read is what was written, and what traps. Each row is some code above some values and a store, the
 -- answers that the store gives, and what comes of it.
 use Rattle.std.specs.Prelude.{pos, true, false, [], ◌∷◌}
-use Rattle.wasm_types.specs.trees.Types.{func, concrete, ref}
+use Rattle.wasm_types.specs.trees.Types.{func}
 use Rattle.wasm_types.specs.trees.declared.index.UnpackedIndex.TheVariants as index
 use Rattle.wasm_types.specs.values.declared.heap.HeapType.TheVariants as written_heap
 use Rattle.wasm_operators_immediates.specs.declared.block.BlockType.TheVariants as block
@@ -10,11 +10,10 @@ use Rattle.wasm_operators_enums.specs.declared.control.ControlOperator.TheVarian
 use Rattle.wasm_operators_enums.specs.declared.gc.GcOperator.TheVariants as gc
 use Rattle.wasm_operators_enums.specs.declared.memory.MemoryOperator.TheVariants as memory
 use Rattle.wasm_operators_enums.specs.Op as op
-use Rattle.wasm_operators_enums.specs.Op.{Op}
 use Rattle.wasm_operators_encoding.specs.expressions.Code.{Code, plain, nested}
-use Rattle.wasm_operator_validator_soundness.specs.runs.Values.{ref_null, ref_extern, ref_exn, Fits}
+use Rattle.wasm_operator_validator_soundness.specs.runs.Values.{ref_null, ref_extern, ref_exn}
 use Rattle.wasm_operator_validator_soundness.specs.runs.States.{trapped, thrown}
-use Rattle.wasm_operator_validator_soundness.specs.runs.worked.Runs.{silent, standing, throw, i32_block, end, gives_i32, takes_i32, pair, triple}
+use Rattle.wasm_operator_validator_soundness.specs.runs.worked.Runs.{silent, standing, throw, i32_block, end, takes_i32}
 use Rattle.wasm_operator_validator_store.specs.Stores.{nothing}
 use Rattle.wasm_operator_validator_store.specs.Soundness.{IsAnsweredOver}
 use Rattle.wasm_operator_validator_store.specs.worked.Program.{num, first_pair, other_pair, some_cells, some_octets, scalar, own, giving, making, trapping, finding, throwing, guarded, program, store, numbers, Leads, returns, gc_then, bulk_then, const_then, drop_then, unreachable, control_then}
@@ -62,15 +61,12 @@ pub record RowsWorked : Type 0 where
       (first_pair ∷ first_pair ∷ []) (giving (ref_extern 0 ∷ []) ∷ giving (first_pair ∷ []) ∷ making 1 ∷ []) silent
       (returns 1)
   -- a cast passes exactly if the object is of the type
-  pub cast_fails : (Fits program first_pair (ref false (concrete triple)) → ⊥)
-      → Leads (gc_then (gc.RefCastNonNull (written_heap.Concrete (index.Module 3))) end) (first_pair ∷ []) [] silent
+  pub cast_fails : Leads (gc_then (gc.RefCastNonNull (written_heap.Concrete (index.Module 3))) end) (first_pair ∷ []) [] silent
       trapped
-  pub tested : Fits program first_pair (ref false (concrete pair))
-      → Leads (gc_then (gc.RefTestNonNull (written_heap.Concrete (index.Module 2))) end) (first_pair ∷ [])
+  pub tested : Leads (gc_then (gc.RefTestNonNull (written_heap.Concrete (index.Module 2))) end) (first_pair ∷ [])
       (record silent { condition = true; made = 1 } ∷ []) silent (returns 1)
   -- a call through a table finds what was written there, if it is of the type, and a null traps
-  pub called : Fits program own (ref false (concrete gives_i32))
-      → Leads (bulk_then (bulk.TableSet 0) indirect) (own ∷ num 1 ∷ num 1 ∷ [])
+  pub called : Leads (bulk_then (bulk.TableSet 0) indirect) (own ∷ num 1 ∷ num 1 ∷ [])
       (silent ∷ finding own ∷ giving (num 5 ∷ []) ∷ silent ∷ []) silent (returns 5)
   pub null_called : Leads indirect (num 0 ∷ []) [] (record silent { held = ref_null false func }) trapped
   -- a segment is there until it is dropped

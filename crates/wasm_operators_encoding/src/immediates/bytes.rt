@@ -8,11 +8,13 @@ ghost use Rattle.wasm_types.specs.reader.Reading.{Gives, NeedsNoMemory};
 ghost use Rattle.wasm_operators_encoding.specs.immediates.Bytes.{zero_byte, index_or_zero, ordering_by, lane, shuffle, vector, select_types};
 
 use std::alloc::Global;
-use wasm_operators_immediates::{BinaryReader, Error, Ordering, Result, V128, ValType, read_list};
+use wasm_operators_immediates::{
+    BinaryReader, Error, Ordering, Result, Text, V128, ValType, Words, read_list,
+};
 
 // A byte that is zero. Another is refused with this message.
 #[tactic(auto, using(wasm_operators_immediates::specs::Reaching::reaches_self, wasm_operators_immediates::specs::Reaching::reaches_then), unfolding(crate::specs::immediates::Bytes::zero_byte))]
-fn read_zero<'a>(message: &str, reader: &mut BinaryReader<'a>) -> Result<()>
+fn read_zero<'a>(message: Words, reader: &mut BinaryReader<'a>) -> Result<()>
     ensures answer { Gives (λ u. 0) result reader.new (zero_byte reader.old) }
     ensures no_memory { NeedsNoMemory result }
     ensures forward { Reaches reader.old reader.new }
@@ -31,7 +33,7 @@ pub fn read_zero_byte<'a>(reader: &mut BinaryReader<'a>) -> Result<()>
     ensures no_memory { NeedsNoMemory result }
     ensures forward { Reaches reader.old reader.new }
 {
-    read_zero("nonzero byte after `atomic.fence`", reader)
+    read_zero(Words::NonzeroByteAfterAtomicFence, reader)
 }
 
 // An index where it is allowed, and else a byte that is zero.
@@ -44,7 +46,7 @@ fn read_index_or_zero<'a>(allowed: bool, reader: &mut BinaryReader<'a>) -> Resul
     if allowed {
         return reader.read_var_u32();
     }
-    read_zero("zero byte expected", reader)?;
+    read_zero(Words::ZeroByteExpected, reader)?;
     Ok(0)
 }
 
@@ -78,8 +80,12 @@ fn ordering_error(byte: u8, offset: u64) -> Error
     ensures kind { result.kind ≡ Other }
     ensures offset { result.offset ≡ offset }
 {
-    Error::fmt(
-        format_args!("invalid atomic consistency ordering {byte}"),
+    Error::with(
+        Text::Number(
+            Words::InvalidAtomicConsistencyOrdering,
+            byte as u32,
+            Words::Nothing,
+        ),
         offset,
     )
 }
@@ -128,7 +134,7 @@ pub fn read_lane<'a>(lanes: u8, reader: &mut BinaryReader<'a>) -> Result<u8>
     if index < lanes {
         return Ok(index);
     }
-    Err(Error::new("invalid lane index", offset))
+    Err(Error::new(Words::InvalidLaneIndex, offset))
 }
 
 /// The 16 lanes of `i8x16.shuffle`, each below 32 (WebAssembly 3.0, binary format, vector instructions). A larger one is
@@ -168,5 +174,5 @@ pub fn read_select_types<'a>(alloc: Global, reader: &mut BinaryReader<'a>) -> Re
     ensures forward { Reaches reader.old reader.new }
 {
     let limit = reader.limits().select_types as usize;
-    read_list(alloc, limit, "select types", reader)
+    read_list(alloc, limit, Words::SelectTypes, reader)
 }

@@ -8,7 +8,7 @@ ghost use Rattle.wasm_types.specs.values.Decode.{long_reference};
 ghost use Rattle.wasm_operators_encoding.specs.immediates.Casts.{cast_branch};
 
 use std::alloc::Global;
-use wasm_operators_immediates::{BinaryReader, Error, FromReader, HeapType, RefType, Result};
+use wasm_operators_immediates::{BinaryReader, Error, FromReader, HeapType, RefType, Result, Text};
 
 /// What `br_on_cast` and `br_on_cast_fail` carry (WebAssembly 3.0, structure, control instructions).
 #[derive(Clone, Copy, Debug, PartialEq, Eq)]
@@ -44,7 +44,7 @@ fn flags_error(flags: u8, offset: u64) -> Error
     ensures kind { result.kind ≡ Other }
     ensures offset { result.offset ≡ offset }
 {
-    Error::fmt(format_args!("invalid cast flags: {flags:08b}"), offset)
+    Error::with(Text::CastFlags(flags), offset)
 }
 
 /// What a branch on a cast carries: a byte of flags, of which bit 0 says that the type before the cast takes null and bit

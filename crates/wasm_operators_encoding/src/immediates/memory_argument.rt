@@ -10,7 +10,7 @@ ghost use Rattle.wasm_operators_encoding.specs.immediates.Accesses.{access_of};
 
 use crate::immediates::bytes::read_ordering_by;
 use wasm_operators_immediates::{
-    BinaryReader, Error, MemArg, MemArgOrdering, MemArgTarget, Result, WasmFeatures,
+    BinaryReader, Error, MemArg, MemArgOrdering, MemArgTarget, Result, WasmFeatures, Words,
 };
 
 /// What ordering a memory argument may name.
@@ -53,7 +53,7 @@ fn flags_error(offset: u64) -> Error
     ensures kind { result.kind ≡ Other }
     ensures offset { result.offset ≡ offset }
 {
-    Error::new("malformed memop alignment: alignment too large", offset)
+    Error::new(Words::MalformedMemopAlignmentAlignmentTooLarge, offset)
 }
 
 // The flags, where an ordering and a memory may be named or not.

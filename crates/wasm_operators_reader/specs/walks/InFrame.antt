@@ -11,6 +11,7 @@ use Rattle.wasm_operators_enums.specs.Roles.{fits}
 use Rattle.wasm_operators_encoding.specs.Coded.{operator}
 use Rattle.wasm_operators_encoding.specs.Operators.{coded_of}
 use Rattle.wasm_operators_enums.specs.Vectors.{is_simd}
+use Rattle.wasm_operators_reader.specs.FirstByte.{ToldFirst, vector_in}
 
 -- this operator begins here, may come next in this frame, and ends where t stands
 pub record ReadsIn (frame : Option FrameKind) (s : State) (o : Op) (t : State) : Type 0 where
@@ -41,6 +42,10 @@ pub record RefusesVectorIn (frame : Option FrameKind) (s : State) (e : ErrorValu
   pub kind : e.kind ≡ Other
   pub offset : e.offset ≡ s.place
 
+-- no operator is read here; if it begins as one on vectors, it is refused where it begins, whatever follows
+abbrev pub RefusesUnreadIn : Option FrameKind → State → ErrorValue → Type 0
+RefusesUnreadIn frame s e = (f : ErrorValue) × RefusesIn frame s f × ToldFirst (vector_in frame s) s.place f e
+
 -- why no operator is read, or one on vectors
 abbrev pub RefusesPlainIn : Option FrameKind → State → ErrorValue → Type 0
-RefusesPlainIn frame s e = RefusesIn frame s e ⊎ RefusesVectorIn frame s e
+RefusesPlainIn frame s e = RefusesUnreadIn frame s e ⊎ RefusesVectorIn frame s e

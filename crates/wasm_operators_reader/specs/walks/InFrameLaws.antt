@@ -1,5 +1,5 @@
 -- What is read in a frame is what a reader with that frame innermost reads.
-use Rattle.std.proofs.Common.{◌≡◌, ◌↔◌, inl, inr, Bool, true, false, List, [], ◌∷◌, Option, Some, None, refl, sym, ◌∙◌}
+use Rattle.std.proofs.Common.{◌≡◌, ◌↔◌, inl, inr, Bool, true, false, List, [], ◌∷◌, Option, Some, None, refl, sym, ◌∙◌, subst}
 use Rattle.wasm_types.specs.decoding.Decoder.{State}
 use Rattle.wasm_types.specs.decoding.ErrorValue.{ErrorValue}
 use Rattle.wasm_operators_immediates.specs.declared.frames.FrameKind.{FrameKind}
@@ -9,7 +9,8 @@ use Rattle.wasm_operators_encoding.specs.expressions.Frames.{after}
 use Rattle.wasm_operators_encoding.specs.expressions.FrameLaws.{fits_after}
 use Rattle.wasm_operators_encoding.specs.expressions.Stack.{innermost}
 use Rattle.wasm_operators_reader.specs.Standing.{Reads, Refuses}
-use Rattle.wasm_operators_reader.specs.walks.InFrame.{ReadsIn, RefusesIn}
+use Rattle.wasm_operators_reader.specs.FirstByte.{ToldFirst, vector_in}
+use Rattle.wasm_operators_reader.specs.walks.InFrame.{ReadsIn, RefusesIn, RefusesPlainIn}
 
 -- a reader at these bytes with these frames reads this operator, and stands behind it
 abbrev pub ReadsTo : List FrameKind → State → Op → State → Type 0
@@ -51,3 +52,7 @@ refuses_from (k ∷ ks) s e (inr (u, kind, place)) =
 
 pub refuses_in_frame : (ks : List FrameKind) (s : State) (e : ErrorValue) → RefusesIn (innermost ks) s e ↔ Refuses (record { bytes = s; frames = ks }) e
 refuses_in_frame ks s e = (refuses_to ks s e, refuses_from ks s e)
+
+-- what is told where none on vectors is taken, by the bytes of a reader that stands here
+pub refused_plain : (k : Option FrameKind) (s b : State) (f e : ErrorValue) → RefusesIn k s f → b ≡ s → ToldFirst (vector_in k b) b.place f e → RefusesPlainIn k s e
+refused_plain k s b f e r same told = inl (f, r, subst (λ (a : State). ToldFirst (vector_in k a) a.place f e) same told)

@@ -7,12 +7,15 @@ use Rattle.wasm_types.specs.reader.Reading.{IsNotMemory}
 use Rattle.wasm_operators_enums.specs.Op.{Op}
 use Rattle.wasm_operators_encoding.specs.expressions.Code.{Code, walk}
 use Rattle.wasm_operators_encoding.specs.expressions.Spelling.{SpelledExpression}
+use Rattle.wasm_operators_encoding.specs.expressions.Stack.{innermost}
+use Rattle.wasm_operators_reader.specs.FirstByte.{ToldFirst, refused_in}
+use Rattle.wasm_operators_reader.specs.FirstByteLaws.{told_content}
 use Rattle.wasm_operators_reader.specs.Standing.{Standing, at_start, IsFinished, Reads, Runs, Refuses, WantsMemory}
 use Rattle.wasm_operators_reader.specs.StandingLaws.{reads_fewer}
 use Rattle.wasm_operators_reader.specs.RunLaws.{run_more, run_expression, refused_run, ended_run}
 use Rattle.wasm_operators_reader.specs.Visiting.{Visits}
 use Rattle.wasm_operators_reader.specs.Walking.{VisitsAll, WalksTo, WalksUntilTo}
-use Rattle.wasm_operators_reader.specs.walks.Whole.{TellsTo, TellsUntilAt, Stops}
+use Rattle.wasm_operators_reader.specs.walks.Whole.{TellsTo, TellsUntilAt, RefusesFirst, Stops}
 
 runs_both : (os ps : List Op) (s t u : Standing) → Runs s os t → Runs t ps u → Runs s (os ++ ps) u
 runs_both [] ps s t u e h = subst (λ (m : Standing). Runs m ps u) e h
@@ -68,15 +71,18 @@ module _ {V A : Type 0} (visits : V → Op → A → V → Type 0) (answer : A) 
   -- where it stops before the end, the bytes spell no expression
   pub stop_denies : (s : State) (t : Standing) (v w : V) (e : ErrorValue) → TellsTo visits answer (at_start s) v t w → IsNotMemory e.kind → (c : Code)
       → SpelledExpression s.settings c s.rest → Stops t e → ⊥
-  stop_denies s t v w e told n c h (inl (more, r, memory)) = refused_run s told.0 t told.1 (λ f. more f.bytes) c h e r n
+  stop_denies s t v w e told n c h (inl (more, (f, r, first), memory)) =
+      refused_run s told.0 t told.1 (λ f. more f.bytes) c h f r (told_content (refused_in (innermost t.frames) t.bytes) t.bytes.place f e first n)
   stop_denies s t v w e told n c h (inr (ended, open_still, kind, place)) = ended_run s told.0 t told.1 (λ f. open_still f.frames) c h ended
 
   -- a refused read leaves all as it was
-  pub tells_stop : (s t u : Standing) (v w x : V) (e : ErrorValue) → TellsTo visits answer s v t w → (t.bytes.rest ≡ [] → ⊥) → Refuses t e
-      → ((WantsMemory t → ⊥) → IsNotMemory e.kind) → u ≡ t → x ≡ w → TellsTo visits answer s v u x × Stops u e
-  tells_stop s t u v w x e told more r memory same kept = (
+  pub tells_stop : (s t u : Standing) (v w x : V) (f e : ErrorValue) → TellsTo visits answer s v t w → (t.bytes.rest ≡ [] → ⊥) → Refuses t f
+      → ((WantsMemory t → ⊥) → IsNotMemory f.kind) → u ≡ t → x ≡ w → ToldFirst (refused_in (innermost u.frames) u.bytes) u.bytes.place f e
+      → (IsNotMemory f.kind → IsNotMemory e.kind) → TellsTo visits answer s v u x × Stops u e
+  tells_stop s t u v w x f e told more r memory same kept first content = (
     subst (λ (y : V). TellsTo visits answer s v u y) (sym kept) (subst (λ (z : Standing). TellsTo visits answer s v z w) (sym same) told),
-    subst (λ (z : Standing). Stops z e) (sym same) (inl (more, r, memory)),
+    let at : RefusesFirst t e = (f, r, subst (λ (z : Standing). ToldFirst (refused_in (innermost z.frames) z.bytes) z.bytes.place f e) same first) in
+        subst (λ (z : Standing). Stops z e) (sym same) (inl (more, at, λ none. content (memory none))),
   )
 
   pub answered : (t u : Standing) (w x : V) (a b : A) → a ≡ b → Visits visits t w a u x → Visits visits t w b u x

@@ -9,10 +9,11 @@ ghost use Rattle.wasm_operators_decode.specs.Memory.{keeps_list_at};
 ghost use Rattle.wasm_operators_enums.specs.Vectors.{is_simd};
 ghost use Rattle.wasm_operators_reader.specs.walks.InFrame.{ReadsIn, RefusesIn, RefusesPlainIn};
 
+use crate::visiting::unread_in_frame;
 use crate::{FrameKind, FrameStack, Operator, misplaced, read_operator, unexpected_vector};
 use std::alloc::Global;
 use wasm_operators_enums::is_simd;
-use wasm_types::{BinaryReader, Error, Result};
+use wasm_types::{BinaryReader, Error, Result, Words};
 
 /// Looks at operators, where a stack knows which frames are open. With no frame open nothing is read: that is refused before a
 /// byte is read.
@@ -56,13 +57,13 @@ impl<'a> ReadOperators<'a> for BinaryReader<'a> {
     fn finish_expression<S: FrameStack>(&self, stack: &S) -> Result<()> {
         if stack.current_frame().is_some() {
             return Err(Error::new(
-                "control frames remain at end of function body or expression",
+                Words::ControlFramesRemainAtEndOfFunctionBodyOrExpression,
                 self.original_position(),
             ));
         }
         if !self.eof() {
             return Err(Error::new(
-                "unexpected data at the end of operators",
+                Words::UnexpectedDataAtTheEndOfOperators,
                 self.original_position(),
             ));
         }
@@ -86,7 +87,7 @@ pub fn read_in_frame<'a>(
 {
     if frame.is_none() {
         return Err(Error::new(
-            "operators remaining after end of function body or expression",
+            Words::OperatorsRemainingAfterEndOfFunctionBodyOrExpression,
             reader.original_position(),
         ));
     }
@@ -107,7 +108,8 @@ pub fn read_in_frame<'a>(
 ///
 /// # Errors
 ///
-/// As [`read_in_frame`]; and where the operator is one on vectors, which is refused where it begins. The reader stays as it was.
+/// As [`read_in_frame`]; and where the operator is one on vectors, which is refused where it begins, whatever follows its first byte.
+/// The reader stays as it was.
 pub fn read_plain_in_frame<'a>(
     alloc: Global,
     frame: Option<FrameKind>,
@@ -120,7 +122,7 @@ pub fn read_plain_in_frame<'a>(
     let start = reader.clone();
     let op = match read_in_frame(alloc, frame, reader) {
         Ok(op) => op,
-        Err(error) => return Err(error),
+        Err(error) => return Err(unread_in_frame(frame, &start, error)),
     };
     if is_simd(&op) {
         let place = start.original_position();

@@ -8,9 +8,8 @@ ghost use Rattle.wasm_operators_reader.specs.Standing.{Standing, at_start};
 ghost use Rattle.wasm_operators_reader.specs.Visiting.{VisitsPlain};
 ghost use Rattle.wasm_operators_reader.specs.Walking.{HasNoVectors, VisitsAll, WalksTo, WalksUntilAt, StopsPlain};
 
-use crate::{FrameStack, OperatorsReader, OperatorsReaderAllocations, TellOperator, TellPlain};
+use crate::{OperatorsReader, TellOperator};
 use std::alloc::Global;
-use std::mem::replace;
 use wasm_types::{BinaryReader, Result};
 
 /// Tells a visitor of the operators of an expression in their order, to the end of the bytes: of any but those on vectors, and of several
@@ -28,7 +27,7 @@ pub fn tell_expression_with_offset<'a, E: Drop, V>(
     visitor: &mut V,
 ) -> Result<std::result::Result<(), (E, u64)>>
 where
-    V: TellOperator<'a, Output = std::result::Result<(), E>> + TellPlain<'a, E>,
+    V: TellOperator<'a, Output = std::result::Result<(), E>>,
     ensures whole { IfOk result (λ end. IfOk end (λ _. (c : Code)
         × SpelledExpression reader.entry.settings c reader.entry.rest × HasNoVectors (walk c)
         × VisitsAll V.visits (Ok tt) visitor.old (walk c) visitor.new)) }
@@ -59,7 +58,7 @@ fn visit_all<'a, E: Drop, V>(
     visitor: &mut V,
 ) -> Result<std::result::Result<(), (E, u64)>>
 where
-    V: TellOperator<'a, Output = std::result::Result<(), E>> + TellPlain<'a, E>,
+    V: TellOperator<'a, Output = std::result::Result<(), E>>,
     ensures whole { IfOk result (λ end. IfOk end (λ _. WalksTo V.visits
         (Ok tt) operators.old visitor.old operators.new visitor.new × (operators.new.bytes.rest ≡ []))) }
     ensures ended { IfOk result (λ end. IfErr end (λ x. WalksUntilAt V.visits (Ok tt) operators.old visitor.old
@@ -85,62 +84,4 @@ where
         }
     }
     Ok(Ok(()))
-}
-
-/// Whether all bytes of the reader spell one expression without vectors, of whose operators the visitor answers each with `Ok`: it was told
-/// of them all then. Nothing says why not, as `tell_expression_with_offset` does: the visitor may have been told of some. The memory of the
-/// reader's frames is used again.
-pub fn tells_whole<'a, E: Drop, V>(
-    alloc: Global,
-    frames: &mut OperatorsReaderAllocations,
-    reader: BinaryReader<'a>,
-    visitor: &mut V,
-) -> bool
-where
-    V: TellOperator<'a, Output = std::result::Result<(), E>> + TellPlain<'a, E>,
-    ensures { result ≡ true → (c : Code) × SpelledExpression reader.entry.settings c reader.entry.rest
-        × HasNoVectors (walk c) × VisitsAll V.visits (Ok tt) visitor.old (walk c) visitor.new }
-{
-    let used = replace(frames, OperatorsReaderAllocations::new(alloc));
-    let mut operators = OperatorsReader::new_with_allocs(alloc, reader, used);
-    let told = tells_all(&mut operators, visitor);
-    let closed = operators.current_frame().is_none();
-    *frames = operators.into_allocations();
-    told && closed
-}
-
-// Whether a visitor answers `Ok` to all operators until no byte is left.
-#[inline]
-fn tells_all<'a, E: Drop, V>(operators: &mut OperatorsReader<'a>, visitor: &mut V) -> bool
-where
-    V: TellOperator<'a, Output = std::result::Result<(), E>> + TellPlain<'a, E>,
-    ensures { result ≡ true → WalksTo V.visits (Ok tt) operators.old visitor.old operators.new visitor.new
-        × (operators.new.bytes.rest ≡ []) }
-{
-    while !operators.eof() {
-        if operators.tell_run(visitor).is_some() {
-            return false;
-        }
-        if operators.eof() {
-            return true;
-        }
-        if !tells_next(operators, visitor) {
-            return false;
-        }
-    }
-    true
-}
-
-// Whether a visitor answers `Ok` to the next operator.
-#[inline(never)]
-fn tells_next<'a, E: Drop, V>(operators: &mut OperatorsReader<'a>, visitor: &mut V) -> bool
-where
-    V: TellOperator<'a, Output = std::result::Result<(), E>> + TellPlain<'a, E>,
-    ensures { result ≡ true → VisitsPlain V.visits operators.old visitor.old (Ok tt) operators.new visitor.new }
-{
-    match operators.tell_operator(visitor) {
-        Ok(Ok(())) => true,
-        Ok(Err(_)) => false,
-        Err(_) => false,
-    }
 }

@@ -9,10 +9,10 @@ ghost use Rattle.wasm_operators_reader.specs.Visiting.{Visits};
 ghost use Rattle.wasm_operators_reader.specs.Walking.{VisitsAll};
 ghost use Rattle.wasm_operators_reader.specs.walks.Whole.{TellsTo, TellsUntilAt, Stops};
 
+use crate::visiting::told_of;
 use crate::walks::telling::{TellSimdOperator, tell_operator_simd};
-use crate::{FrameStack, OperatorsReader, OperatorsReaderAllocations, TellOperator, TellPlain};
+use crate::{OperatorsReader, TellOperator};
 use std::alloc::Global;
-use std::mem::replace;
 use wasm_types::{BinaryReader, Result};
 
 /// Tells a visitor of all operators of an expression in their order, to the end of the bytes, and of several at once that open and close no
@@ -21,7 +21,8 @@ use wasm_types::{BinaryReader, Result};
 ///
 /// # Errors
 ///
-/// The bytes spell no expression, or there is no memory; the visitor was told of the operators before the one that is refused.
+/// The bytes spell no expression, or there is no memory; the visitor was told of the operators before the one that is refused. If the
+/// features refuse that one by its first byte, it is refused there, whatever follows.
 #[tactic(none)]
 pub fn tell_whole_with_offset<'a, E: Drop, V>(
     alloc: Global,
@@ -29,9 +30,7 @@ pub fn tell_whole_with_offset<'a, E: Drop, V>(
     visitor: &mut V,
 ) -> Result<std::result::Result<(), (E, u64)>>
 where
-    V: TellOperator<'a, Output = std::result::Result<(), E>>
-        + TellPlain<'a, E>
-        + TellSimdOperator<'a>,
+    V: TellOperator<'a, Output = std::result::Result<(), E>> + TellSimdOperator<'a>,
     ensures whole { IfOk result (λ end. IfOk end (λ _. (c : Code)
         × SpelledExpression reader.entry.settings c reader.entry.rest
         × VisitsAll V.visits (Ok tt) visitor.old (walk c) visitor.new)) }
@@ -62,9 +61,7 @@ fn tell_every<'a, E: Drop, V>(
     visitor: &mut V,
 ) -> Result<std::result::Result<(), (E, u64)>>
 where
-    V: TellOperator<'a, Output = std::result::Result<(), E>>
-        + TellPlain<'a, E>
-        + TellSimdOperator<'a>,
+    V: TellOperator<'a, Output = std::result::Result<(), E>> + TellSimdOperator<'a>,
     ensures whole { IfOk result (λ end. IfOk end (λ _. TellsTo V.visits
         (Ok tt) operators.old visitor.old operators.new visitor.new × (operators.new.bytes.rest ≡ []))) }
     ensures ended { IfOk result (λ end. IfErr end (λ x. TellsUntilAt V.visits (Ok tt) operators.old visitor.old
@@ -83,75 +80,11 @@ where
         let place = operators.original_position();
         let answer = match tell_operator_simd(operators, visitor) {
             Ok(answer) => answer,
-            Err(error) => return Err(error),
+            Err(error) => return Err(told_of(operators, error)),
         };
         if let Err(last) = answer {
             return Ok(Err((last, place)));
         }
     }
     Ok(Ok(()))
-}
-
-/// Whether all bytes of the reader spell one expression, of whose operators the visitor answers each with `Ok`: it was told of them all then.
-/// Nothing says why not, as `tell_whole_with_offset` does: the visitor may have been told of some. The memory of the reader's frames is
-/// used again.
-pub fn tells_whole_with_vectors<'a, E: Drop, V>(
-    alloc: Global,
-    frames: &mut OperatorsReaderAllocations,
-    reader: BinaryReader<'a>,
-    visitor: &mut V,
-) -> bool
-where
-    V: TellOperator<'a, Output = std::result::Result<(), E>>
-        + TellPlain<'a, E>
-        + TellSimdOperator<'a>,
-    ensures { result ≡ true → (c : Code) × SpelledExpression reader.entry.settings c reader.entry.rest
-        × VisitsAll V.visits (Ok tt) visitor.old (walk c) visitor.new }
-{
-    let used = replace(frames, OperatorsReaderAllocations::new(alloc));
-    let mut operators = OperatorsReader::new_with_allocs(alloc, reader, used);
-    let told = tells_every(&mut operators, visitor);
-    let closed = operators.current_frame().is_none();
-    *frames = operators.into_allocations();
-    told && closed
-}
-
-// Whether a visitor answers `Ok` to all operators until no byte is left.
-#[inline]
-fn tells_every<'a, E: Drop, V>(operators: &mut OperatorsReader<'a>, visitor: &mut V) -> bool
-where
-    V: TellOperator<'a, Output = std::result::Result<(), E>>
-        + TellPlain<'a, E>
-        + TellSimdOperator<'a>,
-    ensures { result ≡ true → TellsTo V.visits (Ok tt) operators.old visitor.old operators.new visitor.new
-        × (operators.new.bytes.rest ≡ []) }
-{
-    while !operators.eof() {
-        if operators.tell_run(visitor).is_some() {
-            return false;
-        }
-        if operators.eof() {
-            return true;
-        }
-        if !tells_one(operators, visitor) {
-            return false;
-        }
-    }
-    true
-}
-
-// Whether a visitor answers `Ok` to the next operator.
-#[inline(never)]
-fn tells_one<'a, E: Drop, V>(operators: &mut OperatorsReader<'a>, visitor: &mut V) -> bool
-where
-    V: TellOperator<'a, Output = std::result::Result<(), E>>
-        + TellPlain<'a, E>
-        + TellSimdOperator<'a>,
-    ensures { result ≡ true → Visits V.visits operators.old visitor.old (Ok tt) operators.new visitor.new }
-{
-    match tell_operator_simd(operators, visitor) {
-        Ok(Ok(())) => true,
-        Ok(Err(_)) => false,
-        Err(_) => false,
-    }
 }

@@ -3,7 +3,10 @@ use Rattle.std.proofs.Common.{◌≡◌, ◌∙◌, ℕ, List, [], ◌∷◌, re
 use Rattle.wasm_types.specs.decoding.Decoder.{State, Done}
 use Rattle.wasm_types.specs.decoding.ExactLaws.{value_is}
 use Rattle.wasm_types.specs.decoding.Leb.{unsigned}
-use Rattle.wasm_types.specs.decoding.declared.error.ErrorKind.TheVariants.{Other}
+use Rattle.wasm_types.specs.decoding.declared.error.ErrorKind.{ErrorKind}
+use Rattle.wasm_types.specs.decoding.declared.error.ErrorKind.TheVariants.{EndOfData, OutOfMemory, Other}
+use Rattle.wasm_types.specs.decoding.ErrorValue.{ErrorValue}
+use Rattle.wasm_types.specs.settings.Features.{has, judges_vectors}
 use Rattle.wasm_types.specs.settings.Limits.{default_limits}
 use Rattle.wasm_types.specs.settings.Settings.{no_features}
 use Rattle.wasm_types.specs.reader.Reading.{Fails}
@@ -21,8 +24,9 @@ use Rattle.wasm_operators_encoding.specs.OperatorLaws.{coded_apart}
 use Rattle.wasm_operators_encoding.specs.immediates.Bytes.{vector}
 use Rattle.wasm_operators_encoding.specs.immediates.Immediates.{immediate}
 use Rattle.wasm_operators_enums.specs.Vectors.{is_simd}
-use Rattle.wasm_operators_reader.specs.Standing.{Standing, Reads, Runs}
+use Rattle.wasm_operators_reader.specs.Standing.{Standing, Reads, Refuses, Runs}
 use Rattle.wasm_operators_reader.specs.StandingLaws.{one_step, unread, nothing_follows, refused_no_step}
+use Rattle.wasm_operators_reader.specs.FirstByte.{ToldFirst}
 use Rattle.wasm_operators_reader.specs.Visiting.{RefusesVector}
 use Rattle.wasm_operators_reader.specs.Walking.{HasNoVectors, VisitsAll, WalksTo}
 use Rattle.wasm_operators_reader.specs.walks.InFrame.{ReadsIn, IsMisplaced}
@@ -30,7 +34,7 @@ use Rattle.wasm_operators_frequent.proofs.ShortReading.{told_alone}
 use Rattle.wasm_operators_tests.specs.reader.Rows.{constant, before_constant, behind, choice}
 use Rattle.wasm_operators_tests.specs.reader.StandingRows.{at, before_nop, before_end, behind_end, nop, end, error}
 use Rattle.wasm_operators_tests.specs.reader.StandingRowLaws.{nop_read, end_read, else_read, else_is_read, none_wanted}
-use Rattle.wasm_operators_tests.specs.reader.VisitorRows.{counts, VisitRows, WalkRows, PlainRunRows, FrameRows}
+use Rattle.wasm_operators_tests.specs.reader.VisitorRows.{counts, VisitRows, WalkRows, FirstByteRows, FrameRows}
 
 abbrev behind_constant : Standing
 behind_constant = behind 18 (0x1a ∷ 0x0b ∷ [])
@@ -59,6 +63,36 @@ is_constant o t r = (one_step _ _ _ _ _ constant_read r).0
 no_plain : (o : op.Op) (t : Standing) → Reads before_constant o t → is_simd o ≡ false → ⊥
 no_plain o t r plain = let e : true ≡ false = ap is_simd (is_constant o t r) ∙ plain in cc
 
+abbrev kind_of_error : ErrorValue → ErrorKind
+kind_of_error e = e.kind
+
+-- what the first byte tells is not told otherwise
+not_told_second : (f e : ErrorValue) → (e.kind ≡ Other → ⊥) → (e.kind ≡ OutOfMemory → ⊥) → ToldFirst (Some Other) 0 f e → ⊥
+not_told_second f e other memory (inl t) = other t.1
+not_told_second f e other memory (inr t) = memory (ap kind_of_error t.1 ∙ t.0)
+
+pub first_byte_rows : FirstByteRows
+unfolding has judges_vectors
+first_byte_rows = record {
+  vector = refl;
+  judged_vector = refl;
+  legacy_try = refl;
+  legacy_catch = refl;
+  legacy_catch_all = refl;
+  allowed_try = refl;
+  another = refl;
+  rethrow = refl;
+  delegate = refl;
+  in_no_frame = refl;
+  in_a_frame = refl;
+  first = inl (tt, refl, refl);
+  not_second = not_told_second (error (EndOfData 1) 1) (error (EndOfData 1) 1) (λ e. cc) (λ e. cc);
+  memory = inr (refl, refl);
+  not_for_memory = λ t. elim t [ inl x ↦ x.0 | inr x ↦ let e = ap kind_of_error x.1 in cc ];
+  by_no_byte = refl;
+  not_by_a_byte = λ t. let e : Other ≡ EndOfData 1 = ap kind_of_error t in cc;
+}
+
 pub visit_rows : VisitRows
 unfolding default_limits unsigned opcode numeric_kinds simd_numeric_kinds operator immediate
 visit_rows = record {
@@ -70,11 +104,16 @@ visit_rows = record {
   not_told_plain = λ x. let e = x.3.1 in omega (arith, e);
   vector = (constant, constant_read, (refl, refl));
   no_vector = λ v answer w t x. no_plain _ _ x.1 x.2;
-  refused = inl (inl refl);
+  refused = inl (error Other 0, inl refl, refl);
   refused_vector = inr vector_refused;
   not_refused = λ r. elim r [
-    | inl f ↦ refused_no_step before_nop (error Other 0) f tt nop before_end nop_read
+    | inl u ↦ refused_no_step before_nop (error Other 0) (subst (λ (f : ErrorValue). Refuses before_nop f) (sym u.2) u.1) tt nop before_end nop_read
     | inr v ↦ let e : false ≡ true = ap is_simd (is_nop _ _ v.read) ∙ v.vector in cc
+  ];
+  refused_unread = inl (error (EndOfData 1) 1, inl refl, inl (tt, refl, refl));
+  not_refused_behind = λ r. elim r [
+    | inl u ↦ not_told_second u.0 (error (EndOfData 1) 1) (λ e. cc) (λ e. cc) u.2
+    | inr v ↦ let e : EndOfData 1 ≡ Other = v.kind in cc
   ];
   told = record { op = nop; canonical = refl; read = nop_read.read; role_is = refl; no_vector = refl; told = (refl, refl) };
   told_as_another = λ t.
@@ -133,7 +172,7 @@ walk_rows = record {
   until_elsewhere = λ x. let p = place_before _ _ _ x.2.1 x.2.3 in let e = x.8 in omega (arith, p, e);
   until_behind = (before_end, 5, walked_nop, (end, end_read, refl, (refl, refl)), refl);
   until_behind_elsewhere = λ t x. let p = place_before _ _ _ x.2.1 x.2.3 in let e = x.4 in omega (arith, p, e);
-  stopped = inl (λ e. cc, inl (inl refl), λ w. tt);
+  stopped = inl (λ e. cc, inl (error Other 0, inl refl, refl), λ w. tt);
   stopped_at_a_vector = inl (λ e. cc, inr vector_refused, λ w. tt);
   stopped_in_a_frame = inr (refl, λ e. cc, refl, refl);
   stopped_in_a_frame_elsewhere = λ s. elim s [ inl h ↦ h.0 refl | inr h ↦ let e = h.3 in omega (arith, e) ];
@@ -141,54 +180,29 @@ walk_rows = record {
   not_stopped_for_memory = λ s. elim s [ inl h ↦ h.2 none_wanted | inr h ↦ let e = h.0 in cc ];
 }
 
--- ---- straight from the bytes
-
-end_there : operator no_features (at 0 (0x0b ∷ []) []).bytes ≡ Done (coded_of end) (at 1 [] []).bytes
-unfolding default_limits unsigned opcode numeric_kinds simd_numeric_kinds operator immediate
-end_there = refl
-
-pub plain_run_rows : PlainRunRows
-plain_run_rows = record {
-  one = (0 ∷ [], (4, (refl, refl), told_alone 0 choice 0 0x1b 0x1b (record { inside = lit< tt; code_there = refl }) refl (op.Parametric op.Select) refl refl _ (refl, (refl, refl)) refl refl refl));
-  none = ([], (refl, refl));
-  none_further = λ h. let e = h.0 in omega (arith, e);
-  none_told = λ x. let a = x.1.1 in let b = x.2.told.1.1 in omega (arith, a, b);
-  none_but_counted = λ h. let e = h.1 in omega (arith, e);
-  the_end = λ x.
-      let read = (x.2.reads default_limits).gives (at 0 (0x0b ∷ []) []).bytes refl in
-      let same : end ≡ x.2.op = coded_apart end x.2.op refl x.2.canonical (value_is _ _ _ _ (sym end_there ∙ read)) in
-      let e : End ≡ Plain = ap role_of same ∙ x.2.told.0 in cc;
-}
-
 -- ---- in a frame that is known
 
--- what is read there has the code of `nop`, and of the constant
+-- what is read there has the code of `nop`
 is_coded_nop : (o : op.Op) (u : State) → operator before_nop.bytes.settings before_nop.bytes ≡ Done (coded_of o) u → coded_of nop ≡ coded_of o
 is_coded_nop o u e = value_is _ _ _ _ (sym nop_read.read ∙ e)
-
-is_coded_constant : (o : op.Op) (u : State) → operator before_constant.bytes.settings before_constant.bytes ≡ Done (coded_of o) u → coded_of constant ≡ coded_of o
-is_coded_constant o u e = value_is _ _ _ _ (sym constant_read.read ∙ e)
 
 no_unreachable : (u : State) → ReadsIn (Some Block) before_nop.bytes (op.Control control.Unreachable) u → ⊥
 no_unreachable u r = let c : ◌≡◌ {A = ℕ} 1 0 = ap (λ (x : Coded). x.opcode.code) (is_coded_nop (op.Control control.Unreachable) u r.read) in omega (arith, c)
 
--- neither is refused
+-- it is not refused
 nop_is_read : Fails (error Other 1) (operator before_nop.bytes.settings before_nop.bytes) → ⊥
 nop_is_read f = unread (error Other 1) before_nop.bytes.settings before_nop.bytes f tt (coded_of nop) before_end.bytes nop_read.read
 
-constant_is_read : Fails (error Other 1) (operator before_constant.bytes.settings before_constant.bytes) → ⊥
-constant_is_read f = unread (error Other 1) before_constant.bytes.settings before_constant.bytes f tt (coded_of constant) behind_constant.bytes constant_read.read
-
--- and both are in their place
+-- and it is in its place
 nop_is_placed : IsMisplaced (Some Block) before_nop.bytes → ⊥
 nop_is_placed m =
     let same : nop ≡ m.op = coded_apart nop m.op refl m.canonical (is_coded_nop m.op m.behind m.read) in
     let e : true ≡ false = ap (λ (o : op.Op). fits o (Some Block)) same ∙ m.misfit in cc
 
-constant_is_placed : IsMisplaced (Some Block) before_constant.bytes → ⊥
-constant_is_placed m =
-    let same : constant ≡ m.op = coded_apart constant m.op refl m.canonical (is_coded_constant m.op m.behind m.read) in
-    let e : true ≡ false = ap (λ (o : op.Op). fits o (Some Block)) same ∙ m.misfit in cc
+-- what the first byte tells is told where it is
+not_told_elsewhere : (f : ErrorValue) → ToldFirst (Some Other) 0 f (error Other 1) → ⊥
+not_told_elsewhere f (inl t) = let e = t.2 in omega (arith, e)
+not_told_elsewhere f (inr t) = let e : Other ≡ OutOfMemory = ap kind_of_error t.1 ∙ t.0 in cc
 
 pub frame_rows : FrameRows
 unfolding default_limits unsigned opcode numeric_kinds simd_numeric_kinds operator immediate
@@ -205,5 +219,5 @@ frame_rows = record {
   unfit_elsewhere = λ h. elim h [ inl f ↦ else_is_read f | inr u ↦ let e = u.2 in omega (arith, e) ];
   not_refused = λ h. elim h [ inl f ↦ nop_is_read f | inr u ↦ nop_is_placed u.0 ];
   vector = inr (record { op = constant; behind = behind_constant.bytes; read = record { canonical = refl; read = constant_read.read; fits = refl }; vector = refl; kind = refl; offset = refl });
-  vector_elsewhere = λ h. elim h [ inl r ↦ elim r [ inl f ↦ constant_is_read f | inr u ↦ constant_is_placed u.0 ] | inr v ↦ let e = v.offset in omega (arith, e) ];
+  vector_elsewhere = λ h. elim h [ inl u ↦ not_told_elsewhere u.0 u.2 | inr v ↦ let e = v.offset in omega (arith, e) ];
 }

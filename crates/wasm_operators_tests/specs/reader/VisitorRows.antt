@@ -2,17 +2,17 @@
 -- counts, and answers the code of what it is told.
 use Rattle.std.specs.Prelude.{◌≡◌, ℕ, ◌+◌, [], ◌∷◌, Some, None}
 use Rattle.wasm_types.specs.decoding.Decoder.{State}
-use Rattle.wasm_types.specs.decoding.declared.error.ErrorKind.TheVariants.{OutOfMemory, Other}
+use Rattle.wasm_types.specs.decoding.declared.error.ErrorKind.TheVariants.{EndOfData, MissingFeature, OutOfMemory, Other}
 use Rattle.wasm_types.specs.decoding.ErrorValue.{ErrorValue}
 use Rattle.wasm_operators_immediates.specs.declared.frames.FrameKind.TheVariants.{Block, If}
 use Rattle.wasm_operators_enums.specs.declared.control.ControlOperator.TheVariants as control
 use Rattle.wasm_operators_enums.specs.Op as op
 use Rattle.wasm_operators_enums.specs.Table.{info_of}
 use Rattle.wasm_operators_reader.specs.Standing.{Standing}
+use Rattle.wasm_operators_reader.specs.FirstByte.{ToldFirst, refused_by_byte, refused_in}
 use Rattle.wasm_operators_reader.specs.Visiting.{Visits, VisitsPlain, RefusesPlain, Tells}
 use Rattle.wasm_operators_reader.specs.Walking.{HasNoVectors, VisitsAll, WalksTo, WalksUntil, WalksUntilAt, WalksUntilTo, StopsPlain}
 use Rattle.wasm_operators_enums.specs.declared.role.Role.TheVariants.{Plain, End}
-use Rattle.wasm_operators_frequent.specs.Plain.{ToldPlain, AreToldPlain}
 use Rattle.wasm_operators_reader.specs.walks.InFrame.{ReadsIn, RefusesIn, RefusesPlainIn}
 use Rattle.wasm_operators_tests.specs.reader.Rows.{constant, before_constant, behind, choice}
 use Rattle.wasm_operators_tests.specs.reader.StandingRows.{at, before_nop, before_end, behind_end, nop, end, error}
@@ -34,6 +34,8 @@ pub record VisitRows : Type 0 where
   pub refused : RefusesPlain (at 0 (0x16 ∷ []) (Block ∷ [])) (error Other 0)
   pub refused_vector : RefusesPlain before_constant (error Other 0)
   pub not_refused : RefusesPlain before_nop (error Other 0) → ⊥
+  pub refused_unread : RefusesPlain (at 0 (0xfd ∷ []) (Block ∷ [])) (error Other 0)
+  pub not_refused_behind : RefusesPlain (at 0 (0xfd ∷ []) (Block ∷ [])) (error (EndOfData 1) 1) → ⊥
   pub told : Tells counts Plain before_nop.bytes 4 0x01 before_end.bytes 5
   pub told_as_another : Tells counts End before_nop.bytes 4 0x01 before_end.bytes 5 → ⊥
   pub told_closing : Tells counts End before_end.bytes 4 0x0b behind_end.bytes 5
@@ -63,14 +65,25 @@ pub record WalkRows : Type 0 where
   pub not_stopped_behind_all : (e : ErrorValue) → StopsPlain behind_end e → ⊥
   pub not_stopped_for_memory : StopsPlain before_nop (error OutOfMemory 0) → ⊥
 
--- several that open and close no frame, told straight from their bytes
-pub record PlainRunRows : Type 0 where
-  pub one : AreToldPlain counts 0x1b 0 choice 0 4 1 5
-  pub none : AreToldPlain counts 0x1b 0 choice 0 4 0 4
-  pub none_further : ToldPlain counts 0x1b 0 choice [] 0 4 1 4 → ⊥
-  pub none_told : ToldPlain counts 0x1b 0 choice (0 ∷ []) 0 4 1 4 → ⊥
-  pub none_but_counted : ToldPlain counts 0x1b 0 choice [] 0 4 0 5 → ⊥
-  pub the_end : ToldPlain counts 0x0b 0 (0x0b ∷ []) (0 ∷ []) 0 4 1 5 → ⊥
+-- an operator whose first byte is reason enough to refuse it
+pub record FirstByteRows : Type 0 where
+  pub vector : refused_by_byte 0 0xfd ≡ Some Other
+  pub judged_vector : refused_by_byte 0x10000000 0xfd ≡ None
+  pub legacy_try : refused_by_byte 0 0x06 ≡ Some (MissingFeature (record { 0 = 0x200000 }))
+  pub legacy_catch : refused_by_byte 0 0x07 ≡ Some (MissingFeature (record { 0 = 0x200000 }))
+  pub legacy_catch_all : refused_by_byte 0 0x19 ≡ Some (MissingFeature (record { 0 = 0x200000 }))
+  pub allowed_try : refused_by_byte 0x200000 0x06 ≡ None
+  pub another : refused_by_byte 0 0x01 ≡ None
+  pub rethrow : refused_by_byte 0 0x09 ≡ None
+  pub delegate : refused_by_byte 0 0x18 ≡ None
+  pub in_no_frame : refused_in None (at 0 (0xfd ∷ []) []).bytes ≡ None
+  pub in_a_frame : refused_in (Some Block) (at 0 (0xfd ∷ []) []).bytes ≡ Some Other
+  pub first : ToldFirst (Some Other) 0 (error (EndOfData 1) 1) (error Other 0)
+  pub not_second : ToldFirst (Some Other) 0 (error (EndOfData 1) 1) (error (EndOfData 1) 1) → ⊥
+  pub memory : ToldFirst (Some Other) 0 (error OutOfMemory 0) (error OutOfMemory 0)
+  pub not_for_memory : ToldFirst (Some Other) 0 (error OutOfMemory 0) (error Other 0) → ⊥
+  pub by_no_byte : ToldFirst None 0 (error (EndOfData 1) 1) (error (EndOfData 1) 1)
+  pub not_by_a_byte : ToldFirst None 0 (error (EndOfData 1) 1) (error Other 0) → ⊥
 
 -- where only the innermost open frame is known
 pub record FrameRows : Type 0 where

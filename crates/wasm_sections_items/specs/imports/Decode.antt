@@ -46,6 +46,19 @@ import z = name z.limits.string_bytes >>= λ m. name z.limits.string_bytes >>= �
 abbrev pub export_of : List ℕ → ExternalKind → ℕ → ExportTree
 export_of n k x = record { name = n; kind = k; index = x }
 
+-- what an export may be: a kind, except that of a function of exactly its type
+abbrev pub exported : ExternalKind → Decoder ExternalKind
+exported kind.Func = pure kind.Func
+exported kind.Table = pure kind.Table
+exported kind.Memory = pure kind.Memory
+exported kind.Global = pure kind.Global
+exported kind.Tag = pure kind.Tag
+exported kind.FuncExact = refuse Other 0
+
+-- the kind of an export; that of imports alone is refused after its byte
+unfoldable pub export_kind : Decoder ExternalKind
+export_kind = external_kind >>= exported
+
 -- a name, a kind and an index
 unfoldable pub export : Settings → Decoder ExportTree
-export z = name z.limits.string_bytes >>= λ n. external_kind >>= λ k. u32 >>= λ x. pure (export_of n k x)
+export z = name z.limits.string_bytes >>= λ n. export_kind >>= λ k. u32 >>= λ x. pure (export_of n k x)

@@ -1,10 +1,10 @@
 -- The readers of imports and exports are lawful, and read exactly what the bytes spell.
-use Rattle.std.proofs.Common.{◌≡◌, ℕ, List, [], ◌∷◌, ◌++◌, refl, sym, ap, ◌∙◌, subst}
+use Rattle.std.proofs.Common.{◌≡◌, ℕ, List, [], ◌∷◌, ◌++◌, refl, sym, ap, ◌∙◌, subst, append-nil}
 use Rattle.wasm_types.specs.decoding.declared.Refusal.TheVariants.{Other}
 use Rattle.wasm_types.specs.settings.Settings.{Settings}
-use Rattle.wasm_types.specs.decoding.Decoder.{Grammar, refuse, byte, choice, IsLawful, Decides, Then}
+use Rattle.wasm_types.specs.decoding.Decoder.{Grammar, pure, refuse, byte, choice, IsLawful, Decides, Then}
 use Rattle.wasm_types.specs.decoding.Laws.{lawful-byte, lawful->>=, lawful-pure, lawful-refuse, lawful-choice}
-use Rattle.wasm_types.specs.decoding.ExactLaws.{Mapped, ReadsTagged, decides->>=, decides-same, decides-map, decides-table, sound-pure, reads-pure}
+use Rattle.wasm_types.specs.decoding.ExactLaws.{Mapped, ReadsTagged, decides->>=, decides-same, decides-map, decides-pure, decides-refuse, decides-table, sound-pure, reads-pure}
 use Rattle.wasm_types.specs.decoding.Leb.{u32, IsUnsigned}
 use Rattle.wasm_types.specs.decoding.LebLaws.{lawful-unsigned, decides-u32}
 use Rattle.wasm_types.specs.decoding.Text.{name, IsName}
@@ -29,8 +29,19 @@ use Rattle.wasm_sections_items.specs.declared.imports.kind.ExternalKind.{Externa
 use Rattle.wasm_sections_items.specs.declared.imports.kind.ExternalKind.TheVariants as kind
 use Rattle.wasm_sections_items.specs.declared.imports.type_ref.TypeRef.{TypeRef}
 use Rattle.wasm_sections_items.specs.declared.imports.type_ref.TypeRef.TheVariants as ref
-use Rattle.wasm_sections_items.specs.imports.Spells.{kind_byte, SpelledKind, kind_of, SpelledContent, SpelledTypeRef, ImportTree, ExportTree, SpelledImport, SpelledExport}
-use Rattle.wasm_sections_items.specs.imports.Decode.{kinds, external_kind, content_of, type_ref, import_of, import, export_of, export}
+use Rattle.wasm_sections_items.specs.imports.Spells.{
+  kind_byte,
+  SpelledKind,
+  SpelledExportKind,
+  kind_of,
+  SpelledContent,
+  SpelledTypeRef,
+  ImportTree,
+  ExportTree,
+  SpelledImport,
+  SpelledExport,
+}
+use Rattle.wasm_sections_items.specs.imports.Decode.{kinds, external_kind, content_of, type_ref, import_of, import, exported, export_kind, export_of, export}
 
 -- ---- kinds
 
@@ -221,18 +232,59 @@ decides-import z = decides-same _ (Then (IsName (most z)) (field_behind z)) (Spe
 
 -- ---- exports
 
+lawful-exported : (k : ExternalKind) → IsLawful (exported k)
+lawful-exported kind.Func = lawful-pure kind.Func
+lawful-exported kind.Table = lawful-pure kind.Table
+lawful-exported kind.Memory = lawful-pure kind.Memory
+lawful-exported kind.Global = lawful-pure kind.Global
+lawful-exported kind.Tag = lawful-pure kind.Tag
+lawful-exported kind.FuncExact = lawful-refuse Other 0
+
+pub lawful-export_kind : IsLawful export_kind
+unfolding export_kind
+lawful-export_kind = lawful->>= external_kind exported lawful-external_kind lawful-exported
+
+-- no byte more, after the kind of an export
+abbrev OfExport : ExternalKind → Grammar ExternalKind
+OfExport k y text = (y ≡ k) × (text ≡ []) × (k ≡ kind.FuncExact → ⊥)
+
+allowed : (k : ExternalKind) → (k ≡ kind.FuncExact → ⊥) → Decides (pure k) (OfExport k)
+allowed k ok = decides-pure k (OfExport k) (refl, refl, ok) (λ y text h. (h.0, h.1))
+
+decides-exported : (k : ExternalKind) → Decides (exported k) (OfExport k)
+decides-exported kind.Func = allowed kind.Func (λ e. absurd cc)
+decides-exported kind.Table = allowed kind.Table (λ e. absurd cc)
+decides-exported kind.Memory = allowed kind.Memory (λ e. absurd cc)
+decides-exported kind.Global = allowed kind.Global (λ e. absurd cc)
+decides-exported kind.Tag = allowed kind.Tag (λ e. absurd cc)
+decides-exported kind.FuncExact = decides-refuse Other 0 (OfExport kind.FuncExact) (λ y text h. h.2 refl)
+
+export_kind_to : (k : ExternalKind) (text : List ℕ) → Then SpelledKind OfExport k text → SpelledExportKind k text
+export_kind_to k text h =
+    let same = sym h.second.0 in
+    let whole = h.whole ∙ ap (λ (bs : List ℕ). h.front ++ bs) h.second.1 ∙ append-nil h.front in
+    (whole ∙ h.first ∙ ap (λ (j : ExternalKind). kind_byte j ∷ []) same, λ e. h.second.2 (same ∙ e))
+
+export_kind_from : (k : ExternalKind) (text : List ℕ) → SpelledExportKind k text → Then SpelledKind OfExport k text
+export_kind_from k text h = record { value = k; front = text; back = []; first = h.0; second = (refl, refl, h.1); whole = sym (append-nil text) }
+
+pub decides-export_kind : Decides export_kind SpelledExportKind
+unfolding export_kind
+decides-export_kind = decides-same _ (Then SpelledKind OfExport) SpelledExportKind
+    (decides->>= external_kind exported SpelledKind OfExport decides-external_kind decides-exported) export_kind_to export_kind_from
+
 pub lawful-export : (z : Settings) → IsLawful (export z)
 unfolding export
 lawful-export z =
     lawful->>= (name (most z)) _ (lawful-name (most z)) (λ n.
-    lawful->>= external_kind _ lawful-external_kind (λ k.
+    lawful->>= export_kind _ lawful-export_kind (λ k.
     lawful->>= u32 _ (lawful-unsigned 4 4) (λ x. lawful-pure (export_of n k x))))
 
 abbrev index_behind : List ℕ → ExternalKind → Grammar ExportTree
 index_behind n k = Mapped (export_of n k) (IsUnsigned 32)
 
 abbrev kind_behind : List ℕ → Grammar ExportTree
-kind_behind n = Then SpelledKind (index_behind n)
+kind_behind n = Then SpelledExportKind (index_behind n)
 
 export_to : (z : Settings) (e : ExportTree) (text : List ℕ) → Then (IsName (most z)) kind_behind e text → SpelledExport z e text
 export_to z e text h =
@@ -262,6 +314,6 @@ pub decides-export : (z : Settings) → Decides (export z) (SpelledExport z)
 unfolding export
 decides-export z = decides-same _ (Then (IsName (most z)) kind_behind) (SpelledExport z)
     (decides->>= (name (most z)) _ (IsName (most z)) kind_behind (decides-name (most z)) (λ n.
-    decides->>= external_kind _ SpelledKind (index_behind n) decides-external_kind (λ k.
+    decides->>= export_kind _ SpelledExportKind (index_behind n) decides-export_kind (λ k.
     decides-map u32 (export_of n k) (IsUnsigned 32) decides-u32)))
     (export_to z) (export_from z)

@@ -23,10 +23,15 @@ kind_byte kind.Global = 0x03
 kind_byte kind.Tag = 0x04
 kind_byte kind.FuncExact = 0x20
 
--- standard: binary-externidx: externidx: its kind (differs: 0x20 too)
+-- standard: part of SpelledExportKind
 -- a kind by its byte
 abbrev pub SpelledKind : Grammar ExternalKind
 SpelledKind k text = text ≡ kind_byte k ∷ []
+
+-- standard: binary-externidx: externidx: its kind
+-- the kind of an export: 0x00 to 0x04 (binary format, modules, export section); 0x20 is of imports alone
+abbrev pub SpelledExportKind : Grammar ExternalKind
+SpelledExportKind k text = SpelledKind k text × (k ≡ kind.FuncExact → ⊥)
 
 -- the kind that a type is of
 abbrev pub kind_of : TypeRef → ExternalKind
@@ -80,13 +85,13 @@ pub record SpelledImport (z : Settings) (i : ImportTree) (text : List ℕ) : Typ
   pub typed : SpelledTypeRef i.ty type_text
   pub whole : text ≡ module_text ++ (field_text ++ type_text)
 
--- standard: binary-exportsec: export (differs: kind 0x20 too; a name of at most as many bytes as the limit)
+-- standard: binary-exportsec: export (differs: a name of at most as many bytes as the limit)
 -- export ::= nm:name xx:externidx => (export nm xx) (binary format, modules, export section)
 pub record SpelledExport (z : Settings) (e : ExportTree) (text : List ℕ) : Type 0 where
   pub name_text : List ℕ
   pub kind_text : List ℕ
   pub index_text : List ℕ
   pub named : IsName z.limits.string_bytes e.name name_text
-  pub of_kind : SpelledKind e.kind kind_text
+  pub of_kind : SpelledExportKind e.kind kind_text
   pub indexed : IsUnsigned 32 e.index index_text
   pub whole : text ≡ name_text ++ (kind_text ++ index_text)

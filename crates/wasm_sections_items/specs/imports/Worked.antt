@@ -20,7 +20,7 @@ use Rattle.wasm_sections_items.specs.declared.imports.kind.ExternalKind.{Externa
 use Rattle.wasm_sections_items.specs.declared.imports.kind.ExternalKind.TheVariants as kind
 use Rattle.wasm_sections_items.specs.declared.imports.type_ref.TypeRef.{TypeRef}
 use Rattle.wasm_sections_items.specs.declared.imports.type_ref.TypeRef.TheVariants as ref
-use Rattle.wasm_sections_items.specs.imports.Decode.{external_kind, type_ref, import_of, import, export_of, export}
+use Rattle.wasm_sections_items.specs.imports.Decode.{external_kind, type_ref, import_of, import, export_kind, export_of, export}
 
 -- ---- kinds
 
@@ -30,7 +30,8 @@ IsKind b k = external_kind (start_of (b ∷ [])) ≡ Done k (behind 1)
 abbrev IsNoKind : ℕ → Type 0
 IsNoKind b = external_kind (start_of (b ∷ [])) ≡ Fault Other 0
 
--- each kind; the bytes next to theirs; those of imports that share a module's name, which are not read
+-- each kind; the bytes next to theirs; those of imports that share a module's name, which are not read; the kinds of exports, without that
+-- of a function of exactly its type
 pub record KindRows : Type 0 where
   pub function : IsKind 0x00 kind.Func
   pub table : IsKind 0x01 kind.Table
@@ -44,9 +45,12 @@ pub record KindRows : Type 0 where
   pub compact : IsNoKind 0x7e
   pub compact_kind : IsNoKind 0x7f
   pub nothing : external_kind (start_of []) ≡ Short 0 1
+  pub function_exported : export_kind (start_of (0x00 ∷ [])) ≡ Done kind.Func (behind 1)
+  pub tag_exported : export_kind (start_of (0x04 ∷ [])) ≡ Done kind.Tag (behind 1)
+  pub exact_not_exported : export_kind (start_of (0x20 ∷ [])) ≡ Fault Other 1
 
 pub kind_rows : KindRows
-unfolding external_kind
+unfolding export_kind external_kind
 kind_rows = record {
   function = refl;
   table = refl;
@@ -61,6 +65,9 @@ kind_rows = record {
       refl;
   compact_kind = refl;
   nothing = refl;
+  function_exported = refl;
+  tag_exported = refl;
+  exact_not_exported = refl;
 }
 
 -- ---- types
@@ -113,8 +120,9 @@ pub record ExportRows : Type 0 where
   pub malformed : is_utf8 (0x80 ∷ []) ≡ false → export no_features (start_of (0x01 ∷ 0x80 ∷ 0x02 ∷ 0x05 ∷ [])) ≡ Fault Other 1
   pub too_long : export no_features (start_of (0xa1 ∷ 0x8d ∷ 0x06 ∷ [])) ≡ Fault Other 2
   pub another_kind : is_utf8 (0x61 ∷ []) ≡ true → export no_features (start_of (0x01 ∷ 0x61 ∷ 0x05 ∷ 0x05 ∷ [])) ≡ Fault Other 2
+  pub exact : is_utf8 (0x61 ∷ []) ≡ true → export no_features (start_of (0x01 ∷ 0x61 ∷ 0x20 ∷ 0x00 ∷ [])) ≡ Fault Other 3
   pub no_index : is_utf8 (0x61 ∷ []) ≡ true → export no_features (start_of (0x01 ∷ 0x61 ∷ 0x02 ∷ [])) ≡ Short 3 1
 
 pub export_rows : ExportRows
-unfolding default_limits export external_kind unsigned counted_within text_of
-export_rows = record { memory = λ e. rw e refl; malformed = λ e. rw e refl; too_long = refl; another_kind = λ e. rw e refl; no_index = λ e. rw e refl }
+unfolding default_limits export export_kind external_kind unsigned counted_within text_of
+export_rows = record { memory = λ e. rw e refl; malformed = λ e. rw e refl; too_long = refl; another_kind = λ e. rw e refl; exact = λ e. rw e refl; no_index = λ e. rw e refl }

@@ -10,7 +10,7 @@ use crate::elements::items::read_section;
 use crate::elements::{ElementItemsOf, ElementKindOf, ElementOf};
 use std::alloc::Global;
 use std::ops::Range;
-use wasm_types::{BinaryReader, Error, FromReader, RefType, Result};
+use wasm_types::{BinaryReader, Error, FromReader, RefType, Result, Words};
 
 // How a segment is used, by the two low bits of its flag: for 0 an offset, for 2 a table and an offset.
 #[tactic(auto, using(wasm_types::specs::Laws::reaches_self, wasm_types::specs::Laws::reaches_then), unfolding(crate::specs::elements::Decode::mode_by))]
@@ -59,7 +59,7 @@ fn read_element_kind<'a>(bits: u32, reader: &mut BinaryReader<'a>) -> Result<()>
     let kind = reader.read_u8()?;
     if kind != 0 {
         return Err(Error::new(
-            "only the function external type is supported in elem segment",
+            Words::OnlyTheFunctionExternalTypeIsSupportedInElemSegment,
             offset,
         ));
     }
@@ -157,7 +157,7 @@ fn read_element<'a, E: FromReader<'a>>(
     let flag = reader.read_var_u32()?;
     if flag > 7 {
         let place = reader.original_position().saturating_sub(1);
-        return Err(Error::new("invalid flags byte in element segment", place));
+        return Err(Error::new(Words::InvalidFlagsByteInElementSegment, place));
     }
     if flag < 4 {
         let kind = read_kind(flag, alloc, reader)?;

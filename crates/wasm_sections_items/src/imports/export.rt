@@ -2,12 +2,13 @@
 
 ghost use Rattle.std.specs.Prelude.{◌≡◌};
 ghost use Rattle.wasm_types.specs.decoding.Decoder.{Reaches};
+ghost use Rattle.wasm_types.specs.decoding.declared.error.ErrorKind.TheVariants.{Other};
 ghost use Rattle.wasm_types.specs.reader.Reading.{Gives, NeedsNoMemory};
-ghost use Rattle.wasm_sections_items.specs.imports.Decode.{export};
+ghost use Rattle.wasm_sections_items.specs.imports.Decode.{export, export_kind};
 
 use crate::imports::ExternalKind;
 use std::alloc::Global;
-use wasm_types::{BinaryReader, FromReader, Result};
+use wasm_types::{BinaryReader, Error, FromReader, Result, Words};
 
 /// An export (WebAssembly 3.0, binary format, export section).
 #[derive(Clone, Copy, Debug, PartialEq, Eq, Hash)]
@@ -18,6 +19,32 @@ pub struct Export<'a> {
     pub kind: ExternalKind,
     /// Its index among those of its kind.
     pub index: u32,
+}
+
+// The error of a kind that imports alone have.
+#[cold]
+fn exact_error(offset: u64) -> Error
+    ensures kind { result.kind ≡ Other }
+    ensures offset { result.offset ≡ offset }
+{
+    Error::new(Words::ExactTypeIsNotAllowedInTheExports, offset)
+}
+
+// The kind of an export. That of a function of exactly its type is of imports alone, and is refused after its byte.
+#[tactic(auto, using(wasm_types::specs::Laws::reaches_self, wasm_types::specs::Laws::reaches_then), unfolding(crate::specs::imports::Decode::export_kind))]
+fn read_kind<'a>(alloc: Global, reader: &mut BinaryReader<'a>) -> Result<ExternalKind>
+    ensures answer { Gives (λ k. k) result reader.new (export_kind reader.old) }
+    ensures forward { Reaches reader.old reader.new }
+    ensures no_memory { NeedsNoMemory result }
+{
+    match ExternalKind::from_reader(alloc, reader)? {
+        ExternalKind::Func => Ok(ExternalKind::Func),
+        ExternalKind::Table => Ok(ExternalKind::Table),
+        ExternalKind::Memory => Ok(ExternalKind::Memory),
+        ExternalKind::Global => Ok(ExternalKind::Global),
+        ExternalKind::Tag => Ok(ExternalKind::Tag),
+        ExternalKind::FuncExact => Err(exact_error(reader.original_position())),
+    }
 }
 
 /// A name of at most as many bytes as the limits allow, a kind and an index.
@@ -48,7 +75,7 @@ impl<'a> FromReader<'a> for Export<'a> {
         ensures no_memory { NeedsNoMemory result }
     {
         let name = reader.read_string()?;
-        let kind = ExternalKind::from_reader(alloc, reader)?;
+        let kind = read_kind(alloc, reader)?;
         let index = reader.read_var_u32()?;
         Ok(Export { name, kind, index })
     }

@@ -7,7 +7,7 @@ ghost use Rattle.wasm_types.specs.reader.Reading.{Gives, NeedsNoMemory};
 ghost use Rattle.wasm_sections_items.specs.imports.Decode.{external_kind};
 
 use std::alloc::Global;
-use wasm_types::{BinaryReader, Error, FromReader, Result};
+use wasm_types::{BinaryReader, Error, FromReader, Result, Text, Words};
 
 /// What is imported or exported, without its type (WebAssembly 3.0, binary format, export section).
 #[derive(Clone, Copy, Debug, PartialEq, Eq, Hash)]
@@ -32,8 +32,12 @@ fn kind_error(byte: u8, offset: u64) -> Error
     ensures kind { result.kind ≡ Other }
     ensures offset { result.offset ≡ offset }
 {
-    Error::fmt(
-        format_args!("invalid leading byte (0x{byte:x}) for external kind"),
+    Error::with(
+        Text::Hex(
+            Words::InvalidLeadingByte0x,
+            byte as u32,
+            Words::ForExternalKind,
+        ),
         offset,
     )
 }

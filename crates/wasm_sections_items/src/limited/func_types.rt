@@ -9,7 +9,9 @@ ghost use Rattle.wasm_sections_items.specs.limited.Runs.{place_of_functions, tol
 ghost use Rattle.wasm_sections_items.specs.limited.Functions.{inner_function, composite_function, sub_function, only_function, function_alone};
 
 use crate::limited::{SectionLimited, SectionLimitedIntoIterWithOffsets};
-use wasm_types::{CompositeInnerType, CompositeType, Error, FuncType, RecGroup, Result, SubType};
+use wasm_types::{
+    CompositeInnerType, CompositeType, Error, FuncType, RecGroup, Result, SubType, Words,
+};
 
 /// The function types of a type section, as many as its groups. A group that is not one function type, final, below no type,
 /// not shared and without descriptors, is refused where it begins, and nothing comes behind an error.
@@ -79,7 +81,7 @@ fn no_function(offset: u64) -> Error
     ensures kind { result.kind ≡ Other }
     ensures offset { result.offset ≡ offset }
 {
-    Error::new("gc proposal not supported", offset)
+    Error::new(Words::GcProposalNotSupported, offset)
 }
 
 impl<'a> Iterator for FuncTypesIntoIter<'a> {

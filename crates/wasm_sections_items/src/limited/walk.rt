@@ -9,7 +9,7 @@ ghost use Rattle.wasm_sections_items.specs.limited.Walking.{items_left, Passes};
 ghost use Rattle.wasm_sections_items.specs.limited.Runs.{place_in, place_with_offsets, told, plain, with_offset, Steps};
 
 use crate::limited::SectionLimited;
-use wasm_types::{Error, FromReader, Result};
+use wasm_types::{Error, FromReader, Result, Words};
 
 /// The items of a section, as many as were counted. A byte behind the last one is refused, and nothing comes behind an
 /// error.
@@ -27,7 +27,7 @@ fn trailing_error(offset: u64) -> Error
     ensures offset { result.offset ≡ offset }
 {
     Error::new(
-        "section size mismatch: unexpected data at the end of the section",
+        Words::SectionSizeMismatchUnexpectedDataAtTheEndOfTheSection,
         offset,
     )
 }

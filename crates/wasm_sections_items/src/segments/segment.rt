@@ -9,7 +9,7 @@ ghost use Rattle.wasm_sections_items.specs.segments.Segments.{mode_of};
 
 use std::alloc::Global;
 use std::ops::Range;
-use wasm_types::{BinaryReader, Error, FromReader, Result};
+use wasm_types::{BinaryReader, Error, FromReader, Result, Words};
 
 /// How a data segment is used, where its offset is a constant expression of this type.
 #[derive(Drop)]
@@ -130,6 +130,6 @@ impl<'a, E: FromReader<'a>> FromReader<'a> for DataOf<'a, E> {
             let memory_index = reader.read_var_u32()?;
             return read_placed(memory_index, start, alloc, reader);
         }
-        Err(Error::new("invalid flags byte in data segment", start))
+        Err(Error::new(Words::InvalidFlagsByteInDataSegment, start))
     }
 }

@@ -5,7 +5,7 @@ ghost use Rattle.wasm_types.specs.reader.Reading.{Gives, MemoryOnlyIf};
 ghost use Rattle.wasm_sections_items.specs.segments.Tables.{init_of, behind_mark, initialised, table};
 
 use std::alloc::Global;
-use wasm_types::{BinaryReader, Error, FromReader, Result, TableType};
+use wasm_types::{BinaryReader, Error, FromReader, Result, TableType, Words};
 
 /// What the elements of a table are at first, where that is a constant expression of this type.
 #[derive(Drop)]
@@ -39,7 +39,7 @@ fn read_behind_mark<'a, E: FromReader<'a>>(
     let offset = reader.original_position();
     let zero = reader.read_u8()?;
     if zero != 0 {
-        return Err(Error::new("invalid table encoding", offset));
+        return Err(Error::new(Words::InvalidTableEncoding, offset));
     }
     let ty = TableType::from_reader(alloc, reader)?;
     let expression = E::from_reader(alloc, reader)?;
@@ -63,7 +63,7 @@ fn read_initialised<'a, E: FromReader<'a>>(
     let offset = reader.original_position();
     let mark = reader.read_u8()?;
     if mark != 0x40 {
-        return Err(Error::new("invalid table encoding", offset));
+        return Err(Error::new(Words::InvalidTableEncoding, offset));
     }
     read_behind_mark(alloc, reader)
 }

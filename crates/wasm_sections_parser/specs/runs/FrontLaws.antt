@@ -7,13 +7,15 @@ use Rattle.wasm_types.specs.decoding.Decoder.{State, Takes}
 use Rattle.wasm_types.specs.decoding.Laws.{takes_none, Takes-then}
 use Rattle.wasm_types.specs.decoding.ExactLaws.{same_state}
 use Rattle.wasm_sections_items.specs.frames.Outer as outer
-use Rattle.wasm_sections_items.specs.frames.Outer.{Part, Outer, id_of, rank, with_rank, ranks, Ascends}
+use Rattle.wasm_sections_items.specs.frames.Outer.{Part, Outer, id_of, rank, with_rank, ranks, Ascends, DeclaresOrAbsent}
 use Rattle.wasm_sections_parser.specs.declared.progress.Progress.{Progress}
 use Rattle.wasm_sections_parser.specs.Steps.{Shape, version, code, in_code, begun, is_late}
 use Rattle.wasm_sections_parser.specs.Parsing.{between}
 use Rattle.wasm_sections_parser.specs.runs.steps.StepCases.{step_between}
 use Rattle.wasm_sections_parser.specs.runs.steps.StepsComplete.{start_next_is}
 use Rattle.wasm_sections_parser.specs.runs.steps.OrderLaws.{in_order, order_gives}
+use Rattle.wasm_sections_parser.specs.runs.steps.NoteLaws.{functions_are}
+use Rattle.wasm_sections_parser.specs.runs.steps.CompareLaws.{read_noted, front_compares, read_fits, read_functions}
 use Rattle.wasm_sections_parser.specs.runs.calls.Runs.{fresh, Run, entries, Frames, AreNoted, Opened, IsBetween, IsOpen}
 use Rattle.wasm_sections_parser.specs.runs.Modules.{Begun, IsFront, IsClosed, IsCut, IsSpelledFront, IsStart}
 use Rattle.wasm_sections_parser.specs.runs.RunsComplete.{entries_run, run_then, noted_last, module_run}
@@ -50,9 +52,9 @@ in_place (x ∷ ps) es p q h o late =
 
 -- a code section as far as it is there
 opened_run : (z : Settings) (p : Progress) (s t : State) (n k : ℕ) (es : List (List ℕ)) (text : List ℕ) → between p.stage s.place ≡ true
-    → Takes s text t → (h : Opened n k es text) → is_late p outer.code_id ≡ false → s.place + (1 + length h.size + k) < 2 ^ 64
+    → Takes s text t → (h : Opened n k es text) → is_late p outer.code_id ≡ false → p.functions ≡ n → s.place + (1 + length h.size + k) < 2 ^ 64
     → (q : Progress) × Run z p s (code n k ∷ entries es) q t
-opened_run z p s t n k es text b taken h late room =
+opened_run z p s t n k es text b taken h late agreed room =
     let end : ℕ = s.place + 1 + length h.size + k in
     let u : State = record { rest = h.each ++ t.rest; place = s.place + 1 + length h.size + length h.count; settings = s.settings; start = s.start } in
     let inner : length (h.count ++ h.each) ≡ length h.count + length h.each = length-append h.count h.each in
@@ -64,7 +66,7 @@ opened_run z p s t n k es text b taken h late room =
     ∙ sym (append_assoc h.size h.count (h.each ++ t.rest))) in
     let first : Takes s (outer.code_id ∷ (h.size ++ h.count)) u = record { parts = parts; place = omega (arith, length-append h.size h.count); settings = refl; start = refl } in
     let others : Takes u h.each t = record { parts = refl; place = omega (arith, taken.place, total, inner); settings = taken.settings; start = taken.start } in
-    let now = start_next_is z p s u n k h.size h.count first h.sized h.counted (omega (arith, h.inside, inner)) (omega (arith, room)) late in
+    let now = start_next_is z p s u n k h.size h.count first h.sized h.counted (omega (arith, h.inside, inner)) (omega (arith, room)) late agreed in
     let start : Progress = in_code p n end in
     let rest = entries_run z end es start n u t h.each refl h.fewer others h.bodies (omega (arith, taken.place, total, h.inside)) in
     (rest.0, (start, u, step_between z p s b ∙ now, rest.1))
@@ -85,7 +87,7 @@ front_run z text xs long s t h taken room = go h.tail
         → ((p : Progress) → AreNoted (begun fresh) h.outer.parts p → between p.stage u.place ≡ true → (q : Progress) × Run z p u h.last_frames q t)
         → (q : Progress) × Run z fresh s xs q t
     behind u first others order next =
-        let run = module_run z h.outer h.front h.whole_frames s u h.framed order h.counted first (omega (arith, first.place, room, h.ends)) in
+        let run = module_run z h.outer h.front h.whole_frames s u h.framed order h.counted (front_compares h.outer.parts order h.counted h.counts) first (omega (arith, first.place, room, h.ends)) in
         let last = next run.0 run.2 run.3 in
         (last.0, subst (λ (y : List Shape). Run z fresh s y last.0 t) (sym h.frames) (run_then z h.whole_frames h.last_frames fresh run.0 last.0 s u t run.1 last.1))
 
@@ -102,9 +104,12 @@ front_run z text xs long s t h taken room = go h.tail
 
     go : IsClosed h.outer.parts h.back h.last_frames h.beyond ⊎ IsCut h.outer.parts h.back h.last_frames h.beyond → (q : Progress) × Run z fresh s xs q t
     go (inl c) = split c.ordered (λ u place others p noted b. none_run z p u t h.back h.last_frames c.none c.frames others)
-    go (inr c) = split (ordered_front h.outer.parts (outer.code c.bodies ∷ []) 0 c.ordered) (λ u place others p noted b.
+    go (inr c) =
+        let order = ordered_front h.outer.parts (outer.code c.bodies ∷ []) 0 c.ordered in
+        split order (λ u place others p noted b.
+        let agreed = functions_are h.outer.parts (begun fresh) p refl noted order c.count c.declared in
         let late = not_late h.outer.parts c.bodies (begun fresh) p noted c.ordered in
-        let run = opened_run z p u t c.count c.size c.bodies h.back b others c.opened late (omega (arith, place, room, h.ends, c.ends)) in
+        let run = opened_run z p u t c.count c.size c.bodies h.back b others c.opened late agreed (omega (arith, place, room, h.ends, c.ends)) in
         (run.0, subst (λ (y : List Shape). Run z p u y run.0 t) (sym c.frames) run.1))
 
 -- ---- what is given is spelled
@@ -113,6 +118,9 @@ front_run z text xs long s t h taken room = go h.tail
 pub begun_spelled : (z : Settings) (s t : State) (xs : List Shape) (q : Progress) → Begun z s xs q t → (text : List ℕ) × (long : ℕ) × Takes s text t × IsSpelledFront z text xs long
 begun_spelled z s t xs q b = go b.seen.tail
   where
+    noted : AreNoted (begun fresh) b.seen.parts b.seen.mid
+    noted = read_noted b.seen.parts (begun fresh) b.seen.mid b.seen.noted
+
     spelled : (beyond : ℕ) → IsClosed b.seen.parts b.seen.back b.seen.last_frames beyond ⊎ IsCut b.seen.parts b.seen.back b.seen.last_frames beyond
         → (text : List ℕ) × (long : ℕ) × Takes s text t × IsSpelledFront z text xs long
     spelled beyond tail =
@@ -139,7 +147,8 @@ begun_spelled z s t xs q b = go b.seen.tail
             last_frames = b.seen.last_frames;
             beyond = beyond;
             framed = framed;
-            counted = noted_counted (begun fresh) b.seen.mid b.seen.parts b.seen.noted;
+            counted = noted_counted (begun fresh) b.seen.mid b.seen.parts noted;
+            counts = read_fits b.seen.parts b.seen.mid b.seen.noted b.seen.ordered;
             tail = tail;
             whole = refl;
             frames = b.frames ∙ ap (λ (k : List Shape). version b.header ∷ k) b.seen.frames;
@@ -154,7 +163,8 @@ begun_spelled z s t xs q b = go b.seen.tail
       size = k.size;
       bodies = k.bodies;
       opened = k.opened;
-      ordered = in_place b.seen.parts k.bodies (begun fresh) b.seen.mid b.seen.noted b.seen.ordered k.in_time;
+      declared = subst (λ (n : ℕ). DeclaresOrAbsent 3 n b.seen.parts) k.agreed (read_functions b.seen.parts b.seen.mid b.seen.noted b.seen.ordered);
+      ordered = in_place b.seen.parts k.bodies (begun fresh) b.seen.mid noted b.seen.ordered k.in_time;
       frames = k.frames;
       ends = refl;
     }))

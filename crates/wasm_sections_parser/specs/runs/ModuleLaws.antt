@@ -22,6 +22,7 @@ use Rattle.wasm_sections_parser.specs.runs.calls.Calls.{shapes_of, stands, Calle
 use Rattle.wasm_sections_parser.specs.runs.Modules.{IsModule, Begun, IsFront}
 use Rattle.wasm_sections_parser.specs.runs.steps.StepCases.{header_given, no_end}
 use Rattle.wasm_sections_parser.specs.runs.RunLaws.{run_seen}
+use Rattle.wasm_sections_parser.specs.runs.steps.CompareLaws.{read_noted}
 use Rattle.wasm_sections_parser.specs.runs.steps.NoteLaws.{agreed}
 use Rattle.wasm_sections_parser.specs.runs.calls.CallLaws.{AtEnd, Stepped, call_cases, calls_run}
 
@@ -105,6 +106,7 @@ pub front_module : (z : Settings) (s : State) (xs : List Shape) (q : Progress) (
     → between q.stage t.place ≡ true → counts_agree q ≡ true → IsModule z s.rest xs
 front_module z s xs q t h end b counts =
     let k = between_only z s xs q t h b in
+    let noted = read_noted h.seen.parts (begun fresh) h.seen.mid h.seen.noted in
     let m : Outer = record { header = h.header; parts = h.seen.parts } in
     let back : h.there.rest ≡ h.seen.front = h.seen.taken.parts ∙ ap (λ (x : List ℕ). (h.seen.front ++ h.seen.back) ++ x) end
     ∙ append-nil (h.seen.front ++ h.seen.back) ∙ ap (λ (x : List ℕ). h.seen.front ++ x) k.none ∙ append-nil h.seen.front in
@@ -123,8 +125,8 @@ front_module z s xs q t h end b counts =
       spelled = frames_spelled z m s.rest xs frames;
       frames = frames;
       ordered = h.seen.ordered;
-      counted = noted_counted (begun fresh) h.seen.mid h.seen.parts h.seen.noted;
-      counts = agreed h.seen.parts (begun fresh) h.seen.mid refl h.seen.noted h.seen.ordered (ap counts_agree (sym k.noted) ∙ counts);
+      counted = noted_counted (begun fresh) h.seen.mid h.seen.parts noted;
+      counts = agreed h.seen.parts (begun fresh) h.seen.mid refl noted h.seen.ordered (ap counts_agree (sym k.noted) ∙ counts);
     }
 
 -- ---- calls

@@ -26,6 +26,7 @@ use Rattle.wasm_sections_parser.specs.runs.steps.StepCases.{step_between}
 use Rattle.wasm_sections_parser.specs.runs.Modules.{IsStart}
 use Rattle.wasm_sections_parser.specs.runs.RunsComplete.{module_run}
 use Rattle.wasm_sections_parser.specs.runs.steps.NoteLaws.{agree}
+use Rattle.wasm_sections_parser.specs.runs.steps.CompareLaws.{module_compares}
 use Rattle.wasm_sections_parser.specs.runs.FrontLaws.{front_run}
 use Rattle.wasm_sections_parser.specs.runs.calls.PlainLaws.{restart_done}
 use Rattle.wasm_sections_parser.specs.runs.calls.CallLaws.{calls_run}
@@ -154,7 +155,7 @@ module _ (fs : List Frame) (p q r : Parser) (text rest : List ℕ) (e : ErrorVal
       let t : State = record { rest = []; place = p.offset + length text; settings = p.settings; start = p.offset } in
       let none : IsStuck q.settings q.progress (reads q rest) = refused_stuck q r rest e c going in
       let taken : Takes (reads p text) text t = record { parts = sym (append-nil text); place = refl; settings = refl; start = refl } in
-      let run = module_run p.settings m text xs (reads p text) t h order counted taken room in
+      let run = module_run p.settings m text xs (reads p text) t h order counted (module_compares m.parts order counted counts) taken room in
       let left = run_prefix p.settings xs (shapes_of fs) fresh run.0 q.progress (reads p text) t (stands q rest p.offset) run.1
       (all_run fs p q text rest first calls going none) (stuck fs p q text rest first calls going none) in
       let there : counts_agree run.0 ≡ true = agree m.parts (begun fresh) run.0 refl run.2 order counts in

@@ -12,9 +12,10 @@ use Rattle.wasm_sections_items.specs.frames.Outer.{Part, SpelledPart, SpelledEnt
 use Rattle.wasm_sections_parser.specs.declared.progress.Stage.{Stage}
 use Rattle.wasm_sections_parser.specs.declared.progress.Stage.TheVariants as stages
 use Rattle.wasm_sections_parser.specs.declared.progress.Progress.{Progress}
-use Rattle.wasm_sections_parser.specs.Steps.{Shape, version, custom, section, code, entry, the_end, in_code, begun, Next, at_stage, step}
+use Rattle.wasm_sections_parser.specs.Steps.{Shape, version, custom, section, code, entry, the_end, in_code, begun, is_announced, Next, at_stage, step}
 use Rattle.wasm_sections_parser.specs.Parsing.{between}
 use Rattle.wasm_sections_parser.specs.runs.calls.Runs.{Run, entries, Framed, Noted, Seen}
+use Rattle.wasm_sections_parser.specs.runs.steps.Remembered.{Compared}
 use Rattle.wasm_sections_parser.specs.runs.steps.SectionCases.{Given, section_given}
 use Rattle.wasm_sections_parser.specs.runs.steps.StepCases.{Behind, step_between, inside_at}
 use Rattle.wasm_sections_parser.specs.runs.steps.OrderLaws.{in_order}
@@ -110,10 +111,10 @@ closed z p left end s xs q t le b rest = go (left == 0) refl b
 -- ---- a section more
 
 module _ (z : Settings) (p : Progress) (s : State) (r : Progress) (u : State) (q : Progress) (t : State) where
-  add_part : (x : Part) (text : List ℕ) (fs ys : List Shape) → Takes s text u → Framed z x text fs → Noted p x r
+  add_part : (x : Part) (text : List ℕ) (fs ys : List Shape) → Takes s text u → Framed z x text fs → Noted p x r → Compared x r
       → ((rs : List ℕ) → Ascends r.last rs → Ascends p.last (with_rank (rank (id_of x)) rs)) → Seen z r u ys q t
       → Seen z p s (fs ++ ys) q t
-  add_part x text fs ys taken framed noted ordered h = record {
+  add_part x text fs ys taken framed noted compared ordered h = record {
     parts = x ∷ h.parts;
     front = text ++ h.front;
     back = h.back;
@@ -121,7 +122,7 @@ module _ (z : Settings) (p : Progress) (s : State) (r : Progress) (u : State) (q
     last_frames = h.last_frames;
     mid = h.mid;
     framed = (text, h.front, fs, h.whole_frames, framed, h.framed, refl, refl);
-    noted = (r, noted, h.noted);
+    noted = (r, noted, compared, h.noted);
     ordered = ordered (ranks h.parts) h.ordered;
     taken = subst (λ (k : List ℕ). Takes s k t) (sym (append_assoc text h.front h.back)) (Takes-then s u t text (h.front ++ h.back) taken h.taken);
     frames = ap (λ (k : List Shape). fs ++ k) h.frames ∙ sym (append_assoc fs h.whole_frames h.last_frames);
@@ -129,13 +130,14 @@ module _ (z : Settings) (p : Progress) (s : State) (r : Progress) (u : State) (q
   }
 
   add_custom : (n c : List ℕ) (xs : List Shape) → Given z p s (custom n c) r u → Seen z r u xs q t → Seen z p s (custom n c ∷ xs) q t
-  add_custom n c xs g h = add_part (outer.custom n c) g.1.0 (custom n c ∷ []) xs g.1.1 (g.1.2, refl) (ap begun g.0) in_time h
+  add_custom n c xs g h = add_part (outer.custom n c) g.1.0 (custom n c ∷ []) xs g.1.1 (g.1.2, refl) (ap begun g.0) tt in_time h
     where
       in_time : (rs : List ℕ) → Ascends r.last rs → Ascends p.last rs
       in_time rs a = subst (λ (l : ℕ). Ascends l rs) (ap (λ (v : Progress). v.last) g.0) a
 
   add_section : (id : ℕ) (c : List ℕ) (xs : List Shape) → Given z p s (section id c) r u → Seen z r u xs q t → Seen z p s (section id c ∷ xs) q t
-  add_section id c xs g h = add_part (outer.section id c) g.2.0 (section id c ∷ []) xs g.2.1 (g.2.2, refl) (g.1.0, g.1.1, ap begun g.1.2) in_time h
+  add_section id c xs g h = add_part (outer.section id c) g.2.0 (section id c ∷ []) xs g.2.1 (g.2.2, refl) (g.1.0, g.1.1, ap begun g.1.2)
+      (subst (λ (v : Progress). is_announced id v ≡ true) (sym g.1.2) g.1.3) in_time h
     where
       in_time : (rs : List ℕ) → Ascends r.last rs → Ascends p.last (with_rank (rank id) rs)
       in_time rs a = in_order p.last id rs g.0 (subst (λ (l : ℕ). Ascends l rs) (ap (λ (v : Progress). v.last) g.1.2) a)
@@ -174,6 +176,7 @@ module _ (z : Settings) (p : Progress) (s : State) (n k : ℕ) (r : Progress) (u
       };
       frames = ap (λ (ys : List Shape). code n k ∷ ys) c.frames;
       in_time = g.0;
+      agreed = g.1.agreed;
       noted = c.noted ∙ ap begun g.1.noted;
       stage = c.stage;
       place = c.place;
@@ -214,6 +217,7 @@ module _ (z : Settings) (p : Progress) (s : State) (n k : ℕ) (r : Progress) (u
       subst (λ (ys : List Shape). Seen z p s (code n k ∷ ys) q t) (sym c.frames)
       (add_part z p s c.middle c.there q t (outer.code c.bodies) (outer.code_id ∷ (g.1.size ++ content)) (code n k ∷ entries c.bodies) c.others taken (spelled, frames)
       (g.1.end, noted ∙ ap (λ (v : ℕ). begun (in_code p v g.1.end)) (sym c.count))
+      (ap (λ (v : Progress). v.functions) noted ∙ g.1.agreed ∙ sym (ap (λ (v : Progress). v.bodies) noted))
       (λ rs a. in_order p.last outer.code_id rs g.0 (subst (λ (l : ℕ). Ascends l rs) (ap (λ (v : Progress). v.last) noted) a)) c.rest)
 
 -- ---- runs

@@ -13,7 +13,7 @@ ghost use Rattle.wasm_sections_items.specs.frames.Outer.{Outer, SpelledOuter};
 ghost use Rattle.wasm_sections_parser.specs.runs.calls.Runs.{fresh, Frames};
 ghost use Rattle.wasm_sections_parser.specs.runs.calls.Calls.{shapes_of, stands, Called, Calls};
 ghost use Rattle.wasm_sections_parser.specs.runs.Modules.{IsModule, IsFront, IsStart};
-ghost use Rattle.wasm_sections_parser.specs.runs.Worked.{RunRows, CutRows};
+ghost use Rattle.wasm_sections_parser.specs.runs.Worked.{RunRows, CutRows, FitRows};
 
 /// The frames of a module are those of its spelling: bytes have frames exactly if they are the frames of a module.
 pub const fn frames_are_of_modules()
@@ -25,8 +25,8 @@ pub const fn frames_are_of_modules()
 
 /// What calls of a parser give from the start of a module, however the bytes are cut into pieces. The end comes only behind a whole
 /// module, in order and with readable counts that agree, and what came before it are its frames. Such a module is not refused.
-/// Before the end and before a refusal the frames are those of a front that the bytes spell: whole sections, and behind them
-/// nothing or a code section as far as it is there, body by body; and before a refusal come those of every such front, whose sections
+/// Before the end and before a refusal the frames are those of a front that the bytes spell: whole sections, whose counts agree as far as
+/// they are there, and behind them nothing or a code section of as many bodies as functions, as far as it is there, body by body; and before a refusal come those of every such front, whose sections
 /// end by their sizes below 2^64. They come too before a call that is handed all the bytes that are left and asks for more.
 pub const fn calls_give_modules()
     ensures end { (p q r : Parser) (text rest : List ℕ) (fs : List Frame) (n place : ℕ) → p.progress ≡ fresh
@@ -55,8 +55,9 @@ pub const fn calls_give_modules()
 {}
 
 /// Worked runs: what they give, and where they end or are refused.
-#[tactic(auto, using(crate::specs::runs::Worked::run_rows, crate::specs::runs::Worked::cut_rows))]
+#[tactic(auto, using(crate::specs::runs::Worked::run_rows, crate::specs::runs::Worked::cut_rows, crate::specs::runs::Worked::fit_rows))]
 pub const fn runs_are_worked()
     ensures runs { RunRows }
     ensures cuts { CutRows }
+    ensures fits { FitRows }
 {}

@@ -1,12 +1,11 @@
 -- Each by what clap makes of the words.
 use Rattle.std.proofs.Common.{refl}
-use Rattle.clap.specs.Walk.{bundle_met, walked}
-use Rattle.clap.specs.Faults.{flags_fault, walk_fault, defaults_fault}
+use Rattle.clap.proofs.OnLiterals.{clap_on_literals}
 use Rattle.wasm_check_command.specs.Commands.{AreRead}
 use Rattle.wasm_check_command.proofs.command.reads_worked_words.Goals as goal
 
 read : AreRead
-unfolding bundle_met walked flags_fault walk_fault defaults_fault
+unfolding clap_on_literals
 read = record {
   two = record { taken = refl; named = refl };
   behind_dashes = record { taken = refl; named = refl };
@@ -21,6 +20,10 @@ read = record {
   list = record { names = record { taken = refl; named = refl }; features_are = refl; limits_are = refl };
   list_behind = record { names = record { taken = refl; named = refl }; features_are = refl; limits_are = refl };
   list_in_one_word = record { names = record { taken = refl; named = refl }; features_are = refl; limits_are = refl };
+  short_option = record { names = record { taken = refl; named = refl }; features_are = refl; limits_are = refl };
+  short_in_one_word = record { names = record { taken = refl; named = refl }; features_are = refl; limits_are = refl };
+  hyphen_in_one_word = record { names = record { taken = refl; named = refl }; features_are = refl; limits_are = refl };
+  short_and_long = record { names = record { taken = refl; named = refl }; features_are = refl; limits_are = refl };
   empty_list = record { names = record { taken = refl; named = refl }; features_are = refl; limits_are = refl };
   two_lists = record { names = record { taken = refl; named = refl }; features_are = refl; limits_are = refl };
   list_lacks = refl;

@@ -25,17 +25,17 @@ returns-then-not-is_binary-clause-most g c =
 
 pub returns-clause-ok : goal.returns-clause-ok
 returns-clause-ok g c =
-    behind_judged (ruled (manner_of c.args.chosen) Whole g.J.Judge.accepts (settings_of c.args.chosen)) c.args.name.now c.as_slice-front.result.now
+    behind_judged (ruled (manner_of c.args.chosen) Whole g.J.Judge.accepts (settings_of c.args.chosen)) c.args.name.now c.read_front.new.buffer.items
     (g.R.Read.remaining c.args.reader.now) (g.R.Read.remaining c.read_front.new.reader) (g.W.Write.contents c.args.out.now) (g.W.Write.contents c.judge_binary.new.out)
-    (search rules) c.judge_binary.result c.judge_binary.ensures.ok
+    c.in-Ok.ensures.ok c.judge_binary.result c.judge_binary.ensures.ok
 
 pub returns-clause-err : goal.returns-clause-err
 returns-clause-err g c =
-    behind_stopped (ruled (manner_of c.args.chosen) Whole g.J.Judge.accepts (settings_of c.args.chosen)) c.args.name.now c.as_slice-front.result.now
+    behind_stopped (ruled (manner_of c.args.chosen) Whole g.J.Judge.accepts (settings_of c.args.chosen)) c.args.name.now c.read_front.new.buffer.items
     (g.R.Read.remaining c.args.reader.now) (g.R.Read.remaining c.read_front.new.reader) (g.W.Write.contents c.args.out.now) (g.W.Write.contents c.judge_binary.new.out)
-    (search rules) c.args.index c.judge_binary.result c.judge_binary.ensures.err
+    c.in-Ok.ensures.ok c.args.index c.judge_binary.result c.judge_binary.ensures.err
 
 pub returns-clause-most : goal.returns-clause-most
 returns-clause-most g c =
-    behind_within c.as_slice-front.result.now (g.R.Read.remaining c.args.reader.now) (g.R.Read.remaining c.read_front.new.reader) (g.R.Read.remaining c.judge_binary.new.reader)
-    (search rules) c.judge_binary.ensures.most
+    behind_within c.read_front.new.buffer.items (g.R.Read.remaining c.args.reader.now) (g.R.Read.remaining c.read_front.new.reader) (g.R.Read.remaining c.judge_binary.new.reader)
+    c.in-Ok.ensures.ok c.judge_binary.ensures.most

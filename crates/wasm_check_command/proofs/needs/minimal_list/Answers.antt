@@ -23,7 +23,7 @@ loop-turn-preserved g c =
       turns = omega (arith, count, ap length c.as_slice.ensures.value, c.loop-turn.invariant.turns);
     }
 
-pub returns-in-None : goal.returns-in-None
-returns-in-None g c =
+pub returns-in-None-clause-minimal : goal.returns-in-None-clause-minimal
+returns-in-None-clause-minimal g c =
     minimal_by (by_features g.J.Judge.accepts c.args.limits c.args.bytes.now) c.loop-turn.words.items c.as_slice.result.now c.as_slice.ensures.value
     c.loop-turn.invariant.known c.loop-turn.invariant.enough (c.in_ok-fewer.ensures.none c.in-None.is)

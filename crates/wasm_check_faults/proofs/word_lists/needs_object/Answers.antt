@@ -1,4 +1,4 @@
-use Rattle.std.proofs.Common.{codes, string_bytes}
+use Rattle.std.proofs.Common.{◌++◌, codes, string_bytes}
 use Rattle.wasm_check_lines.specs.Json.{json_text}
 use Rattle.wasm_check_faults.specs.WordLists.{listed, words_in}
 use Rattle.wasm_check_faults.proofs.WordListLemmas.{text_of_5}
@@ -6,4 +6,4 @@ use Rattle.wasm_check_faults.proofs.word_lists.needs_object.Goals as goal
 
 pub returns : goal.returns
 returns c = text_of_5 string_bytes c.format.result (codes "{\"file\":\"") (json_text c.args.name.now) (codes "\",\"valid\":true,\"needs\":\"")
-    (listed (words_in c.args.list.0.now)) (codes "\"}\n") c.format.ensures.ok
+    (listed (words_in c.args.list.0.now) ++ c.args.list.1.now) (codes "}\n") c.format.ensures.ok

@@ -9,4 +9,4 @@ use Rattle.wasm_check_lines.proofs.forms.refusal_object.Goals as goal
 pub returns : goal.returns
 returns c = text_of_11 string_bytes c.format.result (codes "{\"file\":\"") (json_text c.args.name.now) (codes "\",\"valid\":false,\"offset\":") (decimal c.args.offset) (codes ",\"kind\":\"")
     (kind_word c.args.kind.cause c.args.kind.kind) (codes "\",\"message\":\"") (json_text c.args.message.now) (codes "\"")
-    (help_members c.args.members.cause c.args.members.front.now (option_map (λ x. x.now) c.args.members.explanation)) (codes "}\n") c.format.ensures.ok
+    (help_members c.args.members.limits c.args.members.cause c.args.members.front.now (option_map (λ x. x.now) c.args.members.explanation)) (codes "}\n") c.format.ensures.ok

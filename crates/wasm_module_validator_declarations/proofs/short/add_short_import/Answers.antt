@@ -18,7 +18,7 @@ returns-clause-added c =
       item = x;
       bytes = short_import c.args.bytes.now c.args.at c.in-Some.second c.in-Some-short_name_at.middle index c.in-Some-short_u32_at.end from name c.args.limits.now
           c.in-Some.ensures.name c.in-Some-short_name_at.ensures.name c.in-Some-short_name_at.ensures.inside
-          (c.in-Some-kind_of.ensures ∙ ap kind_byte (c.is_function.ensures c.if-not-is_function.false)) c.in-Some-short_u32_at.ensures.found;
+          (c.in-Some-kind_of.ensures.byte ∙ ap kind_byte (c.is_function.ensures c.if-not-is_function.false)) c.in-Some-short_u32_at.ensures.found;
       added = (
         import_told c.args.types.now.groups c.args.state.now none x c.in-Some-import_function.ensures.importable,
         import_left c.args.types.now.groups c.args.state.now x c.import_function.new.self c.in-Some-import_function.ensures.imported,

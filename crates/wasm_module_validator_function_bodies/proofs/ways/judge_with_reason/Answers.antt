@@ -15,5 +15,5 @@ returns g c = λ z held read.
     let v = c.in-Ok.validator in
     let n = g.R.WasmModuleResources.meaning v.resources in
     judged z (g.R.WasmModuleResources.meaning c.args.function.resources) c.args.function.features.0 c.args.function.limits c.args.function.ty c.args.body.now held read n
-    v.validator c.validate.new.self.validator c.validate.result (ap g.R.WasmModuleResources.meaning c.in-Ok.ensures.resources) c.in-Ok.ensures.begins
-    (subst (λ (h : Limits). ValidatesFunction n h c.args.body.now v.validator c.validate.result c.validate.new.self.validator) c.in-Ok.ensures.limits c.validate.ensures.validates)
+    v.validator c.validate-judged.new.self.validator c.validate-judged.result (ap g.R.WasmModuleResources.meaning c.in-Ok.ensures.resources) c.in-Ok.ensures.begins
+    (subst (λ (h : Limits). ValidatesFunction n h c.args.body.now v.validator c.validate-judged.result c.validate-judged.new.self.validator) c.in-Ok.ensures.limits c.validate-judged.ensures.validates)

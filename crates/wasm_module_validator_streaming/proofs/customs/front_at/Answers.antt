@@ -32,8 +32,8 @@ returns-in-Some-needed_hint c =
     c.bytes_remaining-there.ensures c.in-Ok.ensures.answer (search rules) c.in-Err.error c.in-Some-needed_hint.more c.in-Err.ensures.answer.0
     (sym c.needed_hint.ensures ∙ c.in-Some-needed_hint.is)
 
-pub returns-in-None : goal.returns-in-None
-returns-in-None c =
+pub returns : goal.returns
+returns c =
     front_bad _ c.new_limited-reader.result c.new_limited-reader.ensures c.in-Some.id c.short_u8.new.self c.in-Some.ensures.found
     c.in-Some-short_u32.size c.short_u32.new.self c.in-Some-short_u32.ensures.found c.bytes_remaining-there.result c.in-Ok.text.now c.read_bytes.new.self c.new_limited-part.result
     c.bytes_remaining-there.ensures c.in-Ok.ensures.answer (search rules) c.in-Err.error c.in-Err.ensures.answer.0 c.in-Err.ensures.no_memory

@@ -18,9 +18,9 @@ returns-then-not-is_listed g c =
     let o = op_of c.args.op.now in
     let none : global_read o ≡ None = sym c.global_read.ensures ∙ c.in_default.is in
     let off : is_listed o ≡ false = sym c.is_listed.ensures ∙ c.if-not-is_listed.true in
-    let why : RefusesOperator c.args.features.0 m c.args.imported_globals o (refusals.NonConstant c.info.result.name) =
-    refused_so c.args.features.0 m c.args.imported_globals o none (refusals.NonConstant c.info.result.name) (not_listed o none off) in
-    record { constant = tt; refused = refusal_denies c.args.features.0 m c.args.imported_globals o (refusals.NonConstant c.info.result.name) why; why = why }
+    let why : RefusesOperator c.args.features.0 m c.args.imported_globals o (refusals.NonConstant c.visit_name.result) =
+    refused_so c.args.features.0 m c.args.imported_globals o none (refusals.NonConstant c.visit_name.result) (not_listed o none off) in
+    record { constant = tt; refused = refusal_denies c.args.features.0 m c.args.imported_globals o (refusals.NonConstant c.visit_name.result) why; why = why }
 
 pub returns-then-not-is_allowed : goal.returns-then-not-is_allowed
 returns-then-not-is_allowed g c =
@@ -29,7 +29,7 @@ returns-then-not-is_allowed g c =
     let none : global_read o ≡ None = sym c.global_read.ensures ∙ c.in_default.is in
     let listed : is_listed o ≡ true = sym c.is_listed.ensures ∙ c.if-not-is_listed.false in
     let off : is_allowed c.args.features.0 o ≡ false = sym c.is_allowed.ensures ∙ c.if-not-is_allowed.true in
-    let r = refusals.NotEnabled c.feature_of.result c.info-then-not-is_allowed.result.name in
+    let r = refusals.NotEnabled c.feature_of.result c.info.result.name in
     let why : RefusesOperator c.args.features.0 m c.args.imported_globals o r =
     refused_so c.args.features.0 m c.args.imported_globals o none r (listed, off, c.feature_of.ensures) in
     record { constant = tt; refused = refusal_denies c.args.features.0 m c.args.imported_globals o r why; why = why }

@@ -11,7 +11,8 @@ use Rattle.wasm_operator_validator_control.proofs.clauses.check_try.Goals as goa
 pub returns-in-Err : goal.returns-in-Err
 returns-in-Err g c =
     let m = g.R.WasmModuleResources.meaning c.args.resources.now in
-    stopped_unless c.in-Err.refusal m c.args.validator.now (try_op c.args.blockty) LegacyExceptions false (refl, refl) (try_needs m c.args.validator.now c.args.blockty) c.in-Err.ensures.begins c.in-Err.ensures.stops
+    rw c.unallowed_try.ensures
+    (stopped_unless c.in-Err.refusal m c.args.validator.now (try_op c.args.blockty) LegacyExceptions false (refl, refl) (try_needs m c.args.validator.now c.args.blockty) c.in-Err.ensures.begins c.in-Err.ensures.stops)
 
 pub returns-in-Err-check_block_type : goal.returns-in-Err-check_block_type
 returns-in-Err-check_block_type g c =

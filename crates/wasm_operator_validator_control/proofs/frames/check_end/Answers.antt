@@ -31,7 +31,7 @@ returns g c =
     let m = g.R.WasmModuleResources.meaning c.args.resources.now in
     end_pushed (refused c.push_operands.result) m c.args.validator.now c.finish_frame.new.validator c.push_operands.new.self c.in-Some.block_type c.in-Some.kind c.in-Ok.ensures.begins
     (is_top c.args.validator.now.opens c.in-Some.block_type c.in-Some.kind c.in-Some.ensures) c.in-Ok-finish_frame.ensures.does (c.may_close.ensures.0 c.if-not-may_close.false)
-    (rw c.block_results.ensures at c.push_operands.ensures.does)
+    (rw c.block_results-2.ensures at c.push_operands.ensures.does)
     (record {
       given = c.push_operands.ensures.given ∙ c.finish_frame.ensures.given;
       failed = c.push_operands.ensures.failed ∙ c.finish_frame.ensures.failed;

@@ -1,18 +1,13 @@
-use Rattle.std.proofs.Common.{◌<◌, ◌∙◌, length, arith, sym}
-use Rattle.std.proofs.lemmas.List.{take_all}
+use Rattle.std.proofs.Common.{◌<◌, length, arith}
 use Rattle.wasm_operator_validator_fast_loop.proofs.judge.run.Goals as goal
 
 pub loop-at-init : goal.loop-at-init
-loop-at-init c = (c.requires.inside, λ lt ids z g fits x. x)
-
-pub step-at-requires-clause-locals : goal.step-at-requires-clause-locals
-step-at-requires-clause-locals c =
-    c.as_slice-locals.ensures.value ∙ sym (take_all c.args.tables.now.certain c.args.tables.now.locals.items c.requires.sure)
+loop-at-init c = (c.requires, λ lt ids z g fits x. x)
 
 pub loop-at-preserved : goal.loop-at-preserved
 loop-at-preserved c =
     let there : c.loop-at.at < length c.args.bytes.now = omega (arith, c.loop-at-test.true) in
-    (c.step-at.ensures.inside, λ lt ids z g fits x. c.loop-at.invariant.1 there ids z g fits (c.step-at.ensures.leads lt ids z g fits x))
+    (c.next-at.ensures.inside, λ lt ids z g fits x. c.loop-at.invariant.1 there ids z g fits (c.next-at.ensures.leads lt ids z g fits x))
 
 pub returns : goal.returns
 returns c = λ e ids z g fits. c.loop-at.invariant.1 (c.finish.ensures.inside e) ids z g fits (c.finish.ensures.goes e ids z g fits)

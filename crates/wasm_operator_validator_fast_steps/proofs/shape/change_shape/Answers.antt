@@ -4,21 +4,6 @@ use Rattle.wasm_operators_enums.specs.declared.numeric.NumericOperator.TheVarian
 use Rattle.wasm_operator_validator_fast_steps.proofs.Coded.{coded, coded_sign}
 use Rattle.wasm_operator_validator_fast_steps.proofs.shape.change_shape.Goals as goal
 
-pub returns-in-69 : goal.returns-in-69
-returns-in-69 c lt = coded numeric.I32Eqz c.in-69.is refl refl refl refl (λ ids. refl) (λ ids. refl)
-
-pub returns-in-80 : goal.returns-in-80
-returns-in-80 c lt = coded numeric.I64Eqz c.in-80.is refl refl refl refl (λ ids. refl) (λ ids. refl)
-
-pub returns-in-103 : goal.returns-in-103
-returns-in-103 c lt = coded numeric.I32Clz c.in-103.is refl refl refl refl (λ ids. refl) (λ ids. refl)
-
-pub returns-in-104 : goal.returns-in-104
-returns-in-104 c lt = coded numeric.I32Ctz c.in-104.is refl refl refl refl (λ ids. refl) (λ ids. refl)
-
-pub returns-in-105 : goal.returns-in-105
-returns-in-105 c lt = coded numeric.I32Popcnt c.in-105.is refl refl refl refl (λ ids. refl) (λ ids. refl)
-
 pub returns-in-121 : goal.returns-in-121
 returns-in-121 c lt = coded numeric.I64Clz c.in-121.is refl refl refl refl (λ ids. refl) (λ ids. refl)
 
@@ -70,9 +55,6 @@ returns-in-158 c lt = coded numeric.F64Nearest c.in-158.is refl refl refl refl (
 pub returns-in-159 : goal.returns-in-159
 returns-in-159 c lt = coded numeric.F64Sqrt c.in-159.is refl refl refl refl (λ ids. refl) (λ ids. refl)
 
-pub returns-in-167 : goal.returns-in-167
-returns-in-167 c lt = coded numeric.I32WrapI64 c.in-167.is refl refl refl refl (λ ids. refl) (λ ids. refl)
-
 pub returns-in-168 : goal.returns-in-168
 returns-in-168 c lt = coded numeric.I32TruncF32S c.in-168.is refl refl refl refl (λ ids. refl) (λ ids. refl)
 
@@ -84,12 +66,6 @@ returns-in-170 c lt = coded numeric.I32TruncF64S c.in-170.is refl refl refl refl
 
 pub returns-in-171 : goal.returns-in-171
 returns-in-171 c lt = coded numeric.I32TruncF64U c.in-171.is refl refl refl refl (λ ids. refl) (λ ids. refl)
-
-pub returns-in-172 : goal.returns-in-172
-returns-in-172 c lt = coded numeric.I64ExtendI32S c.in-172.is refl refl refl refl (λ ids. refl) (λ ids. refl)
-
-pub returns-in-173 : goal.returns-in-173
-returns-in-173 c lt = coded numeric.I64ExtendI32U c.in-173.is refl refl refl refl (λ ids. refl) (λ ids. refl)
 
 pub returns-in-174 : goal.returns-in-174
 returns-in-174 c lt = coded numeric.I64TruncF32S c.in-174.is refl refl refl refl (λ ids. refl) (λ ids. refl)
@@ -144,12 +120,6 @@ returns-in-190 c lt = coded numeric.F32ReinterpretI32 c.in-190.is refl refl refl
 
 pub returns-in-191 : goal.returns-in-191
 returns-in-191 c lt = coded numeric.F64ReinterpretI64 c.in-191.is refl refl refl refl (λ ids. refl) (λ ids. refl)
-
-pub returns-in-192 : goal.returns-in-192
-returns-in-192 c lt = coded_sign numeric.I32Extend8S c.in-192.is refl refl refl refl (λ ids. refl) (λ ids. refl)
-
-pub returns-in-193 : goal.returns-in-193
-returns-in-193 c lt = coded_sign numeric.I32Extend16S c.in-193.is refl refl refl refl (λ ids. refl) (λ ids. refl)
 
 pub returns-in-194 : goal.returns-in-194
 returns-in-194 c lt = coded_sign numeric.I64Extend8S c.in-194.is refl refl refl refl (λ ids. refl) (λ ids. refl)

@@ -5,7 +5,7 @@ use Rattle.wasm_operator_validator_memory.proofs.naming.name_far.Goals as goal
 pub returns-in-Err : goal.returns-in-Err
 returns-in-Err g c =
     let m = g.R.WasmModuleResources.meaning c.args.resources.now in
-    far_unknown c.in-Err.field-0.kind c.args.features.now.0 m c.args.hty.now c.in-Err.ensures.refused.0 c.in-Err.ensures.answer
+    rw c.unknown_heap.ensures (far_unknown c.in-Err.field-0.kind c.args.features.now.0 m c.args.hty.now c.in-Err.ensures.refused.0 c.in-Err.ensures.answer)
 
 pub returns-in-Ok-check_value_type_features : goal.returns-in-Ok-check_value_type_features
 returns-in-Ok-check_value_type_features g c =

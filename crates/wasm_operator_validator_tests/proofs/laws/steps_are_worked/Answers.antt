@@ -1,4 +1,4 @@
-use Rattle.wasm_operator_validator_tests.specs.StepLaws.{names_written, stacks_changed, operands_exchanged, abstract_fits, beginnings_stopped, locals_declared, functions_at}
+use Rattle.wasm_operator_validator_tests.specs.StepLaws.{names_written, stacks_changed, abstract_fits, beginnings_stopped, locals_declared, functions_at}
 use Rattle.wasm_operator_validator_tests.proofs.laws.steps_are_worked.Goals as goal
 
 pub returns-clause-names : goal.returns-clause-names
@@ -6,9 +6,6 @@ returns-clause-names c = names_written
 
 pub returns-clause-stacks : goal.returns-clause-stacks
 returns-clause-stacks c = stacks_changed
-
-pub returns-clause-operands : goal.returns-clause-operands
-returns-clause-operands c = operands_exchanged
 
 pub returns-clause-fits : goal.returns-clause-fits
 returns-clause-fits c = abstract_fits

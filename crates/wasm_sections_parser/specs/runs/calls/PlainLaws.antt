@@ -26,12 +26,15 @@ use Rattle.wasm_sections_parser.specs.Steps.{
   number_before,
   found,
   in_part,
+  is_announced,
   has_count,
   custom_next,
   section_next,
+  announced,
   contents_next,
   contents,
   code_next,
+  start_next,
   code_start,
   ordered,
   next_section,
@@ -115,6 +118,9 @@ plain-next_part k n s = ap (λ (o : Outcome (List ℕ)). continue_with o (λ tex
 abbrev short : ℕ → ℕ → Outcome ℕ
 short p h = Short p h
 
+abbrev fault : Refusal → ℕ → Outcome ℕ
+fault k p = Fault k p
+
 plain-number_before : (end : ℕ) → IsPlain (number_before end)
 unfolding number_before
 plain-number_before end n s = ap (kept end s.place) (plain-unsigned 4 4 n s) ∙ go (u32 s)
@@ -130,7 +136,11 @@ plain-number_before end n s = ap (kept end s.place) (plain-unsigned 4 4 n s) ∙
         late : (b : Bool) → cond b (short p h) (Fault Other s.place) ≡ restarted n (cond b (short p h) (Fault Other s.place))
         late true = refl
         late false = refl
-    go (Fault k p) = refl
+    go (Fault k p) = late (nat_lt p end)
+      where
+        late : (b : Bool) → cond b (fault k p) (Fault Other s.place) ≡ restarted n (cond b (fault k p) (Fault Other s.place))
+        late true = refl
+        late false = refl
 
 plain-in_part : {A B : Type 0} (d : Decoder A) (f : A → List ℕ → B) (part : State) → IsPlain (in_part d f part)
 unfolding in_part
@@ -143,18 +153,22 @@ plain-in_part {A} d f part n s = go (d part)
 
 -- ---- steps
 
+plain-announced : (id : ℕ) (x : Next) → IsPlain (announced id x)
+plain-announced id x = plain-if (is_announced id x.1) _ _ (plain-pure x) (plain-refuse Other 0)
+
 module _ (z : Settings) (p : Progress) where
   plain-contents : (id k : ℕ) → IsPlain (contents z p id k)
   unfolding contents
   plain-contents id k = plain->>= (next_part k) (contents_next z p id) (plain-next_part k) (λ part.
       plain-if (id == 0) _ _ (plain-in_part (name z.limits.string_bytes) (custom_next p) part)
-      (plain-if (has_count id) _ _ (plain-in_part u32 (section_next p id part.rest) part) (plain-pure (section_next p id part.rest 0 []))))
+      (plain-if (has_count id) _ _ (plain->>= (in_part u32 (section_next p id part.rest) part) (announced id) (plain-in_part u32 (section_next p id part.rest) part) (plain-announced id))
+      (plain-pure (section_next p id part.rest 0 []))))
 
   plain-code_start : (k : ℕ) → IsPlain (code_start p k)
   unfolding code_start
   plain-code_start k n s = plain-if (nat_lt s.place (2 ^ 64 - k)) _ _
-      (plain->>= (number_before (s.place + k)) _ (plain-number_before (s.place + k))
-      (λ m. plain-pure (code_next p k (s.place + k) m))) (plain-refuse_at Other s.place) n s
+      (plain->>= (number_before (s.place + k)) (start_next p k s.place) (plain-number_before (s.place + k))
+      (λ m. plain-if (p.functions == m) _ _ (plain-pure (code_next p k (s.place + k) m)) (plain-refuse_at Other s.place))) (plain-refuse_at Other s.place) n s
 
   plain-next_section : IsPlain (next_section z p)
   unfolding next_section

@@ -9,7 +9,7 @@ use Rattle.wasm_sections_parser.specs.declared.progress.Stage.TheVariants as sta
 use Rattle.wasm_sections_parser.specs.declared.progress.Progress.{Progress}
 use Rattle.wasm_sections_parser.specs.Steps.{Shape, version, custom, section, code, entry, in_code, begun, is_late, has_count, step}
 use Rattle.wasm_sections_parser.specs.Parsing.{between}
-pub use Rattle.wasm_sections_parser.specs.runs.steps.Remembered.{fresh, Noted, AreNoted}
+pub use Rattle.wasm_sections_parser.specs.runs.steps.Remembered.{fresh, Noted, AreNoted, AreRead}
 
 -- ---- runs
 
@@ -80,6 +80,7 @@ pub record IsOpen (mid : Progress) (text : List ℕ) (xs : List Shape) (q : Prog
   pub opened : Opened count size bodies text
   pub frames : xs ≡ code count size ∷ entries bodies
   pub in_time : is_late mid outer.code_id ≡ false
+  pub agreed : mid.functions ≡ count
   pub noted : begun q ≡ begun (in_code mid count end)
   pub stage : q.stage ≡ stages.Code (count - length bodies) end
   pub place : t.place ≤ end
@@ -92,7 +93,8 @@ pub record IsBetween (mid : Progress) (text : List ℕ) (xs : List Shape) (q : P
   pub noted : begun q ≡ begun mid
   pub between : between q.stage t.place ≡ true
 
--- What a run tells: whole sections in order, and behind them nothing or a part of a code section.
+-- What a run tells: whole sections in order, whose counts agree as far as they are compared, and after them nothing or a part of a code
+-- section.
 pub record Seen (z : Settings) (p : Progress) (s : State) (xs : List Shape) (q : Progress) (t : State) : Type 0 where
   pub parts : List Part
   pub front : List ℕ
@@ -101,7 +103,7 @@ pub record Seen (z : Settings) (p : Progress) (s : State) (xs : List Shape) (q :
   pub last_frames : List Shape
   pub mid : Progress
   pub framed : AreFramed z parts front whole_frames
-  pub noted : AreNoted p parts mid
+  pub noted : AreRead p parts mid
   pub ordered : Ascends p.last (ranks parts)
   pub taken : Takes s (front ++ back) t
   pub frames : xs ≡ whole_frames ++ last_frames

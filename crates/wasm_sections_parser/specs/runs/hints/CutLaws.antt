@@ -133,4 +133,8 @@ kept_short end start p h (Short q g) e = go (nat_lt q end) refl e
     go : (v : Bool) → nat_lt q end ≡ v → cond v (short {A = ℕ} q g) (Fault Other start) ≡ short p h → (short {A = ℕ} q g ≡ short p h) × (p < end)
     go true f i = (i, subst (λ (x : ℕ). x < end) (place_is {A = ℕ} q p g h i) (ltb-true _ _ f))
     go false f i = absurd cc
-kept_short end start p h (Fault k q) e = absurd cc
+kept_short end start p h (Fault k q) e = absurd (go (nat_lt q end) e)
+  where
+    go : (v : Bool) → cond v (Fault k q) (Fault Other start) ≡ short {A = ℕ} p h → ⊥
+    go true g = cc
+    go false g = cc

@@ -21,7 +21,7 @@ use Rattle.wasm_sections_parser.specs.declared.progress.Progress.{Progress}
 use Rattle.wasm_sections_parser.specs.declared.needs.Measured.{Measured}
 use Rattle.wasm_sections_parser.specs.declared.needs.Measured.TheVariants.{Late, Section, Code, Body}
 use Rattle.wasm_sections_parser.specs.Needs.{wanted, are_not_last, is_cut, low_of, least_within, measured_section, needed_of_section, needed_of_body, needed_at, needed}
-use Rattle.wasm_sections_parser.specs.Steps.{version, entry, begun, is_late, one_less, kept, number_before, found, in_part, Next, has_count, custom_next, section_next, contents_next, contents, code_next, code_start, ordered, next_section, body, next_entry, behind_code, next_header, at_stage, step}
+use Rattle.wasm_sections_parser.specs.Steps.{version, entry, begun, is_late, one_less, kept, number_before, found, in_part, Next, is_announced, has_count, custom_next, section_next, announced, counted_next, contents_next, contents, code_next, start_next, code_start, ordered, next_section, body, next_entry, behind_code, next_header, at_stage, step}
 use Rattle.wasm_sections_parser.specs.StepLaws.{lawful-number_before, lawful-next_section, lawful-next_entry, lawful-next_header}
 use Rattle.wasm_sections_parser.specs.Parsing.{between}
 use Rattle.wasm_sections_parser.specs.runs.hints.Hints.{AreBytes, AreNotLast, IsBegun, EndsWithinSize}
@@ -64,21 +64,33 @@ found_settled f t (Done x u) = tt
 found_settled f t (Short p h) = tt
 found_settled f t (Fault k p) = tt
 
+settled_then : {A B : Type 0} (o : Outcome A) (f : A → Decoder B) → IsSettled o → ((x : A) (t : State) → IsSettled (f x t)) → IsSettled (continue_with o f)
+settled_then (Done x t) f s g = g x t
+settled_then (Short p h) f s g = s
+settled_then (Fault k p) f s g = tt
+
+announced_settled : (id : ℕ) (x : Next) (t : State) → IsSettled (announced id x t)
+announced_settled id x t = settled_if (is_announced id x.1) (pure x) (refuse Other 0) t tt tt
+
+start_settled : (p : Progress) (n place k : ℕ) (t : State) → IsSettled (start_next p n place k t)
+start_settled p n place k t = settled_if (p.functions == k) (pure (code_next p n (place + n) k)) (refuse_at Other place) t tt tt
+
 module _ (z : Settings) (p : Progress) (id : ℕ) where
   contents_settled : (part t : State) → IsSettled (contents_next z p id part t)
   unfolding in_part
   contents_settled part t =
       settled_if (id == 0) (in_part (name z.limits.string_bytes) (custom_next p) part)
-      (cond (has_count id) (in_part u32 (section_next p id part.rest) part) (pure (section_next p id part.rest 0 []))) t
+      (cond (has_count id) (counted_next p id part) (pure (section_next p id part.rest 0 []))) t
       (found_settled (custom_next p) t (name z.limits.string_bytes part))
-      (settled_if (has_count id) (in_part u32 (section_next p id part.rest) part) (pure (section_next p id part.rest 0 [])) t (found_settled (section_next p id part.rest) t (u32 part)) tt)
+      (settled_if (has_count id) (counted_next p id part) (pure (section_next p id part.rest 0 [])) t
+      (settled_then (found (section_next p id part.rest) t (u32 part)) (announced id) (found_settled (section_next p id part.rest) t (u32 part)) (announced_settled id)) tt)
 
   -- behind a size of 0, with no byte more
   start_empty : (a : ℕ) (y : Settings) (b : ℕ) → IsSettled (code_start p 0 (at [] a y b))
   unfolding code_start number_before unsigned
-  start_empty a y b = settled_if (nat_lt a (2 ^ 64 - 0)) (number_before (a + 0) >>= λ k. pure (code_next p 0 (a + 0) k)) (refuse_at Other a) (at [] a y b) (go (nat_lt a (a + 0)) refl) tt
+  start_empty a y b = settled_if (nat_lt a (2 ^ 64 - 0)) (number_before (a + 0) >>= start_next p 0 a) (refuse_at Other a) (at [] a y b) (go (nat_lt a (a + 0)) refl) tt
     where
-      go : (v : Bool) → nat_lt a (a + 0) ≡ v → IsSettled (continue_with (cond v (short {A = ℕ} a 1) (Fault Other a)) (λ k. pure (code_next p 0 (a + 0) k)))
+      go : (v : Bool) → nat_lt a (a + 0) ≡ v → IsSettled (continue_with (cond v (short {A = ℕ} a 1) (Fault Other a)) (start_next p 0 a))
       go true e = absurd (omega (arith, ltb-true _ _ e))
       go false e = tt
 
@@ -113,22 +125,22 @@ module _ (z : Settings) (p : Progress) (id : ℕ) where
   unfolding code_start number_before
   start_mends n w q h e = go (nat_lt w.place (2 ^ 64 - n)) e
     where
-      last : (value : ℕ) (there : State) (v : Bool) → IsSettled (continue_with (cond v (Fault Other w.place) (done value there)) (λ k. pure (code_next p n (w.place + n) k)))
+      last : (value : ℕ) (there : State) (v : Bool) → IsSettled (continue_with (cond v (Fault Other w.place) (done value there)) (start_next p n w.place))
       last value there true = tt
-      last value there false = tt
+      last value there false = start_settled p n w.place value there
 
-      go : (v : Bool) → cond v (number_before (w.place + n) >>= λ k. pure (code_next p n (w.place + n) k)) (refuse_at Other w.place) w ≡ short q h
-          → Mends (cond v (number_before (w.place + n) >>= λ k. pure (code_next p n (w.place + n) k)) (refuse_at Other w.place)) w h
-      go true f = elim (short_then (number_before (w.place + n) w) (λ k. pure (code_next p n (w.place + n) k)) q h f) [
+      go : (v : Bool) → cond v (number_before (w.place + n) >>= start_next p n w.place) (refuse_at Other w.place) w ≡ short q h
+          → Mends (cond v (number_before (w.place + n) >>= start_next p n w.place) (refuse_at Other w.place)) w h
+      go true f = elim (short_then (number_before (w.place + n) w) (start_next p n w.place) q h f) [
         | inl g ↦
             let c = number_cut 4 w.rest w.place w.settings w.start q h (kept_short (w.place + n) w.place q h (u32 w) g).0 in (
               0 ∷ [],
               (omega arith, tt),
               sym c.one,
-              subst (λ (o : Outcome ℕ). IsSettled (continue_with (kept (w.place + n) w.place o) (λ k. pure (code_next p n (w.place + n) k)))) (sym c.mended)
+              subst (λ (o : Outcome ℕ). IsSettled (continue_with (kept (w.place + n) w.place o) (start_next p n w.place))) (sym c.mended)
                   (last c.value c.there (nat_lt (w.place + n) c.there.place)),
             )
-        | inr d ↦ let no : done (code_next p n (w.place + n) d.0) d.1 ≡ short q h = d.3 in absurd cc
+        | inr d ↦ absurd (not_settled (start_next p n w.place d.0 d.1) q h (start_settled p n w.place d.0 d.1) d.3)
       ]
       go false f = absurd cc
 
@@ -171,7 +183,7 @@ module _ (z : Settings) (p : Progress) (id : ℕ) where
   start_wants = record { fewer = few; enough = λ n place y b. some n place y b (nat_lt (2 ^ 64 - 1 - place) n) refl (n == 0) refl }
     where
       begins : (n place : ℕ) → Decoder Next
-      begins n place = number_before (place + n) >>= λ k. pure (code_next p n (place + n) k)
+      begins n place = number_before (place + n) >>= start_next p n place
 
       -- a size of some bytes that has room, with no byte of the count
       no_count : (n place : ℕ) (y : Settings) (b : ℕ) (v w : Bool) → nat_lt (2 ^ 64 - 1 - place) n ≡ v → (n == 0) ≡ w
@@ -184,15 +196,15 @@ module _ (z : Settings) (p : Progress) (id : ℕ) where
           let fits : nat_lt place (2 ^ 64 - n) ≡ true = lt-ltb place (2 ^ 64 - n) (omega (arith, room, large)) in
           let inside : nat_lt place (place + n) ≡ true = lt-ltb place (place + n) (omega (arith, large)) in
           let s' = subst (λ (t : Bool). IsSettled (cond t (begins n place) (refuse_at {A = Next} Other place) (at [] place y b))) fits s in
-          absurd (subst (λ (t : Bool). IsSettled (continue_with (cond t (short {A = ℕ} place 1) (Fault Other place)) (λ k. pure (code_next p n (place + n) k)))) inside s')
+          absurd (subst (λ (t : Bool). IsSettled (continue_with (cond t (short {A = ℕ} place 1) (Fault Other place)) (start_next p n place))) inside s')
 
       few : (n place : ℕ) (rest : List ℕ) (y : Settings) (b : ℕ) → IsSettled (code_start p n (at rest place y b)) → wanted Code (2 ^ 64 - 1 - place) n ≤ length rest
       few n place [] y b s = no_count n place y b (nat_lt (2 ^ 64 - 1 - place) n) (n == 0) refl refl s
       few n place (c ∷ rest) y b s = let one = code_few (2 ^ 64 - 1 - place) n in omega (arith, one)
 
-      counted : (n place : ℕ) (y : Settings) (b : ℕ) (v : Bool) → IsSettled (continue_with (cond v (Fault Other place) (done 0 (at [] (place + 1) y b))) (λ k. pure (code_next p n (place + n) k)))
+      counted : (n place : ℕ) (y : Settings) (b : ℕ) (v : Bool) → IsSettled (continue_with (cond v (Fault Other place) (done 0 (at [] (place + 1) y b))) (start_next p n place))
       counted n place y b true = tt
-      counted n place y b false = tt
+      counted n place y b false = start_settled p n place 0 (at [] (place + 1) y b)
 
       some : (n place : ℕ) (y : Settings) (b : ℕ) (v : Bool) → nat_lt (2 ^ 64 - 1 - place) n ≡ v → (w : Bool) → (n == 0) ≡ w
           → (rest : List ℕ) × AreBytes rest × (length rest ≡ cond v 0 (cond w 0 1)) × IsSettled (cond (nat_lt place (2 ^ 64 - n)) (begins n place) (refuse_at Other place) (at rest place y b))
@@ -309,7 +321,11 @@ module _ (p : Progress) (left end : ℕ) where
       go true g = tt
       go false g = g
   kept_settles a (Short q h) s = absurd s
-  kept_settles a (Fault k q) s = tt
+  kept_settles a (Fault k q) s = go (nat_lt q end)
+    where
+      go : (v : Bool) → IsSettled (continue_with (cond v (Fault k q) (Fault Other a)) (body p left end))
+      go true = tt
+      go false = tt
 
   settles_kept : (a : ℕ) (o : Outcome ℕ) → IsSettled (continue_with (kept end a o) (body p left end))
       → IsSettled (continue_with o (body_from a)) ⊎ ((q : ℕ) × (h : ℕ) × (o ≡ short q h) × (end ≤ q))

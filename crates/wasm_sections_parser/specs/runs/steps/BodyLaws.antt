@@ -35,7 +35,11 @@ kept_done end start n u (Short p h) e = go (nat_lt p end) e
     go : (b : Bool) → cond b (Short p h) (Fault Other start) ≡ number n u → (Short p h ≡ number n u) × (u.place ≤ end)
     go true f = absurd cc
     go false f = absurd cc
-kept_done end start n u (Fault k p) e = absurd cc
+kept_done end start n u (Fault k p) e = absurd (go (nat_lt p end) e)
+  where
+    go : (b : Bool) → cond b (Fault k p) (Fault Other start) ≡ number n u → ⊥
+    go true f = cc
+    go false f = cc
 
 module _ (p q : Progress) (left end : ℕ) (s t : State) (c : List ℕ) where
   body_bytes : (n : ℕ) (u : State) → body p left end n u ≡ Done (entry c, q) t → (n ≤ end - u.place) × (bytes n u ≡ Done c t)

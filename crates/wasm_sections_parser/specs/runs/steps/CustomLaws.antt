@@ -31,14 +31,17 @@ use Rattle.wasm_sections_parser.specs.Steps.{
   has_count,
   custom_next,
   section_next,
+  counted_next,
   contents_next,
   contents,
   code_next,
+  start_next,
   code_start,
   number_before,
   ordered,
   next_section,
 }
+use Rattle.wasm_sections_parser.specs.runs.steps.AnnouncedLaws.{counted_done, start_done}
 
 abbrev given : Shape → Progress → State → Outcome Next
 given x q t = Done (x, q) t
@@ -87,11 +90,6 @@ module _ (z : Settings) (p q : Progress) (s t : State) (n c : List ℕ) where
   no_section : (i : ℕ) (x : List ℕ) (u : State) (k : ℕ) (rest : List ℕ) → Done (section_next p i x k rest) u ≡ given (custom n c) q t → ⊥
   no_section i x u k rest e = let v = ap (λ (y : Next). is_custom y.0) (value_is _ _ u t e) in cc
 
-  no_counted : (i : ℕ) (x : List ℕ) (u : State) (o : Outcome ℕ) → found (section_next p i x) u o ≡ given (custom n c) q t → ⊥
-  no_counted i x u (Done k w) e = no_section i x u k w.rest e
-  no_counted i x u (Short a h) e = cc
-  no_counted i x u (Fault k a) e = cc
-
   named : (u : State) (o : Outcome (List ℕ)) → found (custom_next p) u o ≡ given (custom n c) q t → (w : State) × (o ≡ Done n w) × (w.rest ≡ c) × (u ≡ t)
   named u (Done m w) e =
       let v = value_is (custom_next p m w.rest) (custom n c, q) u t e in
@@ -103,12 +101,12 @@ module _ (z : Settings) (p q : Progress) (s t : State) (n c : List ℕ) where
   unfolding in_part
   contents_named i r u e = go (i == 0) refl e
     where
-      counts : (b : Bool) → cond b (in_part u32 (section_next p i r.rest) r) (pure (section_next p i r.rest 0 [])) u ≡ given (custom n c) q t → ⊥
-      counts true f = no_counted i r.rest u (u32 r) f
+      counts : (b : Bool) → cond b (counted_next p i r) (pure (section_next p i r.rest 0 [])) u ≡ given (custom n c) q t → ⊥
+      counts true f = let d = counted_done p i r u t (custom n c, q) f in no_section i r.rest u d.0 d.1.rest d.3
       counts false f = no_section i r.rest u 0 [] f
 
       go : (b : Bool) → (i == 0) ≡ b → cond b (in_part (name z.limits.string_bytes) (custom_next p) r)
-          (cond (has_count i) (in_part u32 (section_next p i r.rest) r) (pure (section_next p i r.rest 0 []))) u ≡ given
+          (cond (has_count i) (counted_next p i r) (pure (section_next p i r.rest 0 []))) u ≡ given
           (custom n c) q t → (i ≡ 0) × ((w : State) × (name z.limits.string_bytes r ≡ Done n w) × (w.rest ≡ c) × (u ≡ t))
       go true k f = (eqb-true _ _ k, named u (name z.limits.string_bytes r) f)
       go false k f = absurd (counts (has_count i) f)
@@ -117,10 +115,11 @@ module _ (z : Settings) (p q : Progress) (s t : State) (n c : List ℕ) where
   unfolding code_start
   no_code k u e = go (nat_lt u.place (2 ^ 64 - k)) e
     where
-      go : (b : Bool) → cond b (number_before (u.place + k) >>= λ m. pure (code_next p k (u.place + k) m)) (refuse_at Other u.place) u ≡ given (custom n c) q t → ⊥
+      go : (b : Bool) → cond b (number_before (u.place + k) >>= start_next p k u.place) (refuse_at Other u.place) u ≡ given (custom n c) q t → ⊥
       go true f =
-          let m = done_then (number_before (u.place + k) u) (λ m. pure (code_next p k (u.place + k) m)) (custom n c, q) t f in
-          let v = ap (λ (y : Next). is_custom y.0) (value_is _ _ m.1 t m.3) in
+          let m = done_then (number_before (u.place + k) u) (start_next p k u.place) (custom n c, q) t f in
+          let d = start_done p k u.place m.0 m.1 t (custom n c, q) m.3 in
+          let v = ap (λ (y : Next). is_custom y.0) (value_is (code_next p k (u.place + k) m.0) (custom n c, q) m.1 t d.1) in
           cc
       go false f = cc
 

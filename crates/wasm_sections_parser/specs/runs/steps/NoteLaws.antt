@@ -20,7 +20,7 @@ pick_false : {A : Type 0} (i j : ℕ) (a b : A) → (i ≡ j → ⊥) → cond (
 pick_false i j a b other = rw (false_from_ne_true (i == j) (λ e. other (eqb-true i j e))) refl
 
 -- the places behind the first
-behind_first : (low : ℕ) (o : Option ℕ) (rs : List ℕ) → Ascends low (with_rank o rs) → (high : ℕ) × (low ≤ high) × Ascends high rs
+pub behind_first : (low : ℕ) (o : Option ℕ) (rs : List ℕ) → Ascends low (with_rank o rs) → (high : ℕ) × (low ≤ high) × Ascends high rs
 behind_first low None rs h = (low, omega arith, h)
 behind_first low (Some r) rs h = (r, omega (arith, h.0), h.1)
 
@@ -134,10 +134,23 @@ module _ (ps : List Part) (p q : Progress) (low : ℕ) (noted : AreNoted p ps q)
       (λ v w e. ap (λ (y : Progress). y.segments) e) keeps_segments number tells_segments (λ e. omega (arith, e))
       (λ e. omega (arith, e)) ps p q low noted ordered
 
-  data_count : ((n : ℕ) × Declares 12 n ps × (q.data_count ≡ Some n)) ⊎ (IsAbsent 12 ps × (q.data_count ≡ p.data_count))
+  pub data_count : ((n : ℕ) × Declares 12 n ps × (q.data_count ≡ Some n)) ⊎ (IsAbsent 12 ps × (q.data_count ≡ p.data_count))
   data_count = declared 12 11 refl (λ v. v.data_count)
       (λ v w e. ap (λ (y : Progress). y.data_count) e) keeps_data_count some tells_data_count (λ e. omega (arith, e))
       (λ e. omega (arith, e)) ps p q low noted ordered
+
+-- what is remembered stays after its place
+pub functions_after : (ps : List Part) (p q : Progress) (low : ℕ) → AreNoted p ps q → Ascends low (ranks ps) → 3 ≤ low → q.functions ≡ p.functions
+functions_after ps p q low h o le = kept 3 3 refl (λ v. v.functions) (λ v w e. ap (λ (y : Progress). y.functions) e) keeps_functions ps p q h (late 3 3 refl ps low o le)
+
+pub bodies_after : (ps : List Part) (p q : Progress) (low : ℕ) → AreNoted p ps q → Ascends low (ranks ps) → 12 ≤ low → q.bodies ≡ p.bodies
+bodies_after ps p q low h o le = kept 10 12 refl (λ v. v.bodies) (λ v w e. ap (λ (y : Progress). y.bodies) e) keeps_bodies ps p q h (late 10 12 refl ps low o le)
+
+pub segments_after : (ps : List Part) (p q : Progress) (low : ℕ) → AreNoted p ps q → Ascends low (ranks ps) → 13 ≤ low → q.segments ≡ p.segments
+segments_after ps p q low h o le = kept 11 13 refl (λ v. v.segments) (λ v w e. ap (λ (y : Progress). y.segments) e) keeps_segments ps p q h (late 11 13 refl ps low o le)
+
+pub announced_after : (ps : List Part) (p q : Progress) (low : ℕ) → AreNoted p ps q → Ascends low (ranks ps) → 11 ≤ low → q.data_count ≡ p.data_count
+announced_after ps p q low h o le = kept 12 11 refl (λ v. v.data_count) (λ v w e. ap (λ (y : Progress). y.data_count) e) keeps_data_count ps p q h (late 12 11 refl ps low o le)
 
 -- as many bodies stand as are remembered
 defined : (ps : List Part) (p q : Progress) (low : ℕ) → AreNoted p ps q → Ascends low (ranks ps) → p.bodies ≡ 0 → Defines q.bodies ps
@@ -168,7 +181,7 @@ module _ (ps : List Part) (p q : Progress) (first : begun p ≡ begun fresh) (no
   bodies_defined : Defines q.bodies ps
   bodies_defined = defined ps p q 0 noted ordered (ap (λ (v : Progress). v.bodies) first)
 
-  functions_declared : DeclaresOrAbsent 3 q.functions ps
+  pub functions_declared : DeclaresOrAbsent 3 q.functions ps
   functions_declared = go (functions ps p q 0 noted ordered)
     where
       go : ((n : ℕ) × Declares 3 n ps × (q.functions ≡ n)) ⊎ (IsAbsent 3 ps × (q.functions ≡ p.functions)) → DeclaresOrAbsent 3 q.functions ps
@@ -183,18 +196,18 @@ module _ (ps : List Part) (p q : Progress) (first : begun p ≡ begun fresh) (no
       go (inr a) = inr (a.1 ∙ no_segments, a.0)
 
   -- what is declared is what is remembered
-  functions_are : (n : ℕ) → DeclaresOrAbsent 3 n ps → q.functions ≡ n
+  pub functions_are : (n : ℕ) → DeclaresOrAbsent 3 n ps → q.functions ≡ n
   functions_are n (inl d) = declares 3 3 refl (λ v. v.functions) (λ v w e. ap (λ (y : Progress). y.functions) e) keeps_functions number tells_functions ps p q 0 n noted ordered d
   functions_are n (inr a) = kept 3 3 refl (λ v. v.functions) (λ v w e. ap (λ (y : Progress). y.functions) e) keeps_functions ps p q noted a.1 ∙ no_functions ∙ sym a.0
 
-  segments_are : (n : ℕ) → DeclaresOrAbsent 11 n ps → q.segments ≡ n
+  pub segments_are : (n : ℕ) → DeclaresOrAbsent 11 n ps → q.segments ≡ n
   segments_are n (inl d) = declares 11 13 refl (λ v. v.segments) (λ v w e. ap (λ (y : Progress). y.segments) e) keeps_segments number tells_segments ps p q 0 n noted ordered d
   segments_are n (inr a) = kept 11 13 refl (λ v. v.segments) (λ v w e. ap (λ (y : Progress). y.segments) e) keeps_segments ps p q noted a.1 ∙ no_segments ∙ sym a.0
 
-  data_count_is : (n : ℕ) → Declares 12 n ps → q.data_count ≡ Some n
+  pub data_count_is : (n : ℕ) → Declares 12 n ps → q.data_count ≡ Some n
   data_count_is n d = declares 12 11 refl (λ v. v.data_count) (λ v w e. ap (λ (y : Progress). y.data_count) e) keeps_data_count some tells_data_count ps p q 0 n noted ordered d
 
-  both_agree : counts_agree q ≡ true → (q.functions ≡ q.bodies) × (said q.data_count q.segments ≡ true)
+  pub both_agree : counts_agree q ≡ true → (q.functions ≡ q.bodies) × (said q.data_count q.segments ≡ true)
   both_agree e = go (q.functions == q.bodies) refl e
     where
       go : (b : Bool) → (q.functions == q.bodies) ≡ b → cond b (said q.data_count q.segments) false ≡ true → (q.functions ≡ q.bodies) × (said q.data_count q.segments ≡ true)

@@ -30,17 +30,21 @@ use Rattle.wasm_sections_parser.specs.Steps.{
   in_part,
   Next,
   has_count,
+  is_announced,
   custom_next,
   section_next,
+  counted_next,
   contents_next,
   contents,
   code_next,
+  start_next,
   code_start,
   number_before,
   kept,
   ordered,
   next_section,
 }
+use Rattle.wasm_sections_parser.specs.runs.steps.AnnouncedLaws.{counted_done, none_announced, start_done}
 use Rattle.wasm_sections_parser.specs.runs.steps.SpelledLaws.{section_spelled}
 use Rattle.wasm_sections_parser.specs.runs.steps.CustomLaws.{byte_takes, custom_spelled}
 use Rattle.wasm_sections_parser.specs.runs.steps.BodyLaws.{kept_done}
@@ -55,12 +59,13 @@ pub record Start (p : Progress) (s : State) (n k : ℕ) (q : Progress) (t : Stat
   pub taken : Takes s (outer.code_id ∷ (size ++ count)) t
   pub ends : end ≡ s.place + 1 + length size + k
   pub inside : t.place ≤ end
+  pub agreed : p.functions ≡ n
   pub noted : q ≡ in_code p n end
 
 abbrev pub Given : Settings → Progress → State → Shape → Progress → State → Type 0
 Given z p s (version h) q t = ⊥
 Given z p s (custom n c) q t = (q ≡ counted p 0 0) × ((text : List ℕ) × Takes s text t × SpelledPart z (outer.custom n c) text)
-Given z p s (section id c) q t = (is_late p id ≡ false) × ((k : ℕ) × (has_count id ≡ true → Counts k c) × (q ≡ counted p id k))
+Given z p s (section id c) q t = (is_late p id ≡ false) × ((k : ℕ) × (has_count id ≡ true → Counts k c) × (q ≡ counted p id k) × (is_announced id (counted p id k) ≡ true))
     × ((text : List ℕ) × Takes s text t × SpelledPart z (outer.section id c) text)
 Given z p s (code n k) q t = (is_late p outer.code_id ≡ false) × Start p s n k q t
 Given z p s (entry c) q t = ⊥
@@ -75,17 +80,16 @@ module _ (z : Settings) (p : Progress) (s t : State) where
 
   -- a whole section
   from_section : (i k : ℕ) (x rest : List ℕ) (u : State) (y : Next) → is_late p i ≡ false → (has_count i ≡ true → Counts k x)
-      → given (section_next p i x k rest) u ≡ given y t → next_section z p s ≡ given y t → Out y
-  from_section i k x rest u y late h f e =
+      → is_announced i (counted p i k) ≡ true → given (section_next p i x k rest) u ≡ given y t → next_section z p s ≡ given y t → Out y
+  from_section i k x rest u y late h a f e =
       let v = value_is (section_next p i x k rest) y u t f in
-      subst Out v (late, (k, h, refl), section_spelled z p (counted p i k) s t i x (e ∙ ap (λ (n : Next). given n t) (sym v)))
+      subst Out v (late, (k, h, refl, a), section_spelled z p (counted p i k) s t i x (e ∙ ap (λ (n : Next). given n t) (sym v)))
 
-  from_count : (i : ℕ) (r u : State) (y : Next) (o : Outcome ℕ) → u32 r ≡ o → is_late p i ≡ false → found (section_next p i r.rest) u o ≡ given y t → next_section z p s ≡ given y t → Out y
-  from_count i r u y (Done k w) c late f e =
-      let front = decides-u32.sound r w k c in
-      from_section i k r.rest w.rest u y late (λ h. record { count = front.0; items = w.rest; counted = front.2; whole = front.1.parts }) f e
-  from_count i r u y (Short a h) c late f e = absurd cc
-  from_count i r u y (Fault k a) c late f e = absurd cc
+  from_count : (i : ℕ) (r u : State) (y : Next) → is_late p i ≡ false → counted_next p i r u ≡ given y t → next_section z p s ≡ given y t → Out y
+  from_count i r u y late f e =
+      let d = counted_done p i r u t y f in
+      let front = decides-u32.sound r d.1 d.0 d.2 in
+      from_section i d.0 r.rest d.1.rest u y late (λ h. record { count = front.0; items = d.1.rest; counted = front.2; whole = front.1.parts }) d.4 d.3 e
 
   from_name : (u : State) (y : Next) (o : Outcome (List ℕ)) → found (custom_next p) u o ≡ given y t → next_section z p s ≡ given y t → Out y
   from_name u y (Done n w) f e =
@@ -98,16 +102,12 @@ module _ (z : Settings) (p : Progress) (s t : State) where
   unfolding in_part
   from_contents i r u y late f e = go (i == 0) f
     where
-      plain : (b : Bool) → has_count i ≡ b → cond b (found (section_next p i r.rest) u (u32 r)) (Done (section_next p i r.rest 0 []) u) ≡ given y t → Out y
-      plain true h g = from_count i r u y (u32 r) refl late g e
-      plain false h g = from_section i 0 r.rest [] u y late (λ k. absurd cc) g e
-
-      counts : (b : Bool) → has_count i ≡ b → cond b (in_part u32 (section_next p i r.rest) r) (pure (section_next p i r.rest 0 [])) u ≡ given y t → Out y
-      counts true h g = plain true h g
-      counts false h g = plain false h g
+      counts : (b : Bool) → has_count i ≡ b → cond b (counted_next p i r) (pure (section_next p i r.rest 0 [])) u ≡ given y t → Out y
+      counts true h g = from_count i r u y late g e
+      counts false h g = from_section i 0 r.rest [] u y late (λ k. absurd cc) (none_announced i (counted p i 0) h) g e
 
       go : (b : Bool) → cond b (in_part (name z.limits.string_bytes) (custom_next p) r)
-          (cond (has_count i) (in_part u32 (section_next p i r.rest) r) (pure (section_next p i r.rest 0 []))) u ≡ given y t
+          (cond (has_count i) (counted_next p i r) (pure (section_next p i r.rest 0 []))) u ≡ given y t
           → Out y
       go true g = from_name u y (name z.limits.string_bytes r) g e
       go false g = counts (has_count i) refl g
@@ -117,12 +117,13 @@ module _ (z : Settings) (p : Progress) (s t : State) where
   unfolding code_start number_before
   from_start k m w y first size late f = go (nat_lt w.place (2 ^ 64 - k)) f
     where
-      go : (b : Bool) → cond b (number_before (w.place + k) >>= λ n. pure (code_next p k (w.place + k) n)) (refuse_at Other w.place) w ≡ given y t → Out y
+      go : (b : Bool) → cond b (number_before (w.place + k) >>= start_next p k w.place) (refuse_at Other w.place) w ≡ given y t → Out y
       go true g =
-          let n = done_then (kept (w.place + k) w.place (u32 w)) (λ n. pure (code_next p k (w.place + k) n)) y t g in
+          let n = done_then (kept (w.place + k) w.place (u32 w)) (start_next p k w.place) y t g in
+          let b = start_done p k w.place n.0 n.1 t y n.3 in
           let q = kept_done (w.place + k) w.place n.0 n.1 (u32 w) n.2 in
-          let v = value_is (code_next p k (w.place + k) n.0) y n.1 t n.3 in
-          let there : n.1 ≡ t = state_is (code_next p k (w.place + k) n.0) y n.1 t n.3 in
+          let v = value_is (code_next p k (w.place + k) n.0) y n.1 t b.1 in
+          let there : n.1 ≡ t = state_is (code_next p k (w.place + k) n.0) y n.1 t b.1 in
           let a = decides-u32.sound m w k size in
           let c = decides-u32.sound w n.1 n.0 q.0 in
           let d = subst (λ (u : State). Takes w c.0 u) there c.1 in
@@ -137,6 +138,7 @@ module _ (z : Settings) (p : Progress) (s t : State) where
               taken = Takes-then s m t (outer.code_id ∷ []) (a.0 ++ c.0) first (Takes-then m w t a.0 c.0 a.1 d);
               ends = omega (arith, a.1.place, first.place);
               inside = subst (λ (u : State). u.place ≤ w.place + k) there q.1;
+              agreed = b.0;
               noted = refl;
             },
           )

@@ -23,6 +23,7 @@ use Rattle.wasm_sections_parser.specs.Steps.{
   entry,
   the_end,
   begun,
+  counted,
   is_late,
   found,
   in_part,
@@ -30,15 +31,18 @@ use Rattle.wasm_sections_parser.specs.Steps.{
   has_count,
   custom_next,
   section_next,
+  counted_next,
   contents_next,
   contents,
   code_next,
+  start_next,
   code_start,
   number_before,
   ordered,
   next_section,
   next_header,
 }
+use Rattle.wasm_sections_parser.specs.runs.steps.AnnouncedLaws.{counted_done, start_done}
 
 abbrev given : Shape → Progress → State → Outcome Next
 given x q t = Done (x, q) t
@@ -93,11 +97,6 @@ module _ (z : Settings) (p q : Progress) (s t : State) (id : ℕ) (c : List ℕ)
       let v : (section i x, r) ≡ (section id c, q) = value_is (section i x, r) (section id c, q) u t e in
       (ap (λ (k : Next). id_in k.0) v, ap (λ (k : Next). bytes_in k.0) v, state_is (section i x, r) (section id c, q) u t e)
 
-  counted_value : (i : ℕ) (x : List ℕ) (u : State) (o : Outcome ℕ) → found (section_next p i x) u o ≡ given (section id c) q t → (i ≡ id) × (x ≡ c) × (u ≡ t)
-  counted_value i x u (Done k w) e = same_value i x _ u e
-  counted_value i x u (Short a h) e = absurd cc
-  counted_value i x u (Fault k a) e = absurd cc
-
   no_custom : (u : State) (o : Outcome (List ℕ)) → found (custom_next p) u o ≡ given (section id c) q t → ⊥
   no_custom u (Done n w) e = let v = ap (λ (k : Next). is_custom k.0) (value_is _ _ u t e) in cc
     where
@@ -115,17 +114,17 @@ module _ (z : Settings) (p q : Progress) (s t : State) (id : ℕ) (c : List ℕ)
   unfolding in_part
   contents_value i r u e = go (i == 0) refl e
     where
-      counts : (b : Bool) → cond b (found (section_next p i r.rest) u (u32 r)) (Done (section_next p i r.rest 0 []) u) ≡ given (section id c) q t → (i ≡ id) × (r.rest ≡ c) × (u ≡ t)
-      counts true f = counted_value i r.rest u (u32 r) f
+      counts : (b : Bool) → cond b (counted_next p i r) (pure (section_next p i r.rest 0 [])) u ≡ given (section id c) q t → (i ≡ id) × (r.rest ≡ c) × (u ≡ t)
+      counts true f = let d = counted_done p i r u t (section id c, q) f in same_value i r.rest (counted p i d.0) u d.3
       counts false f = same_value i r.rest _ u f
 
       go : (b : Bool) → (i == 0) ≡ b → cond b (in_part (name z.limits.string_bytes) (custom_next p) r)
-          (cond (has_count i) (in_part u32 (section_next p i r.rest) r) (pure (section_next p i r.rest 0 []))) u ≡ given
+          (cond (has_count i) (counted_next p i r) (pure (section_next p i r.rest 0 []))) u ≡ given
           (section id c) q t → ((i == 0) ≡ false) × (i ≡ id) × (r.rest ≡ c) × (u ≡ t)
       go true k f = absurd (no_custom u (name z.limits.string_bytes r) f)
       go false k f = inner (has_count i) f
         where
-          inner : (b : Bool) → cond b (in_part u32 (section_next p i r.rest) r) (pure (section_next p i r.rest 0 [])) u ≡ given
+          inner : (b : Bool) → cond b (counted_next p i r) (pure (section_next p i r.rest 0 [])) u ≡ given
               (section id c) q t → ((i == 0) ≡ false) × (i ≡ id) × (r.rest ≡ c) × (u ≡ t)
           inner true f' = let v = counts true f' in (k, v.0, v.1, v.2)
           inner false f' = let v = counts false f' in (k, v.0, v.1, v.2)
@@ -142,10 +141,11 @@ module _ (z : Settings) (p q : Progress) (s t : State) (id : ℕ) (c : List ℕ)
       is_code (entry c) = false
       is_code the_end = false
 
-      go : (b : Bool) → cond b (number_before (u.place + n) >>= λ k. pure (code_next p n (u.place + n) k)) (refuse_at Other u.place) u ≡ given (section id c) q t → ⊥
+      go : (b : Bool) → cond b (number_before (u.place + n) >>= start_next p n u.place) (refuse_at Other u.place) u ≡ given (section id c) q t → ⊥
       go true f =
-          let m = done_then (number_before (u.place + n) u) (λ k. pure (code_next p n (u.place + n) k)) (section id c, q) t f in
-          let v = ap (λ (k : Next). is_code k.0) (value_is _ _ m.1 t m.3) in
+          let m = done_then (number_before (u.place + n) u) (start_next p n u.place) (section id c, q) t f in
+          let d = start_done p n u.place m.0 m.1 t (section id c, q) m.3 in
+          let v = ap (λ (k : Next). is_code k.0) (value_is (code_next p n (u.place + n) m.0) (section id c, q) m.1 t d.1) in
           cc
       go false f = cc
 

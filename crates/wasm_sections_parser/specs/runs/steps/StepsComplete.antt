@@ -1,7 +1,7 @@
 -- Where a section is spelled, in order and with a readable count, that is what a parser gives next.
 use Rattle.std.proofs.Common.{◌≡◌, ℕ, ◌+◌, ◌-◌, ◌<◌, ◌≤◌, ◌^◌, List, ◌∷◌, ◌++◌, length, refl, sym, ap, ◌∙◌, subst, append_assoc, arith, cond, Bool, true, false}
 use Rattle.std.specs.Prelude.{nat_lt, ◌==◌}
-use Rattle.std.proofs.lemmas.Bool.{eqb-true, le-ltb, lt-ltb, false_from_ne_true}
+use Rattle.std.proofs.lemmas.Bool.{eqb-true, eq-eqb, le-ltb, lt-ltb, false_from_ne_true}
 use Rattle.std.proofs.lemmas.List.{length-append}
 use Rattle.wasm_types.specs.settings.Settings.{Settings}
 use Rattle.wasm_types.specs.decoding.declared.Refusal.TheVariants.{Other}
@@ -33,9 +33,11 @@ use Rattle.wasm_sections_parser.specs.Steps.{
   has_count,
   custom_next,
   section_next,
+  is_announced,
+  announced,
   contents_next,
   contents,
-  code_next,
+  start_next,
   code_start,
   number_before,
   kept,
@@ -47,6 +49,7 @@ use Rattle.wasm_sections_parser.specs.Steps.{
   at_stage,
   step,
 }
+use Rattle.wasm_sections_parser.specs.runs.steps.AnnouncedLaws.{announced_so}
 
 abbrev given : Next → State → Outcome Next
 given y t = Done y t
@@ -98,10 +101,10 @@ module _ (z : Settings) (p : Progress) (s t : State) where
       to_contents z p s t 0 (length content) size content here h.2.counted refl refl refl ∙ ap (found (custom_next p) t) read
 
   section_next_is : (id : ℕ) (c : List ℕ) (part : State) → part.rest ≡ c → (has_count id ≡ true → (k : ℕ) × Counts k c)
-      → (id == 0) ≡ false → (k : ℕ) × (has_count id ≡ true → Counts k c)
+      → ((k : ℕ) → (has_count id ≡ true → Counts k c) → is_announced id (counted p id k) ≡ true) → (id == 0) ≡ false → (k : ℕ) × (has_count id ≡ true → Counts k c)
       × (contents_next z p id part t ≡ given (section id c, counted p id k) t)
   unfolding in_part
-  section_next_is id c part e h nought = go (has_count id) refl
+  section_next_is id c part e h agreed nought = go (has_count id) refl
     where
       text_is : (x : ℕ) → given (section id part.rest, counted p id x) t ≡ given (section id c, counted p id x) t
       text_is x = ap (λ (y : List ℕ). given (section id y, counted p id x) t) e
@@ -112,32 +115,33 @@ module _ (z : Settings) (p : Progress) (s t : State) where
           let n = h f in
           let rest : State = record { rest = n.1.items; place = part.place + length n.1.count; settings = part.settings; start = part.start } in
           let read : u32 part ≡ Done n.0 rest = decides-u32.complete part rest n.0 n.1.count (record { parts = e ∙ n.1.whole; place = refl; settings = refl; start = refl }) n.1.counted in
-          (n.0, (λ g. n.1), rw (nought, f) (ap (found (section_next p id part.rest) t) read ∙ text_is n.0))
+          let said = announced_so id (section_next p id part.rest n.0 rest.rest) t (agreed n.0 (λ g. n.1)) in
+          (n.0, (λ g. n.1), rw (nought, f) (ap (λ (o : Outcome ℕ). continue_with (found (section_next p id part.rest) t o) (announced id)) read ∙ said ∙ text_is n.0))
 
   pub section_next_at : (id : ℕ) (c text : List ℕ) → Takes s text t → SpelledPart z (outer.section id c) text
       → is_late p id ≡ false → (has_count id ≡ true → (k : ℕ) × Counts k c)
-      → (k : ℕ) × (has_count id ≡ true → Counts k c) × (next_section z p s ≡ given (section id c, counted p id k) t)
-  section_next_at id c text taken h late count =
+      → ((k : ℕ) → (has_count id ≡ true → Counts k c) → is_announced id (counted p id k) ≡ true) → (k : ℕ) × (has_count id ≡ true → Counts k c) × (next_section z p s ≡ given (section id c, counted p id k) t)
+  section_next_at id c text taken h late count agreed =
       let sized = h.2.2 in
       let here : Takes s (id ∷ (sized.size ++ sized.content)) t = subst (λ (x : List ℕ). Takes s x t) (h.2.1 ∙ ap (λ (x : List ℕ). id ∷ x) sized.whole) taken in
       let part : State = part_at (behind_size z p s t id (length sized.content) sized.size sized.content here sized.counted) sized.content in
       let nought : (id == 0) ≡ false = false_from_ne_true (id == 0) (λ e. h.0 (eqb-true _ _ e)) in
       let ten : (id == 10) ≡ false = false_from_ne_true (id == 10) (λ e. h.1 (eqb-true _ _ e)) in
-      let v = section_next_is id c part (sym sized.spelled) count nought in
+      let v = section_next_is id c part (sym sized.spelled) count agreed nought in
       (v.0, v.1, to_contents z p s t id (length sized.content) sized.size sized.content here sized.counted late ten refl ∙ v.2)
 
   -- the start of the code section
   pub start_next_is : (n k : ℕ) (size count : List ℕ) → Takes s (outer.code_id ∷ (size ++ count)) t → IsUnsigned 32 k size
-      → IsUnsigned 32 n count → length count ≤ k → s.place + 1 + length size + k < 2 ^ 64 → is_late p outer.code_id ≡ false
+      → IsUnsigned 32 n count → length count ≤ k → s.place + 1 + length size + k < 2 ^ 64 → is_late p outer.code_id ≡ false → p.functions ≡ n
       → next_section z p s ≡ given (code n k, in_code p n (s.place + 1 + length size + k)) t
   unfolding code_start number_before
-  start_next_is n k size count taken sized counts inside room late =
+  start_next_is n k size count taken sized counts inside room late agreed =
       let w : State = behind_size z p s t outer.code_id k size count taken sized in
       let read : u32 w ≡ Done n t = decides-u32.complete w t n count (content_taken z p s t outer.code_id k size count taken sized) counts in
       let fits : nat_lt (w.place + k) t.place ≡ false = le-ltb (w.place + k) t.place (omega (arith, taken.place, length-append size count, inside)) in
       let low : nat_lt w.place (2 ^ 64 - k) ≡ true = lt-ltb w.place (2 ^ 64 - k) (omega (arith, room)) in
       to_order z p s t outer.code_id k size count taken sized ∙ in_time z p s t outer.code_id k size count taken sized late
-      ∙ rw low (ap (λ (o : Outcome ℕ). continue_with (kept (w.place + k) w.place o) (λ m. pure (code_next p k (w.place + k) m))) read ∙ rw fits refl)
+      ∙ rw low (ap (λ (o : Outcome ℕ). continue_with (kept (w.place + k) w.place o) (start_next p k w.place)) read ∙ rw (fits, eq-eqb p.functions n agreed) refl)
 
 -- ---- bodies
 

@@ -25,3 +25,6 @@ loop-preserved g c = record {
 
 pub returns-clause-answer : goal.returns-clause-answer
 returns-clause-answer g c = is_done (g.T.FromReader.decoder c.args.reader.now.settings) (map g.T.FromReader.view c.loop.items.items) c.args.count c.loop.counter c.loop.reader _ c.loop.invariant.read (omega arith)
+
+pub returns-in_err-push-clause-forward : goal.returns-in_err-push-clause-forward
+returns-in_err-push-clause-forward g c = reaches_then _ _ _ c.loop.invariant.forward c.in_ok-item.ensures.forward

@@ -82,7 +82,7 @@ returns-in-UnknownSection c =
 pub returns-in-CustomSection : goal.returns-in-CustomSection
 returns-in-CustomSection c =
     subst (λ (x : Payload). TakesPayload x c.args.self.now c.pass-in-CustomSection.result c.args.self.now) (sym c.in-CustomSection.is)
-    (c.check_not_failed.result, c.pass-in-CustomSection.ensures, (c.check_not_failed.ensures, refl))
+    (c.custom_section.result, c.pass-in-CustomSection.ensures, (c.custom_section.ensures, refl))
 
 pub returns-in-CodeSectionEntry : goal.returns-in-CodeSectionEntry
 returns-in-CodeSectionEntry c =

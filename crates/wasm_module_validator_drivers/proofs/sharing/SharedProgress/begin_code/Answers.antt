@@ -1,7 +1,8 @@
-use Rattle.std.proofs.Common.{◌∙◌, Ok, Err, ap, sym}
-use Rattle.std.specs.Prelude.{option_map}
-use Rattle.wasm_module_validator_payloads.specs.Progress.{Progress}
-use Rattle.wasm_module_validator_drivers.proofs.Keeping.{own_progress, code_told, code_begun}
+use Rattle.std.proofs.Common.{◌∙◌, Ok, Err, ap, sym, subst}
+use Rattle.std.specs.Prelude.{option_map, Option}
+use Rattle.wasm_module_validator_payloads.specs.Progress.{Progress, Kept}
+use Rattle.wasm_module_validator_drivers.specs.Sharing.{IsNext}
+use Rattle.wasm_module_validator_drivers.proofs.Keeping.{not_shared, own_progress, code_told, code_begun}
 use Rattle.wasm_module_validator_drivers.proofs.sharing.SharedProgress.begin_code.Goals as goal
 
 pub returns-in-Err-clause-answer : goal.returns-in-Err-clause-answer
@@ -32,3 +33,11 @@ returns-clause-kept c =
     let i = c.self.inside in
     let o = option_map (λ p. p.value) i.shared in
     (c.in_ok-new.ensures.ok ∙ c.in_ok-module.ensures.closed) ∙ (c.take_code_start.ensures.kept ∙ sym (ap (λ (p : Progress). p.kept) (own_progress v i.own i.last i.bodies o c.self.view_is c.requires.own)))
+
+pub invariant_of-self-in_err-new : goal.invariant_of-self-in_err-new
+invariant_of-self-in_err-new c =
+    let v = c.args.self.now in
+    let i = c.self.inside in
+    let o = option_map (λ p. p.value) i.shared in
+    let none = not_shared v i.own i.last i.bodies o c.self.view_is c.requires.own in
+    subst (λ (s : Option Kept). IsNext c.close.new.self s) (sym none) tt

@@ -14,4 +14,4 @@ returns-clause-valid g c = λ holds.
     rw c.as_bytes-bytes.ensures at (valid_body k.ids z m.«module» c.args.ty c.as_bytes-bytes.result.now c.args.self.now.tables c.begin.new.tables c.in-Some-begin.start
     c.in-Some-begin.ensures.begun k.tells k.features c.begin.ensures.same c.if-bytes-limits.false (c.if-not-allows_lists.ensures refl)
     (not_shared (entry_in m c.in-Some.sub_type.now) _ c.in-Some.ensures c.if-sub_type.false)
-    (λ h fits params others. c.accepts.ensures holds k.ids z h fits params others))
+    (λ h fits params others. c.accepts-valid.ensures holds k.ids z h fits params others))

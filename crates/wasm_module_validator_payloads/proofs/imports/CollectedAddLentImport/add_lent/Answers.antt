@@ -8,6 +8,12 @@ use Rattle.wasm_module_validator_payloads.proofs.Counting.{always, item_added}
 use Rattle.wasm_module_validator_payloads.specs.laws.Growing.{grown_one, list_stays}
 use Rattle.wasm_module_validator_payloads.proofs.imports.CollectedAddLentImport.add_lent.Goals as goal
 
+pub returns-then-lacks_memory-clause-answer : goal.returns-then-lacks_memory-clause-answer
+returns-then-lacks_memory-clause-answer c = λ m h. rw c.out_of_memory.ensures tt
+
+pub returns-then-lacks_memory-clause-refused : goal.returns-then-lacks_memory-clause-refused
+returns-then-lacks_memory-clause-refused c = λ m h. rw c.out_of_memory.ensures tt
+
 pub returns-clause-answer : goal.returns-clause-answer
 returns-clause-answer c = λ m h.
     let here = subst (λ (k : Kept). IsRead section.imports k m) (sym c.self.view_is) h in

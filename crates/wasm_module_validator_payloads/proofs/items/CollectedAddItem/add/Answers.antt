@@ -1,9 +1,15 @@
-use Rattle.std.proofs.Common.{sym, subst}
+use Rattle.std.proofs.Common.{inr, sym, subst}
 use Rattle.wasm_module_validator_section_order.specs.items.FullLaws.{unless_full_from}
 use Rattle.wasm_module_validator_payloads.specs.Progress.{Kept, FullIn, IsRead}
 use Rattle.wasm_module_validator_payloads.proofs.Adding.{added_one, told_one, refused_one}
 use Rattle.wasm_module_validator_payloads.specs.laws.Growing.{grown_one}
 use Rattle.wasm_module_validator_payloads.proofs.items.CollectedAddItem.add.Goals as goal
+
+pub returns-then-lacks_memory-clause-answer : goal.returns-then-lacks_memory-clause-answer
+returns-then-lacks_memory-clause-answer g c = inr (λ m h. rw c.out_of_memory.ensures tt)
+
+pub returns-then-lacks_memory-clause-refused : goal.returns-then-lacks_memory-clause-refused
+returns-then-lacks_memory-clause-refused g c = inr (λ m h. rw c.out_of_memory.ensures tt)
 
 pub returns-clause-answer : goal.returns-clause-answer
 returns-clause-answer g c =

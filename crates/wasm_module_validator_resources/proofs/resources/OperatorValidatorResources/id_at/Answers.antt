@@ -23,4 +23,4 @@ returns-in-Some-clause-id c =
 
 pub returns-in-None-clause-answer : goal.returns-in-None-clause-answer
 returns-in-None-clause-answer c =
-    rw c.fmt.ensures.kind (λ lt. index_past (c.args.self.now.types.now.groups) (c.args.self.now.«module».now.types) c.args.number c.in-None.ensures lt)
+    rw c.with.ensures (λ lt. index_past (c.args.self.now.types.now.groups) (c.args.self.now.«module».now.types) c.args.number c.in-None.ensures lt)

@@ -11,4 +11,4 @@ returns c =
     found_one c.equality_is_of_declarations.ensures.subtypes c.args.types.now.items c.args.self.now.alone c.index-types-0.result (declared_types c.args.group.now)
     (ap (map declared_of) (sym c.types-2.ensures)
     ∙ only_item declared_of c.types-2.result.now c.index-types-0.result (ap length (c.types-2.ensures ∙ sym c.types.ensures) ∙ c.if-types-ne1.false) c.index-types-0.is)
-    c.find.result c.find.ensures
+    c.find.result.0 c.find.ensures

@@ -9,15 +9,16 @@ use Rattle.wasm_module_validator_type_list.proofs.list.TypeList.find.Goals as go
 
 pub rec_group_id_of-requires : goal.rec_group_id_of-requires
 rec_group_id_of-requires c =
+    let told = rw c.in-Some-id.is at c.id_of-id.ensures in
     let found = found_some (groups_in c.self.inside.lists) c.self.inside.lists.types.items c.self.inside.known c.in-Some.known c.args.group.now c.in-Some.is c.self.invariant.knows
-    c.in-Some-id_of.id c.in-Some-id_of.ensures in
+    c.in-Some-id.id told in
     omega (
       arith,
-      slice_get_within (group_numbers (groups_in c.self.inside.lists)) c.in-Some-id_of.id found.0 found.1,
+      slice_get_within (group_numbers (groups_in c.self.inside.lists)) c.in-Some-id.id found.0 found.1,
       length_homes (groups_in c.self.inside.lists),
       ap (λ l. count l.groups) c.self.view_is,
       c.new.ensures,
     )
 
-pub returns-in-Some-id_of : goal.returns-in-Some-id_of
-returns-in-Some-id_of c = search rules
+pub returns-in-Some-id : goal.returns-in-Some-id
+returns-in-Some-id c = search rules

@@ -1,3 +1,5 @@
+use Rattle.wasm_operators_immediates.proofs.Passing.{size_is_small}
+use Rattle.std.proofs.Common.{rules}
 -- The bytes that were passed are the table's.
 use Rattle.std.proofs.Common.{◌≡◌, ◌∙◌, refl, sym, ap}
 use Rattle.wasm_types.specs.decoding.Decoder.{Done, repeated}
@@ -26,3 +28,6 @@ returns-clause-answer c =
     let same : c.of_bytes.result ≡ record { targets = xs; default = c.in_ok-default.default } = λ i. record { targets = t i; default = c.of_bytes.ensures.default i } in
     let counted = sym (ap (λ (l : Limits). size_within l.body_bytes c.args.reader.now) c.limits-limit.ensures.value) ∙ c.in_ok-count.ensures.answer in
     rw (counted, c.in_ok-pass_numbers.ensures.answer.1, c.in_ok-default.ensures.answer, same) refl
+
+pub overflow_cast-count : goal.overflow_cast-count
+overflow_cast-count c = record { fits = size_is_small _ _ _ _ (search rules) c.in_ok-count.ensures.answer }

@@ -20,8 +20,8 @@ returns-in-Err-clause-refused g c =
     let told = tells_both g.V.Visitor.visits (Ok tt) c.args.operators.now c.loop-operators.operators c.tell_run.new.self c.args.visitor.now c.loop-operators.visitor
     c.tell_run.new.visitor c.loop-operators.invariant (tells_walk g.V.Visitor.visits (Ok tt) c.loop-operators.operators c.tell_run.new.self c.loop-operators.visitor c.tell_run.new.visitor c.in_default.ensures.told) in
     tells_stop g.V.Visitor.visits (Ok tt) c.args.operators.now c.tell_run.new.self c.tell_operator_simd.new.operators c.args.visitor.now c.tell_run.new.visitor
-    c.tell_operator_simd.new.visitor c.in-Err.error told (some_rest c.eof-at_end.result c.tell_run.new.self.bytes.rest c.if-at_end.false c.eof-at_end.ensures)
-    c.in-Err.ensures.refused.0 c.in-Err.ensures.no_memory c.in-Err.ensures.refused.1 c.in-Err.ensures.told
+    c.tell_operator_simd.new.visitor c.in-Err.error c.told_of.result told (some_rest c.eof-at_end.result c.tell_run.new.self.bytes.rest c.if-at_end.false c.eof-at_end.ensures)
+    c.in-Err.ensures.refused.0 c.in-Err.ensures.no_memory c.in-Err.ensures.refused.1 c.in-Err.ensures.told c.told_of.ensures.told c.told_of.ensures.content
 
 pub returns-in-Err-answer-clause-ended : goal.returns-in-Err-answer-clause-ended
 returns-in-Err-answer-clause-ended g c =

@@ -1,8 +1,0 @@
-use Rattle.std.proofs.Common.{◌+◌, ◌∷◌, [], refl}
-use Rattle.wasm_operator_validator_fast_steps.proofs.Rows.{took_number}
-use Rattle.wasm_operator_validator_fast_steps.proofs.numbers.combine.Goals as goal
-
-pub returns-clause-leads : goal.returns-clause-leads
-returns-clause-leads c =
-    let (rest, taken, put) = c.if-not-combine.ensures refl in
-    took_number c.args.tables.now c.args.bytes.now c.args.at (c.args.at + 1) c.args.opens.now.inner c.args.opens.now.outer c.args.stack.now c.combine.new.self c.args.code c.requires refl (c.combine_shape-takes.result.0 ∷ c.combine_shape-takes.result.0 ∷ []) (c.combine_shape-takes.result.1 ∷ []) (c.combine_shape-takes.ensures c.if-gives-ge-NO_CODE.false) rest c.args.stack.now.1 taken put

@@ -1,0 +1,7 @@
+-- The parts that are read, one after the other.
+use Rattle.wasm_types.specs.Laws.{reaches_then}
+use Rattle.wasm_sections_items.proofs.elements.segment.read_kind.Goals as goal
+
+pub returns-clause-forward : goal.returns-clause-forward
+returns-clause-forward g c =
+    reaches_then _ _ _ c.in_ok-table.ensures.forward c.in_ok-offset_expr-2.ensures.forward
