@@ -3,6 +3,8 @@ import importlib.machinery
 import importlib.util
 import os
 import resource
+import shutil
+import subprocess
 
 ROOT = os.path.dirname(os.path.dirname(os.path.dirname(os.path.abspath(__file__))))
 
@@ -15,6 +17,18 @@ def load_rt():
     rt = kit.load_rt()
     kit.ask_once(rt)
     return rt
+
+
+def copied(held, over):
+    """Copies what a check left into a new folder, which the next check may change."""
+    shutil.copytree(held, over)
+
+
+def is_proved(rt, crate, kept):
+    """Whether the crate is proved as it is, over what the folder `kept` holds. What this check leaves is put there too."""
+    words = [rt.rtlib.RATTLE, "check", *crate.words(["--jobs", "1"], keeps=False), "--incremental", kept]
+    how = {"cwd": crate.folder, "stdin": subprocess.DEVNULL, "stdout": subprocess.DEVNULL, "stderr": subprocess.DEVNULL}
+    return subprocess.run([*rt.rtlib.guarded(), *words], **how).returncode == 0
 
 
 def spent():

@@ -6,17 +6,18 @@ An edit of tools/planted/CRATE is written as those of crates/CRATE/must-fail are
 crates are dear to check, so the gate tries none of them: run this when such a crate changes. With no CRATE all of tools/planted are tried,
 N crates side by side (1).
 
-The crates below have to be built (tools/kit kept, or tools/build-proved). Each crate is checked once as it stands, over what
-crates/CRATE/out/incremental holds, and each edit over a copy of what that check left, which is kept there for the next run if nothing was. Prints the CPU seconds of each, and ends with 1 if an edit is not refused.
+The crates below have to be built (tools/kit kept, or tools/build-proved). Each crate is checked once as it stands, over a copy of what
+crates/CRATE/out/incremental holds, and each edit over a copy of what that check left. Prints the CPU seconds of each, and ends with 1 if an
+edit is not refused.
 """
 import argparse
-import contextlib
 import os
 import shutil
 import sys
+import tempfile
 from concurrent.futures import ProcessPoolExecutor
 
-from kit import ROOT, load_rt, spent
+from kit import ROOT, copied, is_proved, load_rt, spent
 
 PLANTED = f"{ROOT}/tools/planted"
 
@@ -32,17 +33,19 @@ def edits_of(name):
 
 
 def over_copy(rt, crate, edit, seed):
-    """What a try of the edit over a linked copy of the seed comes to, and what to say."""
+    """Whether the prover refuses the edit, tried over a copy of the seed, and what to say."""
     over = f"{os.path.dirname(seed)}/tried"
-    rt.linked(seed, over)
+    copied(seed, over)
     try:
-        return rt.must_fail(crate, edit, ["--jobs", "1"], over)
+        kind, said = rt.must_fail(crate, edit, ["--jobs", "1"], over)
+        # kit 13b says whether it is refused, kit 13f how
+        return kind is True or kind in (getattr(rt, "REFUSED", None), getattr(rt, "AT_LIMIT", None)), said
     finally:
         shutil.rmtree(over)
 
 
 def try_crate(name):
-    """Tries a crate's edits, and returns how many were refused and how many not. With the crate itself not proved, none is tried."""
+    """Tries a crate's edits, and returns how many were refused and how many not. If the crate itself is not proved, none is tried."""
     rt = load_rt()
     rt.rtlib.guarded()
     crate, edits = next(it for it in rt.rtlib.crates_below(ROOT) if it.name == name), edits_of(name)
@@ -50,25 +53,19 @@ def try_crate(name):
     if lacking:
         print(f"{name}: NOT TRIED: build first what lies below it: {' '.join(lacking)}", flush=True)
         return 0, len(edits)
-    rt.adopt(crate, is_alone=False)
     kept, refused = f"{crate.folder}/out/incremental", 0
-    with rt.ending():
-        room, seconds = timed(rt.seeded, crate, ["--jobs", "1"], kept if os.path.isdir(kept) else None)
-        print(f"{seconds:6.1f} s  {name}: {'proved' if room else 'NOT PROVED'} as it stands", flush=True)
-        if not room:
-            return 0, len(edits)
+    with tempfile.TemporaryDirectory(prefix="planted-") as room:
         seed = f"{room}/seed"
-        files = rt.listing(seed)
-        for edit in edits:
-            (kind, said), seconds = timed(over_copy, rt, crate, edit, seed)
-            refused += kind in (rt.REFUSED, rt.AT_LIMIT)
-            print(f"{seconds:6.1f} s  {said.removeprefix('must-fail ')}", flush=True)
-        if rt.listing(seed) != files:
-            print(f"{name}: what its own check left was changed by an edit's, so these results say nothing", flush=True)
+        if os.path.isdir(kept):
+            copied(kept, seed)
+        well, seconds = timed(is_proved, rt, crate, seed)
+        print(f"{seconds:6.1f} s  {name}: {'proved' if well else 'NOT PROVED'} as it stands", flush=True)
+        if not well:
             return 0, len(edits)
-        if not os.path.isdir(kept):
-            with contextlib.suppress(OSError, shutil.Error):
-                rt.linked(seed, kept)
+        for edit in edits:
+            (was_refused, said), seconds = timed(over_copy, rt, crate, edit, seed)
+            refused += was_refused
+            print(f"{seconds:6.1f} s  {said.removeprefix('must-fail ')}", flush=True)
     return refused, len(edits) - refused
 
 

@@ -20,7 +20,7 @@ import subprocess
 import sys
 import tempfile
 
-from kit import ROOT, load_rt, spent
+from kit import ROOT, copied, load_rt, spent
 
 WRONG = f"{ROOT}/tools/wrong"
 RULES, RUNS, STORE = "wasm_operator_validator_rules", "wasm_operator_validator_soundness", "wasm_operator_validator_store"
@@ -73,7 +73,7 @@ def tried(rt, name, crate, words, room, folder):
     for path, text in texts.items():
         with open(f"{room}/{crate.name}/{path}", "w", encoding="utf-8") as it:
             it.write(text)
-    rt.linked(f"{room}/seed", f"{room}/tried")
+    copied(f"{room}/seed", f"{room}/tried")
     broken, verdicts, said, seconds = check(rt, words, folder, f"{room}/tried")
     shutil.rmtree(f"{room}/tried")
     for path in texts:

@@ -1,14 +1,13 @@
 //! What a validator knows of a function before the operator at fault.
 ghost use Rattle.std.specs.Prelude.{◌≡◌, IfOk, IfSome, None};
 ghost use Rattle.wasm_types.specs.settings.Limits.{IsWithinCeilings};
-ghost use Rattle.wasm_check_explanation.specs.Places.{BeginsBy};
+ghost use Rattle.wasm_check_places.specs.Places.{BeginsBy};
 
-use crate::judged::{Judged, payloads};
 use crate::operands::operands_of;
-use crate::place::{Note, OpenFrame, OperatorAt, Signature};
 use crate::stack::{innermost_name, open_frame};
 use crate::types::signature_of;
 use std::alloc::{AllocError, Global};
+use wasm_check_places::{Judged, Note, OpenFrame, OperatorAt, Signature, payloads};
 use wasm_module_validator::{
     FuncToValidate, FuncValidator, FuncValidatorAllocations, TypesRef, ValidPayload, Validator,
     ValidatorId, ValidatorResources,

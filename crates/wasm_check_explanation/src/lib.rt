@@ -3,32 +3,21 @@
 //! [`explain`] walks over the module by payloads, as far as the one that has the offset of the fault, and gives a [`Place`]: the section
 //! and the item, or the function with its operator, and the chapter of the standard that has the rule. If the fault is in a body, a
 //! validator is told of all that comes before the operator there, so that the place has the type of the function, what the operator takes
-//! and what is on the stack. [`told`] makes the lines for people and the members for programs, both of the parts of one place. Names are
-//! as the module spells them: whoever writes them has to see that they stay in their lines. No verdict rests on a place: `explain`
-//! answers for all bytes and errors, also for those that no validator gave. It promises that the offset is in the section that is told,
-//! and that the operator begins no later.
+//! and what is on the stack. No verdict rests on a place: `explain` answers for all bytes and errors, also for those that no validator gave.
+//! It promises that the offset is in the section that is told, and that the operator begins no later.
 #![tactic(auto)]
 
 mod bodies;
-mod explanation;
 mod given;
-mod items;
-mod judged;
 mod known;
-mod lines;
-mod members;
 mod modules;
-mod names;
 mod numbers;
 mod operands;
-mod passed;
-mod place;
-mod sections;
 mod stack;
 mod taken;
 mod types;
 
-pub use explanation::told;
 pub use modules::explain;
-pub use place::{Function, Item, Note, Offsets, OpenFrame, Operands, OperatorAt, Place, Signature};
-pub use sections::Part;
+pub use wasm_check_places::{
+    Function, Item, Note, Offsets, OpenFrame, Operands, OperatorAt, Part, Place, Signature, told,
+};

@@ -1,17 +1,15 @@
 //! Where in a module the fault is.
 ghost use Rattle.std.specs.Prelude.{◌≡◌, IfOk, IfSome, None};
 ghost use Rattle.wasm_types.specs.settings.Limits.{IsWithinCeilings};
-ghost use Rattle.wasm_check_explanation.specs.Places.{BeginsBy, IsEmpty, IsIn, IsPlaceOf};
+ghost use Rattle.wasm_check_places.specs.Places.{BeginsBy, IsEmpty, IsIn, IsPlaceOf};
 
 use crate::bodies::{Found, Inside, KnownBody, find_in_body, find_overfull};
-use crate::items::{Spot, spot_of};
-use crate::judged::{Judged, payloads};
-use crate::names::name_of;
-use crate::passed::Passed;
-use crate::place::{Function, Offsets, Place, Signature};
-use crate::sections::{Part, offsets_of, part_of};
 use std::alloc::{AllocError, Global};
 use wasm_check_lines::{Cause, Limit, cause_of};
+use wasm_check_places::{
+    Function, Judged, Offsets, Part, Passed, Place, Signature, Spot, name_of, offsets_of, part_of,
+    payloads, spot_of,
+};
 use wasm_sections::Payload;
 use wasm_types::{Error, Limits, WasmFeatures};
 

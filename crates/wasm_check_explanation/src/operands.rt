@@ -1,10 +1,10 @@
 //! What an operator takes and gives.
 
 use crate::given::add_given;
-use crate::place::Operands;
 use crate::taken::add_taken;
 use crate::types::names_from_top;
 use std::alloc::{AllocError, Global};
+use wasm_check_places::Operands;
 use wasm_module_validator::{FuncValidator, TypesRef, ValidatorResources};
 use wasm_operator_validator::OperatorArity;
 use wasm_operators_reader::Operator;

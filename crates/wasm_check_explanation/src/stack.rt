@@ -1,9 +1,9 @@
 //! The innermost open frame, and its operands.
 ghost use Rattle.std.specs.Prelude.{◌≤◌};
 
-use crate::place::OpenFrame;
-use crate::types::{CUT, MOST_OPERANDS, type_name};
+use crate::types::{MOST_OPERANDS, type_name};
 use std::alloc::{AllocError, Global};
+use wasm_check_places::{CUT, OpenFrame};
 use wasm_module_validator::{FuncValidator, TypesRef, ValidatorResources};
 use wasm_operator_validator::FrameKind;
 use wasm_types::ValType;

@@ -1,7 +1,7 @@
 //! Types as the text format writes them, a type of the module by its index.
 
-use crate::place::Signature;
 use std::alloc::{AllocError, Global};
+use wasm_check_places::{CUT, Signature};
 use wasm_module_validator::TypesRef;
 use wasm_types::{CoreTypeId, FuncType, HeapType, RefType, UnpackedIndex, ValType};
 
@@ -10,9 +10,6 @@ const MOST_TYPES: usize = 16;
 
 /// How many operands are told.
 pub(crate) const MOST_OPERANDS: usize = 8;
-
-/// What ends a list that is cut.
-pub(crate) const CUT: &str = "..";
 
 /// The first index in the module of the type that has this id.
 fn index_of_id(types: &TypesRef<'_>, id: CoreTypeId) -> Option<u32> {

@@ -2,9 +2,12 @@
 //!
 //! Types are written as the text format writes them, a type of the module by its index: `(ref null 3)`. A list of types that was cut ends
 //! with `..`.
-ghost use Rattle.wasm_check_explanation.specs.Places.{IsEmpty};
+ghost use Rattle.wasm_check_places.specs.Places.{IsEmpty};
 
 use crate::sections::Part;
+
+/// What ends a list that is cut.
+pub const CUT: &str = "..";
 
 /// Where bytes begin and end.
 #[derive(Clone, Copy)]
@@ -121,7 +124,7 @@ pub struct Place {
 
 impl Place {
     /// A part, of which no more is known.
-    pub(crate) fn of(part: Part, chapter: &'static str) -> Place
+    pub fn of(part: Part, chapter: &'static str) -> Place
         ensures { IsEmpty result }
     {
         Place {
@@ -138,7 +141,7 @@ impl Place {
     }
 
     /// The same, after that part.
-    pub(crate) fn after(part: Part, chapter: &'static str) -> Place
+    pub fn after(part: Part, chapter: &'static str) -> Place
         ensures { IsEmpty result }
     {
         let mut place = Place::of(part, chapter);

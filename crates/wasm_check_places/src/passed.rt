@@ -1,6 +1,6 @@
 //! What came of a module before the fault.
 ghost use Rattle.std.specs.Prelude.{IfSome};
-ghost use Rattle.wasm_check_explanation.specs.Places.{IsIn};
+ghost use Rattle.wasm_check_places.specs.Places.{IsIn};
 
 use crate::place::Offsets;
 use crate::sections::{Part, part_of};
@@ -8,9 +8,9 @@ use wasm_sections::{ImportSectionReader, Payload, TypeRef};
 
 /// The parts of a module before a fault.
 #[derive(Clone, Copy)]
-pub(crate) struct Passed {
+pub struct Passed {
     /// The last part.
-    pub(crate) last: Option<Part>,
+    pub last: Option<Part>,
     /// How many functions are imported.
     imported: u32,
     /// How many bodies came.
@@ -39,7 +39,7 @@ fn functions_in(section: ImportSectionReader<'_>) -> u32 {
 
 impl Passed {
     /// Nothing.
-    pub(crate) fn new() -> Passed {
+    pub fn new() -> Passed {
         Passed {
             last: None,
             imported: 0,
@@ -66,7 +66,7 @@ impl Passed {
     }
 
     /// This, and a payload.
-    pub(crate) fn and(self, payload: Payload<'_>) -> Passed {
+    pub fn and(self, payload: Payload<'_>) -> Passed {
         let mut passed = self;
         passed.last = Some(part_of(&payload));
         match payload {
@@ -89,12 +89,12 @@ impl Passed {
     }
 
     /// The index of the function whose body comes next.
-    pub(crate) fn next_index(self) -> u32 {
+    pub fn next_index(self) -> u32 {
         self.imported.saturating_add(self.bodies)
     }
 
     /// The offsets of the code section, if a fault at this offset, which is in no body, is in it.
-    pub(crate) fn code_at(self, offset: u64) -> Option<Offsets>
+    pub fn code_at(self, offset: u64) -> Option<Offsets>
         ensures { IfSome result (IsIn offset) }
     {
         let Offsets { start, end } = self.code;

@@ -80,7 +80,7 @@ fn named_in<'a>(
 }
 
 /// The name of a function: that of the name section, or one by which it is exported.
-pub(crate) fn name_of<'a>(judged: Judged<'a>, index: u32) -> Option<&'a str>
+pub fn name_of<'a>(judged: Judged<'a>, index: u32) -> Option<&'a str>
     requires within { IsWithinCeilings judged.limits }
 {
     let mut exported = None;

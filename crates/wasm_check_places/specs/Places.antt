@@ -1,9 +1,9 @@
 -- The place of a fault, and what it has to do with the fault's offset.
 use Rattle.std.specs.Prelude.{◌≡◌, ◌<◌, ◌≤◌, ℕ, Option, None, IfSome}
-use Rattle.wasm_check_explanation.specs.declared.place.Place.{Place}
-use Rattle.wasm_check_explanation.specs.declared.place.Offsets.{Offsets}
-use Rattle.wasm_check_explanation.specs.declared.place.Item.{Item}
-use Rattle.wasm_check_explanation.specs.declared.place.OperatorAt.{OperatorAt}
+use Rattle.wasm_check_places.specs.declared.place.Place.{Place}
+use Rattle.wasm_check_places.specs.declared.place.Offsets.{Offsets}
+use Rattle.wasm_check_places.specs.declared.place.Item.{Item}
+use Rattle.wasm_check_places.specs.declared.place.OperatorAt.{OperatorAt}
 
 -- the offset is among these, or right after them
 pub record IsIn (offset : ℕ) (o : Offsets) : Type 0 where

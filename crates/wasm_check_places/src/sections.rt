@@ -76,7 +76,7 @@ impl Part {
     }
 
     /// The chapter of the standard that has its rules.
-    pub(crate) fn chapter(self) -> &'static str {
+    pub fn chapter(self) -> &'static str {
         match self {
             Part::Types => "WebAssembly 3.0, validation, modules, types",
             Part::Imports => "WebAssembly 3.0, validation, modules, imports",
@@ -95,7 +95,7 @@ impl Part {
     }
 
     /// The chapter of the standard that has its bytes.
-    pub(crate) fn spelling(self) -> &'static str {
+    pub fn spelling(self) -> &'static str {
         match self {
             Part::Types => "WebAssembly 3.0, binary format, modules, type section",
             Part::Imports => "WebAssembly 3.0, binary format, modules, import section",
@@ -127,7 +127,7 @@ fn offsets(range: Range<u64>) -> Offsets {
 }
 
 /// Which part a payload is.
-pub(crate) fn part_of(payload: &Payload<'_>) -> Part {
+pub fn part_of(payload: &Payload<'_>) -> Part {
     match payload {
         Payload::Version { .. } => Part::Header,
         Payload::TypeSection(_) => Part::Types,
@@ -151,7 +151,7 @@ pub(crate) fn part_of(payload: &Payload<'_>) -> Part {
 }
 
 /// The offsets of a payload.
-pub(crate) fn offsets_of(payload: &Payload<'_>) -> Offsets {
+pub fn offsets_of(payload: &Payload<'_>) -> Offsets {
     match payload {
         Payload::Version { range, .. } => offsets(range.start..range.end),
         Payload::TypeSection(section) => offsets(section.range()),

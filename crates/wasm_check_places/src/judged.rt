@@ -7,15 +7,15 @@ use wasm_types::{Limits, WasmFeatures};
 
 /// Bytes, and what they were judged by.
 #[derive(Clone, Copy)]
-pub(crate) struct Judged<'a> {
-    pub(crate) alloc: Global,
-    pub(crate) features: WasmFeatures,
-    pub(crate) limits: Limits,
-    pub(crate) bytes: &'a [u8],
+pub struct Judged<'a> {
+    pub alloc: Global,
+    pub features: WasmFeatures,
+    pub limits: Limits,
+    pub bytes: &'a [u8],
 }
 
 /// The payloads of the module, in order.
-pub(crate) fn payloads(judged: Judged<'_>) -> ParseAll<'_>
+pub fn payloads(judged: Judged<'_>) -> ParseAll<'_>
     requires within { IsWithinCeilings judged.limits }
 {
     let mut parser = Parser::new(judged.alloc, 0);

@@ -1,6 +1,6 @@
 //! Which item of a section has an offset.
 ghost use Rattle.wasm_types.specs.settings.Limits.{IsWithinCeilings};
-ghost use Rattle.wasm_check_explanation.specs.Places.{IsAnItem};
+ghost use Rattle.wasm_check_places.specs.Places.{IsAnItem};
 
 use crate::judged::Judged;
 use crate::place::{Item, Offsets};
@@ -11,11 +11,11 @@ use wasm_types::{BinaryReader, FromReader, MemoryType, RecGroup, TagType};
 
 /// What is at an offset in a section.
 #[derive(Clone, Copy)]
-pub(crate) struct Spot {
+pub struct Spot {
     /// The item, if there is one.
-    pub(crate) item: Option<Item>,
+    pub item: Option<Item>,
     /// Whether it cannot be read.
-    pub(crate) is_unread: bool,
+    pub is_unread: bool,
 }
 
 /// No item.
@@ -97,7 +97,7 @@ fn reader_between(judged: Judged<'_>, range: Offsets) -> Option<BinaryReader<'_>
 }
 
 /// Which item of a part between these offsets has this one, if the part has items.
-pub(crate) fn spot_of(judged: Judged<'_>, part: Part, range: Offsets, offset: u64) -> Spot
+pub fn spot_of(judged: Judged<'_>, part: Part, range: Offsets, offset: u64) -> Spot
     requires within { IsWithinCeilings judged.limits }
     ensures { IsAnItem result.item }
 {

@@ -1,8 +1,7 @@
 //! The lines for people, of the parts of a place.
 
-use crate::place::{Function, Note, OpenFrame, Operands, OperatorAt, Place, Signature};
+use crate::place::{CUT, Function, Note, OpenFrame, Operands, OperatorAt, Place, Signature};
 use crate::sections::Part;
-use crate::types::CUT;
 use std::alloc::{AllocError, Global};
 
 /// How many bytes of a name are told.
