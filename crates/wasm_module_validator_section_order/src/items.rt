@@ -12,8 +12,6 @@
 mod add;
 mod bodies;
 mod lent;
-#[cfg(test)]
-mod tests;
 
 pub use add::{AddItem, add_items};
 pub use bodies::Body;

@@ -9,8 +9,6 @@ mod identifier;
 mod info;
 pub mod laws;
 mod maybe_owned;
-#[cfg(test)]
-mod tests;
 
 pub use alloc::TypeAlloc;
 pub use canonicalized::{at_canonicalized_packed_index, at_canonicalized_unpacked_index};
