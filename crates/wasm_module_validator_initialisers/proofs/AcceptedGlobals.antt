@@ -19,7 +19,7 @@ use Rattle.wasm_module_validator_resources.specs.rules_in_order.BetweenLaws.{InT
 use Rattle.wasm_module_validator_state.specs.Adding.{adding_global}
 use Rattle.wasm_module_validator_state.specs.Items.{Items}
 use Rattle.wasm_module_validator_state.specs.invariant.Standing.{constants_of}
-use Rattle.wasm_module_validator_initialisers.specs.accepting.Steps.{IsShortConstant}
+use Rattle.wasm_module_validator_fast_constants.specs.Steps.{IsShortConstant}
 use Rattle.wasm_module_validator_initialisers.specs.adding.Short.{AddsGlobal, IsTypedGlobal, SpellsGlobal}
 use Rattle.wasm_module_validator_initialisers.proofs.NewGlobals.{global_told, global_added}
 use Rattle.wasm_module_validator_initialisers.proofs.Parts.{global_is}

@@ -3,9 +3,6 @@ mod ShortData
 pub mod Worked
 mod Inside
 mod Walks
-mod Passing
-mod Making
-mod Ending
 mod Unnamed
 mod ShortConstants
 mod ShortWalks

@@ -28,7 +28,7 @@ use Rattle.wasm_operator_validator_rules.specs.InstructionTypes.{◌⟶◌, glob
 use Rattle.wasm_operator_validator_rules.specs.Row.{IsEnabled, IsOneOf, names_float, of_type}
 use Rattle.wasm_operator_validator_rules.specs.constants.Constants.{IsConstant, constant_context}
 use Rattle.wasm_module_validator_initialisers.specs.segments.NumberLaws.{plainly}
-use Rattle.wasm_module_validator_initialisers.specs.accepting.Steps.{IsShortConstant}
+use Rattle.wasm_module_validator_fast_constants.specs.Steps.{IsShortConstant}
 use Rattle.wasm_module_validator_initialisers.specs.elements.Short.{FitsFunction}
 
 enabled : (bits : ℕ) (o : Op) → (info_of o).proposal ≡ proposal.ReferenceTypes → names_float o ≡ false → Has bits ReferenceTypes → IsEnabled bits o

@@ -1,5 +1,3 @@
--- Rules and laws: constants judged in one pass over their bytes.
-pub mod accepting
 -- Rules and laws: items with constant expressions checked by the rules.
 pub mod segments
 -- Rules and laws: element segments checked by the rules.

@@ -11,8 +11,8 @@ use Rattle.wasm_operator_validator_state.specs.resources.Meaning.{Meaning, globa
 use Rattle.wasm_module_validator_checks.specs.rules.Spaces.{global_in as global_written}
 use Rattle.wasm_module_validator_checks.specs.rules.Valid.{IsValidGlobalType}
 -- the types of integers, as a number and as the code has it
-pub use Rattle.wasm_module_validator_initialisers.specs.accepting.Steps.{integer, integer_type}
-use Rattle.wasm_module_validator_initialisers.specs.accepting.Steps.{IsShortConstant}
+pub use Rattle.wasm_module_validator_fast_constants.specs.Steps.{integer, integer_type}
+use Rattle.wasm_module_validator_fast_constants.specs.Steps.{IsShortConstant}
 use Rattle.wasm_sections_items.specs.segments.Spells.{GlobalTree, SpelledGlobalItem}
 use Rattle.wasm_module_validator_type_storage.specs.trees.Groups.{Group}
 use Rattle.wasm_module_validator_resources.specs.rules_in_order.Between.{IsBetween}

@@ -6,7 +6,7 @@ use Rattle.wasm_types.specs.trees.Below.{Below}
 use Rattle.wasm_operator_validator_rules.specs.Operands.{ValueType}
 use Rattle.wasm_operator_validator_rules.specs.Context.{Module}
 use Rattle.wasm_operator_validator_rules.specs.Row.{IsOneOf}
-use Rattle.wasm_module_validator_initialisers.specs.accepting.Steps.{IsShortConstant}
+use Rattle.wasm_module_validator_fast_constants.specs.Steps.{IsShortConstant}
 
 -- a function that may be referred to, and whose type fits where this one is wanted
 abbrev pub FitsFunction : Module → ValueType → ℕ → Type 0

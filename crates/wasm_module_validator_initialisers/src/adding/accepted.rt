@@ -7,10 +7,10 @@ ghost use Rattle.wasm_module_validator_resources.specs.rules_in_order.Between.{I
 ghost use Rattle.wasm_module_validator_state.specs.invariant.Standing.{constants_of};
 ghost use Rattle.wasm_module_validator_initialisers.specs.adding.Short.{AddsGlobal, IsTypedGlobal};
 
-use crate::accepting::accepts_constant;
 use crate::elements::{ReferringToAll, Settings, WasmModuleResources};
 use std::alloc::Global;
 use wasm_module_validator_checks::externs::check_global_type;
+use wasm_module_validator_fast_constants::accepts_constant;
 use wasm_module_validator_state::invariant::ModuleState;
 use wasm_module_validator_type_list::TypeList;
 use wasm_types::{BinaryReader, GlobalType};

@@ -9,11 +9,11 @@ ghost use Rattle.wasm_types.specs.trees.Gates.{Has};
 ghost use Rattle.wasm_sections_items.specs.limited.Walking.{Passes};
 ghost use Rattle.wasm_sections_items.specs.limited.Runs.{place_with_offsets};
 ghost use Rattle.wasm_operator_validator_state.specs.resources.Meaning.{type_in};
-ghost use Rattle.wasm_module_validator_initialisers.specs.accepting.Steps.{IsShortConstant};
+ghost use Rattle.wasm_module_validator_fast_constants.specs.Steps.{IsShortConstant};
 ghost use Rattle.wasm_module_validator_initialisers.specs.elements.Short.{FitsFunction, NamesRun, NamesShort};
 
-use crate::accepting::accepts_constant;
 use crate::segments::{ConstExpr, Settings, WasmModuleResources};
+use wasm_module_validator_fast_constants::accepts_constant;
 use wasm_operators_bodies::{ShortConstant, short_constant};
 use wasm_sections_items::limited::SectionLimitedIntoIterWithOffsets;
 use wasm_types::{HeapType, RefType, UnpackedIndex, ValType, WasmFeatures};

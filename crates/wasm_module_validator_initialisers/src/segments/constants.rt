@@ -9,9 +9,9 @@ ghost use Rattle.wasm_module_validator_resources.specs.referring.Naming.{NamesMo
 ghost use Rattle.wasm_module_validator_initialisers.specs.segments.Judged.{IsConstantText};
 ghost use Rattle.wasm_module_validator_initialisers.specs.segments.Refusals.{StopsText, read_by};
 
-use crate::accepting::accepts_constant;
 use std::alloc::Global;
 use wasm_module_validator_checks::externs::Settings;
+use wasm_module_validator_fast_constants::accepts_constant;
 use wasm_operator_validator_constants::{
     ConstExpr, OperatorValidatorAllocations, ShortConstant, WasmModuleResources, check_const_expr,
 };

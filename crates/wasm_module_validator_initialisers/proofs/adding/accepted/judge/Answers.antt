@@ -1,6 +1,6 @@
 use Rattle.std.proofs.Common.{ℕ, [], subst}
 use Rattle.wasm_operator_validator_state.specs.resources.Meaning.{type_in}
-use Rattle.wasm_module_validator_initialisers.specs.accepting.Steps.{IsShortConstant}
+use Rattle.wasm_module_validator_fast_constants.specs.Steps.{IsShortConstant}
 use Rattle.wasm_module_validator_initialisers.proofs.adding.accepted.judge.Goals as goal
 
 pub returns : goal.returns

@@ -1,0 +1,7 @@
+use Rattle.wasm_module_validator_fast_constants.proofs.Passing.{i32_next}
+use Rattle.wasm_module_validator_fast_constants.proofs.numbers.i32_const.Goals as goal
+
+pub returns : goal.returns
+returns c bits m =
+    i32_next bits m c.args.bytes.now c.args.at c.in-Some.end c.args.stack.now.items c.in-Some._value c.put.new.stack.items c.requires c.in-Some.ensures.found
+    (c.put.ensures c.if-not-put.false)

@@ -1,9 +1,0 @@
-use Rattle.std.proofs.Common.{◌≡◌, length}
-use Rattle.wasm_module_validator_initialisers.specs.accepting.Fields.{are_defaultable}
-use Rattle.wasm_module_validator_initialisers.proofs.accepting.fields.are_defaultable.Given as goal
-
-abbrev pub invariant-loop-first : goal.invariant-loop-first
-invariant-loop-first l = are_defaultable l.fields ≡ are_defaultable l.left
-
-abbrev pub decreases-loop-first : goal.decreases-loop-first
-decreases-loop-first l = length l.left
