@@ -31,16 +31,20 @@ TAKING = ["m42", "struct-get-of-subtype", "module-information", "array-new-fixed
 
 
 def refuse_to_program(program, refused):
-    """The same of the program, on a header, on modules whole and in pieces, and on two files of which the second is invalid: no file of which
-    memory ran out has a line, and the status is 2. No growth is refused without this answer; only a list that shrinks may stay as it is."""
+    """The same of the program, on a header, on modules whole and in pieces, on one that is refused and explained, and on two files of which the second
+    is invalid: no file of which memory ran out has a line, and the status is 2. No growth is refused without this answer; only a list that shrinks may stay as it is."""
     # 101 is this program's own status, if there is no memory for its words
     is_told = lambda line, status, told, fault: status in (2, 101) and told in ("", "m42.wasm: valid\n") and "out of memory" in fault
     ways = [[], ["--pieces=1"], ["--pieces=4"]]
     with tempfile.TemporaryDirectory(prefix="tests-") as room:
         with open(f"{room}/a.wasm", "wb") as it:
             it.write(bytes.fromhex("0061736d01000000"))
+        # `i32.const`, and a conversion that refuses it
+        with open(f"{room}/b.wasm", "wb") as it:
+            it.write(bytes.fromhex("0061736d01000000010401600000030201000a0801060041008c1a0b"))
         files = [f"{room}/a.wasm", *(f"{CHECK}/data/{name}.wasm" for name in TAKING)]
         runs = [([program, "run", *way, file], "") for way in ways for file in files]
+        runs += [([program, "run", *way, f"{room}/b.wasm"], "") for way in (["--explain"], ["--explain", "--json"])]
         differ = not refused.sweep_all("modules whole and in pieces", runs, is_told, must_tell=True)
     here = os.getcwd()
     os.chdir(f"{CHECK}/data")

@@ -15,7 +15,7 @@ use wasm_module_validator::{
 use wasm_operator_validator_state::blocks::function_at;
 use wasm_operators_reader::{Operator, OperatorsReader};
 use wasm_sections::{FunctionBody, Payload};
-use wasm_types::Limits;
+use wasm_types::{Error, ErrorKind, Limits};
 
 /// What was found of a fault in a body.
 #[derive(Clone, Copy, PartialEq, Eq)]
@@ -79,6 +79,14 @@ pub(crate) struct KnownBody {
     pub(crate) inside: Inside,
 }
 
+/// Fails if this error says that memory ran out: then it says nothing of the module.
+fn unless_memory(error: &Error) -> Result<(), AllocError> {
+    match error.kind() {
+        ErrorKind::OutOfMemory => Err(AllocError),
+        _ => Ok(()),
+    }
+}
+
 /// An operator by its number, of which nothing is known but where it begins.
 fn operator_at(number: usize, offset: u64, name: Option<&'static str>) -> OperatorAt
     ensures { result.offset ≡ offset }
@@ -123,9 +131,10 @@ fn tell(
     ensures { IfOk result (λ r. IfSome r (λ i. IfSome i.operator (λ o. o.offset ≡ start))) }
 {
     let name = operator.info().name;
-    if validator.try_op(start, operator).is_ok() {
+    let Err(error) = validator.try_op(start, operator) else {
         return Ok(None);
-    }
+    };
+    unless_memory(&error)?;
     let frame = open_frame(alloc, types, validator)?;
     let at = operator_at(number, start, Some(name));
     Ok(Some(Inside::at(Found::Rule, at, frame)))
@@ -143,9 +152,13 @@ fn take_operator(
 ) -> Result<Option<Inside>, AllocError>
     ensures { IfOk result (λ r. IfSome r (λ i. IfSome i.operator (λ o. o.offset ≡ start))) }
 {
-    let Ok(operator) = operators.read() else {
-        let at = operator_at(number, start, None);
-        return Ok(Some(Inside::at(Found::Spelling, at, None)));
+    let operator = match operators.read() {
+        Ok(operator) => operator,
+        Err(error) => {
+            unless_memory(&error)?;
+            let at = operator_at(number, start, None);
+            return Ok(Some(Inside::at(Found::Spelling, at, None)));
+        }
     };
     if operators.original_position() <= offset {
         return tell(alloc, types, validator, operator, number, start);
@@ -206,7 +219,8 @@ fn inside_body(
         return Ok(Inside::noted(Found::Spelling, Note::LocalsUnread));
     }
     let mut reader = body.get_binary_reader();
-    if validator.read_locals(&mut reader).is_err() {
+    if let Err(error) = validator.read_locals(&mut reader) {
+        unless_memory(&error)?;
         return Ok(Inside::noted(Found::Rule, Note::LocalsRefused));
     }
     let mut operators = OperatorsReader::new(alloc, reader);
@@ -257,7 +271,10 @@ fn known_of(
     function.limits = limits;
     let inside = match function.into_validator(FuncValidatorAllocations::new(alloc)) {
         Ok(mut validator) => inside_body(alloc, types, &mut validator, body, offset)?,
-        Err(_) => Inside::of(Found::Nothing),
+        Err(error) => {
+            unless_memory(&error)?;
+            Inside::of(Found::Nothing)
+        }
     };
     Ok(KnownBody { signature, inside })
 }
@@ -273,8 +290,12 @@ fn take_body(
     ensures { IfOk result (λ r. IfSome r (λ k. BeginsBy offset k.inside.operator)) }
 {
     let range = body.range();
-    let Ok(function) = validator.code_section_entry(body) else {
-        return Ok(None);
+    let function = match validator.code_section_entry(body) {
+        Ok(function) => function,
+        Err(error) => {
+            unless_memory(&error)?;
+            return Ok(None);
+        }
     };
     if offset < range.start || range.end < offset {
         return Ok(None);
@@ -287,12 +308,12 @@ fn take_body(
 }
 
 /// Tells the validator of a payload that is no body. If it refuses one, it refuses all that follow.
-fn pass(validator: &mut Validator, payload: Payload<'_>) {
+fn pass(validator: &mut Validator, payload: Payload<'_>) -> Result<(), AllocError> {
     match validator.payload(payload) {
-        Ok(ValidPayload::Ok) => (),
-        Ok(ValidPayload::Func(_, _)) => (),
-        Ok(ValidPayload::End(_)) => (),
-        Err(_) => (),
+        Ok(ValidPayload::Ok) => Ok(()),
+        Ok(ValidPayload::Func(_, _)) => Ok(()),
+        Ok(ValidPayload::End(_)) => Ok(()),
+        Err(error) => unless_memory(&error),
     }
 }
 
@@ -309,7 +330,7 @@ fn take_payload(
     match payload {
         Payload::CodeSectionEntry(body) => take_body(judged, validator, &body, offset),
         other => {
-            pass(validator, other);
+            pass(validator, other)?;
             Ok(None)
         }
     }
@@ -328,14 +349,17 @@ fn overfull_start(
     judged: Judged<'_>,
     validator: &mut Validator,
     body: &FunctionBody<'_>,
-) -> Option<u64> {
-    let Ok(function) = validator.code_section_entry(body) else {
-        return None;
-    };
-    if takes_too_many(&function, judged.limits) {
-        return Some(body.range().start);
+) -> Result<Option<u64>, AllocError> {
+    match validator.code_section_entry(body) {
+        Ok(function) => {
+            let is_overfull = takes_too_many(&function, judged.limits);
+            Ok(is_overfull.then_some(body.range().start))
+        }
+        Err(error) => {
+            unless_memory(&error)?;
+            Ok(None)
+        }
     }
-    None
 }
 
 /// Tells the validator of a payload. Where it begins, if it is the body of such a function.
@@ -343,30 +367,30 @@ fn take_overfull(
     judged: Judged<'_>,
     validator: &mut Validator,
     payload: Payload<'_>,
-) -> Option<u64> {
+) -> Result<Option<u64>, AllocError> {
     match payload {
         Payload::CodeSectionEntry(body) => overfull_start(judged, validator, &body),
         other => {
-            pass(validator, other);
-            None
+            pass(validator, other)?;
+            Ok(None)
         }
     }
 }
 
 /// Where the first body begins whose function takes more parameters than it may have locals, if there is one.
-pub(crate) fn find_overfull(judged: Judged<'_>) -> Option<u64>
+pub(crate) fn find_overfull(judged: Judged<'_>) -> Result<Option<u64>, AllocError>
     requires within { IsWithinCeilings judged.limits }
 {
     let mut validator = new_validator(judged);
     for payload in payloads(judged) {
         let Ok(payload) = payload else {
-            return None;
+            return Ok(None);
         };
-        if let Some(start) = take_overfull(judged, &mut validator, payload) {
-            return Some(start);
+        if let Some(start) = take_overfull(judged, &mut validator, payload)? {
+            return Ok(Some(start));
         }
     }
-    None
+    Ok(None)
 }
 
 /// What a validator knows of the function in whose body this offset is, as far as the operator there; nothing if it refuses what comes

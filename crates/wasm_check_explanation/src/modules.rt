@@ -184,7 +184,7 @@ fn overfull_place(judged: Judged<'_>) -> Result<Option<Place>, AllocError>
     requires within { IsWithinCeilings judged.limits }
     ensures { IfOk result (λ r. IfSome r IsEmpty) }
 {
-    let Some(start) = find_overfull(judged) else {
+    let Some(start) = find_overfull(judged)? else {
         return Ok(None);
     };
     let mut place = place_at(judged, start)?;
