@@ -28,8 +28,10 @@ use wasm_types::{Error, ErrorKind, Limits, WasmFeatures};
 /// The most bytes that an input may have.
 pub const MAX_BYTES: usize = 0x4000_0000;
 
-/// How many bytes a read asks for.
+/// How many bytes a read asks for; and how many the first read of an input that is read whole.
 pub(crate) const CHUNK: usize = 0x1_0000;
+
+const FIRST_CHUNK: usize = 0x1000;
 
 /// How inputs are read.
 #[derive(Clone, Copy, Debug, PartialEq, Eq)]
@@ -223,15 +225,16 @@ fn unread(index: usize, error: &io::Error) -> Failure
     }
 }
 
-/// Puts what one read gives at the front of the chunk, which is then as long as a read may be: how many bytes came, at most
-/// `most` of them.
+/// Puts what one read gives at the front of the chunk, which then has `size` bytes: how many bytes came, at most `most` of them.
 pub(crate) fn read_over<R: Read>(
     index: usize,
     reader: &mut R,
+    size: usize,
     most: usize,
     chunk: &mut Vec<u8>,
 ) -> Result<usize, Failure>
-    requires { 1 ≤ most }
+    requires size { 1 ≤ size }
+    requires most { 1 ≤ most }
     ensures gives { IfOk result (λ count. Consumes (R.remaining reader.old) (R.remaining reader.new)
         (take count chunk.new.items)) }
     ensures at_end { IfOk result (λ count. count ≡ 0 → IsAtEnd (R.remaining reader.new)) }
@@ -239,7 +242,7 @@ pub(crate) fn read_over<R: Read>(
     ensures err { IfErr result (λ u. (said : Option (List ℕ)) → FailsReading index said u.error) }
     ensures kept { OnErr result (Keeps (R.remaining reader.old) (R.remaining reader.new)) }
 {
-    if chunk.resize(CHUNK, 0).is_err() {
+    if chunk.resize(size, 0).is_err() {
         return Err(without_reason(CheckError::OutOfMemory(index)));
     }
     match read_some(reader, chunk.as_mut_slice(), most) {
@@ -276,9 +279,11 @@ pub(crate) fn read_behind<R: Read>(
     ensures most { ReadsWithin (prepend_known buffer.old.items (R.remaining reader.old)) (R.remaining reader.new) }
 {
     let mut chunk = Vec::new(*buffer.allocator());
-    for _turn in 0..=MAX_BYTES {
+    for turn in 0..=MAX_BYTES {
         let left = MAX_BYTES - buffer.len();
-        let count = match read_over(index, reader, left + 1, &mut chunk) {
+        // Most files are small, and each byte of a chunk is written first.
+        let size = if turn == 0 { FIRST_CHUNK } else { CHUNK };
+        let count = match read_over(index, reader, size, left + 1, &mut chunk) {
             Ok(count) => count,
             Err(failure) => return Err(failure),
         };

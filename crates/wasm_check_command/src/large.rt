@@ -27,7 +27,7 @@ fn read_front<R: Read>(index: usize, reader: &mut R, buffer: &mut Vec<u8>) -> Re
     ensures err { IfErr result (λ u. FailsReading index (R.remaining reader.old) u.error) }
     ensures most { ReadsWithin (R.remaining reader.old) (R.remaining reader.new) }
 {
-    let count = match read_over(index, reader, CHUNK, buffer) {
+    let count = match read_over(index, reader, CHUNK, CHUNK, buffer) {
         Ok(count) => count,
         Err(failure) => return Err(failure),
     };
@@ -82,7 +82,7 @@ fn judge_behind<J: Judge, R: Read>(
     let mut came = front.len();
     for _turn in 0..=MAX_BYTES {
         let left = MAX_BYTES - came;
-        let count = match read_over(index, reader, left + 1, buffer) {
+        let count = match read_over(index, reader, CHUNK, left + 1, buffer) {
             Ok(count) => count,
             Err(failure) => return Err(failure),
         };
