@@ -30,7 +30,7 @@ use Rattle.wasm_operator_validator_soundness.specs.runs.States.{Activation, Stat
 use Rattle.wasm_operator_validator_soundness.specs.runs.Names.{Places, accessed, argument_of}
 use Rattle.wasm_operator_validator_soundness.specs.runs.Machine.{operand_of, address, exchange, access, execute}
 use Rattle.wasm_operator_validator_soundness.specs.runs.Soundness.{IsValidProgram}
-use Rattle.wasm_operator_validator_store.specs.Stores.{MemoryInstance, Store, width, range, placed, nothing, bits_of, sized, failure, page_size, page_of, most_pages, most_counted, most_grown, bytes_held, pages_held, grown, with_bytes, memory_address, memory_at, memory_in, data_in, with_memory, without_data}
+use Rattle.wasm_operator_validator_store.specs.Stores.{MemoryInstance, Store, width, range, placed, nothing, bits_of, sized, failure, page_size, page_of, most_grown, bytes_held, pages_held, grown, with_bytes, memory_address, memory_at, memory_in, data_in, with_memory, without_data}
 use Rattle.wasm_operator_validator_store.specs.Atomics.{is_misaligned, AtomicAccess, number_given, atomic_access}
 use Rattle.wasm_operator_validator_store.specs.Memories.{number_of, bytes_of, past, Access, reads, writes, Reach, memory_access, simd_access, stored_size, numbers_from, elements_from}
 use Rattle.wasm_operator_validator_store.specs.ValidStores.{Each, IsByte, Knows, MemoryFits, StoreFits, Evolves}
