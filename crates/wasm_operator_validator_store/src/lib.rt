@@ -51,9 +51,9 @@ pub fn store_runs_are_determined()
     ensures { StoreRunsAreDetermined }
 {}
 
-/// A step traps only if its operator may, over what is there: not for null if there is none, nor within bounds. This tells nothing of
-/// `call_indirect`, of a cast to a type without null, of `memory.discard`, and of threads that wait or are woken at a shared memory. Of calls
-/// and casts `tests_are_exact` tells more.
+/// A step traps only if its operator may, over what is there: not for null if there is none, nor within bounds. These may whatever is there:
+/// `call_indirect`, a cast to a type without null, `memory.discard`, a wait, a notification at a shared memory, a conversion of floats to
+/// integers, and a call of the host. Of calls and casts `tests_are_exact` tells more.
 pub fn only_these_trap()
     ensures { OnlyTheseTrap }
 {}
