@@ -212,18 +212,19 @@ pub data Touched : Type 0 where
   was_read : MemArg → List Number → Number → ℕ → ℕ → ℕ → Touched
   was_written : MemArg → Number → ℕ → List ℕ → Touched
 
--- bytes with the sign and without
+-- bytes of which the first, second, fourth and eighth have the highest bit, and others of which they have it not
 abbrev pub high_bytes : List ℕ
 high_bytes = 129 ∷ 146 ∷ 163 ∷ 180 ∷ 197 ∷ 214 ∷ 231 ∷ 248 ∷ 137 ∷ 154 ∷ 171 ∷ 188 ∷ 205 ∷ 222 ∷ 239 ∷ 240 ∷ []
 
 abbrev pub low_bytes : List ℕ
 low_bytes = 1 ∷ 114 ∷ 131 ∷ 20 ∷ 165 ∷ 54 ∷ 199 ∷ 88 ∷ 233 ∷ 10 ∷ 27 ∷ 44 ∷ 61 ∷ 78 ∷ 95 ∷ 96 ∷ []
 
--- the number on top: for numbers, and for vectors
+-- with this number on top
 abbrev pub of_access : MemArg → ℕ → Access → Touched
 of_access m v (reads ts n k f) = was_read m ts n k (f v (take k high_bytes)) (f v (take k low_bytes))
 of_access m v (writes n k f) = was_written m n k (bytes_of k (f v))
 
+-- with a vector on top, of which a store of a number takes the low bytes
 abbrev pub of_bytes : Option Reach → Option Touched
 of_bytes o = option_map (λ (r : Reach). of_access r.argument 172231807152663232739784442187289128944 r.access) o
 
