@@ -1,8 +1,10 @@
 -- The worked steps over a store, one for each way in which an operator goes on.
-use Rattle.std.proofs.Common.{inl, refl, sym, inr, true≢false}
+use mathlib.Core.Logic.{⊎_elim}
+use Rattle.std.proofs.Common.{inl, refl, sym, ap, inr, true≢false}
 use Rattle.wasm_types.specs.trees.Trees.{opened}
 use Rattle.wasm_types.specs.trees.AbstractOrder.{same}
 use Rattle.wasm_types.specs.trees.ValidGroup.{types_from}
+use Rattle.wasm_operator_validator_store.specs.Stores.{memory_in}
 use Rattle.wasm_operator_validator_store.specs.worked.Program.{store}
 use Rattle.wasm_operator_validator_store.specs.worked.Arms.{BranchesWorked, CallsWorked, DelegatesWorked, CastsWorked, ArraysWorked, AccessesWorked, ArmsWorked}
 use Rattle.wasm_operator_validator_store.proofs.Storing.{stays}
@@ -77,7 +79,10 @@ accesses_worked = record {
   not_grown = (_, _, _, (_, _, inr (refl, refl, refl), refl, (refl, refl)), (refl, refl), refl);
   memory_grown = (_, _, _, (_, _, inl (refl, refl, refl), refl, (refl, refl)), (refl, refl), refl);
   memory_copied = (_, _, _, (_, _, (refl, refl, refl), refl, (refl, refl)), (refl, refl), refl);
-  memory_discarded = (_, _, _, (_, _, inr (refl, refl, refl), refl, (refl, refl)), (refl, refl), refl);
+  memory_discarded = (_, _, _, (_, _, inr (refl, refl, refl), refl, (_, _, (refl, refl, refl), refl, (refl, refl))), (refl, refl), refl);
+  no_other_bytes = λ u g. ⊎_elim (λ c. absurd (true≢false (sym c.0))) (λ c. ap (λ t. memory_in t 0) c.2) g;
+  discarded_last = (_, _, _, (_, _, inr (refl, refl, refl), refl, (refl, refl)), (refl, refl), refl);
+  discarded_past = λ a u g. ⊎_elim (λ c. c.0) (λ c. c.0) g;
 }
 
 pub arms_worked : ArmsWorked

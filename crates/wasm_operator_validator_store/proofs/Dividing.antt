@@ -9,13 +9,13 @@ use Rattle.wasm_operator_validator_store.specs.Integers.{signed, quotient, idiv_
 use Rattle.wasm_operator_validator_store.specs.Folding.{DivisionIsExact, DivisionsAreExact}
 
 -- a number without a sign, and with one
-low : (n a : ℕ) → a < 2 ^ (n - 1) → signed n a ≡ pos a
+pub low : (n a : ℕ) → a < 2 ^ (n - 1) → signed n a ≡ pos a
 low n a h = ap (λ t. if t then pos a else pos a -ℤ pos (2 ^ n)) (lt-ltb a (2 ^ (n - 1)) h)
 
 down : (m a : ℕ) → a < m → pos a -ℤ pos m ≡ negsuc (m - suc a)
 down m a h = omega (arith, ints, h)
 
-high : (n a : ℕ) → 2 ^ (n - 1) ≤ a → a < 2 ^ n → signed n a ≡ negsuc (2 ^ n - suc a)
+pub high : (n a : ℕ) → 2 ^ (n - 1) ≤ a → a < 2 ^ n → signed n a ≡ negsuc (2 ^ n - suc a)
 high n a l h = ap (λ t. if t then pos a else pos a -ℤ pos (2 ^ n)) (le-ltb a (2 ^ (n - 1)) l) ∙ down (2 ^ n) a h
 
 -- a quotient of a sign or another is too small

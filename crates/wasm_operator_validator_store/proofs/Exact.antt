@@ -5,7 +5,7 @@ use Rattle.std.proofs.lemmas.Bool.{and_parts}
 use Rattle.std.proofs.lemmas.List.{length-replicate}
 use Rattle.std.proofs.lemmas.Nat.{mod-pow-add}
 use mathlib.Core.Logic.{⊎_elim}
-use Rattle.wasm_types.specs.trees.Types.{i32, array, i31, Abstract, FieldOf, InnerOf, StorageOf}
+use Rattle.wasm_types.specs.trees.Types.{i32, array, i31, exn, ref, concrete, abstract, Abstract, FieldOf, InnerOf, StorageOf}
 use Rattle.wasm_types.specs.trees.Trees.{TypeTree}
 use Rattle.wasm_types.specs.trees.Below.{expanded}
 use Rattle.wasm_types.specs.externs.declared.memory.MemoryType.{MemoryType}
@@ -26,7 +26,7 @@ use Rattle.wasm_operators_enums.specs.declared.atomic.AtomicOperator.TheVariants
 use Rattle.wasm_operators_enums.specs.Table.{info_of}
 use Rattle.wasm_operators_enums.specs.Immediates.{immediates_of}
 use Rattle.wasm_operators_enums.specs.Op as op
-use Rattle.wasm_operators_enums.specs.Op.{Op}
+use Rattle.wasm_operators_enums.specs.Op.{Op, ExceptionTree}
 use Rattle.wasm_operators_encoding.specs.expressions.Code.{Code, close, plain, nested, turn}
 use Rattle.wasm_operator_validator_rules.specs.Operands.{ValueType}
 use Rattle.wasm_operator_validator_rules.specs.InstructionTypes.{i32_type}
@@ -34,7 +34,7 @@ use Rattle.wasm_operator_validator_rules.specs.Numbers.{numbers}
 use Rattle.wasm_operator_validator_soundness.specs.runs.Values.{Program, Value, number_value, ref_null, ref_object, ref_i31, is_null, IsAReference, Fits}
 use Rattle.wasm_operator_validator_soundness.specs.runs.States.{Activation, State, Answer, Outcome, trapped, stuck, Move, done, asks, choose, found, pops}
 use Rattle.wasm_operator_validator_soundness.specs.runs.Names.{Places, accessed, argument_of, computed}
-use Rattle.wasm_operator_validator_soundness.specs.runs.Machine.{IsData, address, exchange, access, operate_vector, operate, execute, struct_fields, array_fields, IsArray, IsUnboxed, IsOf, object_under, write, may_trap, goes, writes as writes_field, operand_of, read, gives, IsWhole, IsPacked, FromData}
+use Rattle.wasm_operator_validator_soundness.specs.runs.Machine.{IsData, address, exchange, access, operate_vector, operate, execute, struct_fields, array_fields, IsArray, IsUnboxed, IsOf, object_under, write, may_trap, goes, writes as writes_field, operand_of, read, gives, IsWhole, IsPacked, FromData, invoke, call_reference, throw_reference}
 use Rattle.wasm_operator_validator_soundness.specs.runs.ValidStates.{IsValidOutcome}
 use Rattle.wasm_operator_validator_soundness.specs.runs.Soundness.{step}
 use Rattle.wasm_operator_validator_store.specs.Stores.{MemoryInstance, Store, range, placed, nothing, bits_of, bytes_held, with_bytes, changed, memory_address, memory_at, memory_in, data_in, with_memory, ObjectInstance, field_at, table_in, segment_in, with_table}
@@ -44,8 +44,8 @@ use Rattle.wasm_operator_validator_store.specs.ValidStores.{Each, IsByte}
 use Rattle.wasm_operator_validator_store.specs.Giving.{is_shared_memory, Either, Traps, Gives, OrTraps, There, Reading, Writing, Accesses, Reaches, Outside, OrOutside, Exchanges, Aligned, ByOthers, GivesAtomic, GivesBulk, GivesOperator, GivesCode, OfObject, Tells, Makes, Reads, Writes, Unboxes, OfData, WritesTo, GivesGc, Calculates}
 use Rattle.wasm_operator_validator_store.specs.Soundness.{AreValid}
 use Rattle.wasm_operator_validator_store.specs.Determined.{is_unshared, reach_is_determined, exchange_is_determined, atomic_is_determined}
-use Rattle.wasm_operator_validator_store.specs.Traps.{is_missing, object_of, stored_past, filled_past, access_past, reach_past, data_past, memory_past, exchange_at, exchange_past, exchange_traps, atomic_traps, bulk_traps, traps, code_traps, of_fields, is_unboxed, fields_of, reads_past, writes_past, elements_past, made_past, gc_traps, control_traps, elements_end, is_undefined}
-use Rattle.wasm_operator_validator_store.specs.Exact.{bulk_is_exact, is_exact, code_is_exact, TrapsExactly, BytesAreKept, MemoriesAreKept, gc_is_exact, control_is_exact}
+use Rattle.wasm_operator_validator_store.specs.Traps.{is_missing, object_of, stored_past, filled_past, access_past, reach_past, data_past, memory_past, exchange_at, exchange_past, exchange_traps, atomic_traps, bulk_traps, traps, exception_traps, code_traps, of_fields, is_unboxed, fields_of, reads_past, writes_past, elements_past, made_past, gc_traps, control_traps, elements_end, is_undefined}
+use Rattle.wasm_operator_validator_store.specs.Exact.{bulk_is_exact, is_exact, code_is_exact, TrapsExactly, BytesAreKept, MemoriesAreKept, gc_is_exact, control_is_exact, exception_is_exact}
 use Rattle.wasm_operator_validator_store.proofs.Lists.{none_some, placed_length}
 use Rattle.wasm_operator_validator_store.proofs.Bytes.{range_length, range_missing, placed_missing, placed_range, placed_before, placed_after, bytes_length, bytes_back, elements_length}
 use Rattle.wasm_operator_validator_store.proofs.Memories.{simd_carried}
@@ -81,6 +81,9 @@ module _ (p : Program) (act : Activation) (acts : List Activation) (s : Store) (
 
   abbrev at : ℕ → ℕ
   at n = bits_of (get_or act.innermost.values n nothing)
+
+  abbrev on_top : Value
+  on_top = get_or act.innermost.values 0 nothing
 
   -- ---- the answer traps
 
@@ -247,7 +250,7 @@ module _ (p : Program) (act : Activation) (acts : List Activation) (s : Store) (
     access_falls o e = found_falls {A = MemArg} (argument_of (immediates_of o)) _ (λ i. found_falls {A = MemoryType} (slice_get p.«module».memories i.memory) _ (λ t.
         found_falls {A = Places} (accessed (info_of o).name) _ (λ n. exchange_falls (address t.memory64 ∷ numbers n.takes) (numbers n.gives) e)))
 
-    memory_falls : (o : MemoryOperator) → IsTrue (is_exact p (op.Memory o)) → traps p s act (op.Memory o) ≡ true → GivesOperator p x s a u act (op.Memory o) → Falls (operate p a act acts (op.Memory o) more)
+    memory_falls : (o : MemoryOperator) → IsTrue (is_exact p on_top (op.Memory o)) → traps p s act (op.Memory o) ≡ true → GivesOperator p x s a u act (op.Memory o) → Falls (operate p a act acts (op.Memory o) more)
     memory_falls (memory.LocalGet n) own c h = no_host own
     memory_falls (memory.LocalSet n) own c h = no_host own
     memory_falls (memory.LocalTee n) own c h = no_host own
@@ -380,22 +383,48 @@ module _ (p : Program) (act : Activation) (acts : List Activation) (s : Store) (
     null_falls [] e = record { falls = inr refl }
     null_falls (v ∷ ws) e = asks_falls _ _ (may_fall (is_null v) _ e)
 
-    control_falls : (o : ControlOperator) → IsTrue (control_is_exact o) → control_traps p s act o ≡ true → Falls (operate p a act acts (op.Control o) more)
+    invoked_null : (tail : Bool) (v : Value) (ws : List Value) → is_null v ≡ true → Falls (invoke p a act acts tail v ws more)
+    invoked_null tail (ref_null q k) ws e = record { falls = inl refl }
+    invoked_null tail v ws e = absurd (true≢false (sym e))
+
+    called_null : (tail : Bool) (t : TypeTree) (vs : List Value) → is_null (get_or vs 0 nothing) ≡ true → Falls (pops vs (λ v ws. asks (Fits p v (ref true (concrete t))) (invoke p a act acts tail v ws more)))
+    called_null tail t [] e = record { falls = inr refl }
+    called_null tail t (v ∷ ws) e = asks_falls _ _ (invoked_null tail v ws e)
+
+    call_falls : (tail : Bool) (n : ℕ) → is_null on_top ≡ true → Falls (call_reference p a act acts tail n more)
+    call_falls tail n e = found_falls {A = TypeTree} (slice_get p.«module».types n) _ (λ t. called_null tail t act.innermost.values e)
+
+    thrown_null : (v : Value) → is_null v ≡ true → Falls (throw_reference p a act acts v)
+    thrown_null (ref_null q k) e = record { falls = inl refl }
+    thrown_null v e = absurd (true≢false (sym e))
+
+    throw_falls : (vs : List Value) → is_null (get_or vs 0 nothing) ≡ true → Falls (pops vs (λ v ws. asks (Fits p v (ref true (abstract false exn))) (throw_reference p a act acts v)))
+    throw_falls [] e = record { falls = inr refl }
+    throw_falls (v ∷ ws) e = asks_falls _ _ (thrown_null v e)
+
+    exception_falls : (o : ExceptionTree) → IsTrue (exception_is_exact o) → exception_traps p s act o ≡ true → Falls (operate p a act acts (op.Exception o) more)
+    exception_falls op.ThrowRef own c = throw_falls act.innermost.values c
+    exception_falls o own c = no_host own
+
+    control_falls : (o : ControlOperator) → IsTrue (control_is_exact on_top o) → control_traps p s act o ≡ true → Falls (operate p a act acts (op.Control o) more)
     control_falls control.Unreachable own c = record { falls = inl refl }
     control_falls control.RefAsNonNull own c = null_falls act.innermost.values c
+    control_falls (control.CallRef n) own c = call_falls false n own
+    control_falls (control.ReturnCallRef n) own c = call_falls true n own
     control_falls o own c = no_host own
 
-    operator_falls : (o : Op) → IsTrue (is_exact p o) → traps p s act o ≡ true → GivesOperator p x s a u act o → Falls (operate p a act acts o more)
+    operator_falls : (o : Op) → IsTrue (is_exact p on_top o) → traps p s act o ≡ true → GivesOperator p x s a u act o → Falls (operate p a act acts o more)
     operator_falls (op.Memory o) own c h = memory_falls o own c h
     operator_falls (op.Simd o) own c h = vector_falls o _ (simd_access o) refl own c h
     operator_falls (op.Bulk o) own c h = bulk_falls o own c h
     operator_falls (op.Gc o) own c h = gc_falls o own c h
     operator_falls (op.Control o) own c h = control_falls o own c
+    operator_falls (op.Exception o) own c h = exception_falls o own c
     operator_falls (op.Atomic o) own c h = atomic_falls o own c h
     operator_falls (op.Numeric o) own c h = numeric_falls o (can_trap (op.Numeric o)) (integer_operation o) own c h
     operator_falls o own c h = no_host own
 
-  code_falls : (c : Code) → IsTrue (code_is_exact p c) → code_traps p s act c ≡ true → GivesCode p x s a u act c → Falls (execute p a act acts c)
+  code_falls : (c : Code) → IsTrue (code_is_exact p on_top c) → code_traps p s act c ≡ true → GivesCode p x s a u act c → Falls (execute p a act acts c)
   code_falls (plain o more) own t h = operator_falls more o own t h
   code_falls (nested o body more) own t h = no_host own
   code_falls (close o) own t h = no_host own

@@ -1,6 +1,7 @@
 -- What operators on integers come to, above whatever is there and above constants.
-use Rattle.std.proofs.Common.{◌≡◌, ℕ, ℤ, pos, suc, ◌+◌, ◌<◌, ◌^◌, true, false, List, [], ◌∷◌, ◌++◌, length, drop, get_or, Option, Some, None, refl, sym, subst, subst₂, ap, ◌∙◌, ⊎_elim, arith, mod-eq_of_lt}
+use Rattle.std.proofs.Common.{◌≡◌, ℕ, ℤ, suc, ◌+◌, ◌-◌, ◌%◌, ◌<◌, ◌^◌, true, false, List, [], ◌∷◌, ◌++◌, length, drop, get_or, Option, Some, None, refl, sym, subst, subst₂, ap, ◌∙◌, ⊎_elim, arith, mod-eq_of_lt}
 use Rattle.std.specs.Prelude.{◌⊎◌}
+use Rattle.std.proofs.lemmas.Bool.{cases_lt}
 use Rattle.std.proofs.lemmas.List.{length-map}
 use Rattle.wasm_types.specs.trees.Types.{Number, number, i32, i64, f32, f64, v128}
 use Rattle.wasm_operators_enums.specs.declared.numeric.NumericOperator.{NumericOperator}
@@ -16,11 +17,12 @@ use Rattle.wasm_operator_validator_soundness.specs.runs.Names.{Places, computed}
 use Rattle.wasm_operator_validator_soundness.specs.runs.Machine.{gives, goes, exchange, compute, execute}
 use Rattle.wasm_operator_validator_soundness.specs.runs.Soundness.{step}
 use Rattle.wasm_operator_validator_store.specs.Stores.{Store, width, nothing, bits_of, integer_bits}
-use Rattle.wasm_operator_validator_store.specs.Integers.{Operation, integer_operation}
+use Rattle.wasm_operator_validator_store.specs.Integers.{signed, Operation, integer_operation}
 use Rattle.wasm_operator_validator_store.specs.Giving.{Gives, OrTraps, OrOutside, Calculates, GivesCode, GivesStep}
 use Rattle.wasm_operator_validator_store.specs.Soundness.{StoreRuns}
 use Rattle.wasm_operator_validator_store.specs.Folding.{standing_at, comes_to, bits_at, constant, constants, value_of, FoldsTo, Falls, IntegersAreComputed, ConstantsFold}
 use Rattle.wasm_operator_validator_store.proofs.Determined.{same_next}
+use Rattle.wasm_operator_validator_store.proofs.Dividing.{low, high}
 use Rattle.wasm_operator_validator_store.proofs.Integers.{IsBelow, IsInteger, row_is}
 
 -- ---- a step
@@ -82,6 +84,15 @@ same_size n m e = omega (arith, e)
 
 none_left : {Q : Type 0} (n : ℕ) → 0 ≡ suc n → Q
 none_left n e = absurd (omega (arith, e))
+
+-- a number with a sign has the bits that it was read from
+back : (m b : ℕ) → b < m → m - suc ((m - suc b) % m) ≡ b
+back m b h = ap (λ k. m - suc k) (mod-eq_of_lt (omega (arith, h))) ∙ omega (arith, h)
+
+signed_bits : (n b : ℕ) → b < 2 ^ n → integer_bits n (signed n b) ≡ b
+signed_bits n b h = ⊎_elim
+    (λ l. ap (integer_bits n) (low n b l) ∙ mod-eq_of_lt h)
+    (λ l. ap (integer_bits n) (high n b l h) ∙ back (2 ^ n) b h) (cases_lt b (2 ^ (n - 1)))
 
 module _ (p : Program) (act : Activation) (acts : List Activation) (s : Store) where
   abbrev at : List Value → Code → State
@@ -216,10 +227,11 @@ module _ (p : Program) (act : Activation) (acts : List Activation) (s : Store) w
           let k = last_step u z (at (made r.takes) (plain (op.Numeric o) more)) (ready.0 u z 1 answers (more_than (length answers) (length r.takes) l) h) in
           let f = operates k.0 u k.1 in
           (sym k.2 ∙ f.0 ∙ ap (λ (c : Option ℕ). comes_to p act acts s o r more own c) d, f.1);
-      folded = λ answers u z h l.
-          let k = last_step u z (at own (plain (constant r.gives (pos b)) more)) (answers, l, h) in
-          let f = constant_steps r.gives (row_is o r e).integer (pos b) own more k.0 u k.1 in
-          (sym k.2 ∙ f.0 ∙ ap (λ n. next (at (number_value r.gives n ∷ own) more)) (mod-eq_of_lt below), f.1);
+      folded = λ c answers u z i h l.
+          let k = last_step u z (at own (plain (constant r.gives c) more)) (answers, l, h) in
+          let f = constant_steps r.gives (row_is o r e).integer c own more k.0 u k.1 in
+          (sym k.2 ∙ f.0 ∙ ap (λ n. next (at (number_value r.gives n ∷ own) more)) i, f.1);
+      there = signed_bits (width r.gives) b below;
     }
       where
         below : b < 2 ^ width r.gives

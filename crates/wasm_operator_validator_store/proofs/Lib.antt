@@ -4,6 +4,7 @@ pub mod Outcomes
 pub mod WorkedMemories
 pub mod WorkedAtomics
 pub mod WorkedIntegers
+pub mod WorkedTables
 pub mod Rows
 pub mod Lists
 pub mod Bytes

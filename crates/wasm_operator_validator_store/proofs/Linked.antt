@@ -1,6 +1,6 @@
 -- The worked store of a program that imports one global and one table twice.
 use Rattle.std.specs.Prelude.{ℤ, All}
-use Rattle.std.proofs.Common.{◌≡◌, ◌≤◌, ◌*◌, ℕ, zero, suc, [], ◌∷◌, length, arith, Some, false, refl, sym, subst, slice_get, rules}
+use Rattle.std.proofs.Common.{◌≡◌, ◌≤◌, ◌*◌, ℕ, zero, suc, [], ◌∷◌, length, arith, Some, false, inl, refl, sym, subst, slice_get, rules}
 use Rattle.std.proofs.lemmas.Option.{slice_get_within, get_or_from_slice_get}
 use Rattle.std.proofs.lemmas.List.Elements.{All-nil}
 use Rattle.wasm_types.specs.settings.Features.{has}
@@ -10,10 +10,11 @@ use Rattle.wasm_types.specs.trees.Types.{func, concrete, i32, number, ref}
 use Rattle.wasm_types.specs.trees.Trees.{TypeTree, opened}
 use Rattle.wasm_types.specs.trees.Each.{EachValue}
 use Rattle.wasm_types.specs.trees.AbstractOrder.{same, nofunc_func}
-use Rattle.wasm_types.specs.trees.Below.{itself, expanded}
+use Rattle.wasm_types.specs.trees.Below.{Below, itself, expanded}
 use Rattle.wasm_types.specs.trees.ValidGroup.{types_from, done, next, AreValidGroups, IsValidGroup, IsFunction}
 use Rattle.wasm_operators_encoding.specs.expressions.Code.{plain}
 use Rattle.wasm_operator_validator_rules.specs.Operands.{Operand, known}
+use Rattle.wasm_operator_validator_rules.specs.Row.{of_type}
 use Rattle.wasm_operator_validator_rules.specs.Typed.{IsBody}
 use Rattle.wasm_operator_validator_soundness.specs.runs.Values.{Body, Function, IsStandard, IsStandardType, IsNamed, ref_null, ref_function, Fits}
 use Rattle.wasm_operator_validator_soundness.specs.runs.Soundness.{body_context, IsValidFunction, IsValidProgram, IsStarted}
@@ -22,9 +23,9 @@ use Rattle.wasm_operator_validator_soundness.specs.runs.worked.Older.{gives_writ
 use Rattle.wasm_operator_validator_soundness.specs.runs.worked.Runs.{silent}
 use Rattle.wasm_operator_validator_store.specs.Stores.{Store, page_of, most_pages}
 use Rattle.wasm_operator_validator_store.specs.ValidStores.{GlobalMatches, TableMatches, IsMemoryAt, Knows, HasState, StoreFits}
-use Rattle.wasm_operator_validator_store.specs.Instantiation.{IsConstant, AreInitials, allocated, with_new_global, imports_of, IsFirstStore}
-use Rattle.wasm_operator_validator_store.specs.worked.Program.{num, numbers, counter, callees, small_memory, small_bytes, memory_of, holds, giving}
-use Rattle.wasm_operator_validator_store.specs.worked.Linked.{of_host, callable, given, own_memory, written_bytes, bits, five, five_bits, one, writing, calling, linked, initials, first, started, LinkedStoreWorked}
+use Rattle.wasm_operator_validator_store.specs.Instantiation.{IsConstant, AreInitials, allocated, with_new_global, seeing_globals, imports_of, IsFirstStore}
+use Rattle.wasm_operator_validator_store.specs.worked.Program.{num, numbers, counter, constant, callees, small_memory, small_bytes, memory_of, holds, giving}
+use Rattle.wasm_operator_validator_store.specs.worked.Linked.{of_host, callable, given, own_memory, written_bytes, bits, five, five_bits, one, earlier, filler, second_own, writing, calling, linked, initials, first, started, LinkedStoreWorked}
 use Rattle.wasm_operator_validator_store.proofs.Lists.{none_some, same_some}
 use Rattle.wasm_operator_validator_store.proofs.Storing.{stays}
 use Rattle.wasm_operator_validator_store.proofs.Steps.{store_runs_sound}
@@ -242,7 +243,26 @@ module _ (x : ℤ) where
   unfolding has opened types_from
   five_constant = record { expression = search rules; typed = (n32 ∷ [], ([], n32 ∷ [], [], (search rules, (_, refl, (refl, refl))), tt, refl), ((refl, tt), tt, tt)) }
 
-  one_constant : IsConstant (linked x) (counter ∷ counter ∷ counter ∷ []) (number i32) (plain one end)
+  earlier_constant : IsConstant (linked x) (counter ∷ counter ∷ constant ∷ []) (number i32) (plain earlier end)
+  unfolding has opened types_from
+  earlier_constant = record { expression = search rules; typed = (n32 ∷ [], ([], n32 ∷ [], [], (search rules, (_, refl, (refl, refl))), tt, refl), ((refl, tt), tt, tt)) }
+
+  second_below : Below (ref false (concrete gives_type)) callees.element
+  unfolding opened types_from
+  second_below = (tt, (gives_type, itself, refl, same))
+
+  filler_constant : IsConstant (linked x) (counter ∷ counter ∷ []) callees.element (plain filler end)
+  unfolding has opened types_from
+  filler_constant = record {
+    expression = search rules;
+    typed = (
+      known (ref false (concrete gives_type)) ∷ [],
+      ([], known (ref false (concrete gives_type)) ∷ [], [], (search rules, (gives_type, concrete gives_type, refl, inl refl, search rules, of_type, (refl, refl))), tt, refl),
+      ((second_below, tt), tt, tt),
+    );
+  }
+
+  one_constant : IsConstant (linked x) (counter ∷ counter ∷ constant ∷ counter ∷ []) (number i32) (plain one end)
   unfolding has opened types_from
   one_constant = record { expression = search rules; typed = (n32 ∷ [], ([], n32 ∷ [], [], (search rules, (_, refl, (refl, refl))), tt, refl), ((refl, tt), tt, tt)) }
 
@@ -251,8 +271,8 @@ module _ (x : ℤ) where
 
   linked_typed : AreInitials (linked x) (initials x)
   linked_typed = record {
-    globals = (counter, refl, five_constant, refl);
-    tables = (callees, refl, (ref_null false func, refl, null_fits), refl);
+    globals = (constant, refl, five_constant, (counter, refl, earlier_constant, refl));
+    tables = (callees, refl, filler_constant, refl);
     memories = (own_pages, tt);
     segments = (callees.element, refl, ((_, refl, own_fits), tt), (callees, refl, (tt, (refl, same)), one_constant), refl);
     data_segments = ((small_memory, refl, one_constant), (tt, tt));
@@ -267,34 +287,54 @@ module _ (x : ℤ) where
 
   -- the table before its segment is written, and after
   abbrev filled : Store
-  filled = record unwritten { tables = callable ∷ record { type = callees; elements = ref_null false func ∷ ref_null false func ∷ [] } ∷ [] }
+  filled = record unwritten { tables = callable ∷ record { type = callees; elements = second_own ∷ second_own ∷ [] } ∷ [] }
 
   abbrev loaded : Store
   loaded = record filled { segments = (ref_function (Some 1) gives_type ∷ []) ∷ [] }
 
+  -- without globals of its own, with the first, and with both
+  abbrev no_globals : Store
+  no_globals = allocated (linked x) (initials x) given
+
+  abbrev one_global : Store
+  one_global = with_new_global no_globals (holds constant (five_bits x))
+
+  abbrev both_globals : Store
+  both_globals = with_new_global one_global (holds counter (five_bits x))
+
   linked_first : IsFirstStore (linked x) (initials x) given (first x)
   linked_first = record {
-    with_globals = with_new_global (allocated (linked x) (initials x) given) (holds counter (five_bits x));
+    with_globals = both_globals;
     with_tables = filled;
     with_segments = loaded;
     with_elements = unwritten;
     globals = (
-      counter,
+      constant,
       five_bits x,
-      allocated (linked x) (initials x) given,
+      no_globals,
       refl,
-      record {
-        answers = giving (five_bits x ∷ []) ∷ [];
-        between = allocated (linked x) (initials x) given;
-        state = _;
-        last = silent;
-        runs = (_, _, (refl, refl, refl), refl, (refl, refl));
-        gives = (refl, refl);
-        ends = refl;
-      },
+      record { answers = giving (five_bits x ∷ []) ∷ []; between = no_globals; state = _; last = silent; runs = (_, _, (refl, refl, refl), refl, (refl, refl)); gives = (refl, refl); ends = refl },
+      (
+        counter,
+        five_bits x,
+        one_global,
+        refl,
+        record { answers = giving (five_bits x ∷ []) ∷ []; between = one_global; state = _; last = silent; runs = (_, _, (refl, refl, refl), refl, (refl, refl)); gives = (refl, refl); ends = refl },
+        refl,
+      ),
+    );
+    tables = (
+      callees,
+      second_own,
+      both_globals,
+      refl,
+      (
+        seeing_globals both_globals (0 ∷ 0 ∷ []),
+        record { answers = silent ∷ []; between = seeing_globals both_globals (0 ∷ 0 ∷ []); state = _; last = silent; runs = (_, _, (refl, refl), refl, (refl, refl)); gives = (refl, refl); ends = refl },
+        refl,
+      ),
       refl,
     );
-    tables = (callees, ref_null false func, with_new_global (allocated (linked x) (initials x) given) (holds counter (five_bits x)), refl, (refl, refl), refl);
     segments = (callees.element, ref_function (Some 1) gives_type ∷ [], filled, refl, (ref_function (Some 1) gives_type, [], filled, (_, refl, refl, refl), (refl, refl), refl), refl);
     used = (
       unwritten,
@@ -302,7 +342,7 @@ module _ (x : ℤ) where
         callees,
         num 1,
         loaded,
-        ref_null false func ∷ ref_function (Some 1) gives_type ∷ [],
+        second_own ∷ ref_function (Some 1) gives_type ∷ [],
         refl,
         record { answers = giving (num 1 ∷ []) ∷ []; between = loaded; state = _; last = silent; runs = (_, _, (refl, refl, refl), refl, (refl, refl)); gives = (refl, refl); ends = refl },
         refl,
@@ -343,6 +383,8 @@ module _ (x : ℤ) where
     first_store = linked_first;
     fits = linked_fits;
     bytes = refl;
+    own_global = refl;
+    own_table = refl;
     own_bytes = refl;
     writing_from = starts 1 (writing x) refl;
     calling_from = starts 2 (calling x) refl;

@@ -157,7 +157,8 @@ module _ (p : Program) (valid : IsValidProgram p) (results : List ValueType) (ac
       let f : Table → Move = λ (t : Table). exchange p a act acts (t.element ∷ address t.table64 ∷ []) (address t.table64 ∷ []) more in
       let old = length (table_in s x) in
       ⊎_elim
-      (λ k.
+      (λ j.
+      let k = j.1 in
       let answer : (execute p a act acts (plain (op.Bulk (bulk.TableGrow x)) more)).is_answer =
       found_answer (slice_get p.«module».tables x) f (λ (t : Table) d. exchanged p valid results act acts s v more a u (t.element ∷ address t.table64 ∷ []) (address t.table64 ∷ []) k.1
       (fit_as p valid results act acts s v more a u (sized t.table64 old ∷ []) (address t.table64 ∷ []) (k.0 ∙ ap (λ o. sized (is_wide o) old ∷ []) d) (sized_fits p t.table64 old, tt))) in

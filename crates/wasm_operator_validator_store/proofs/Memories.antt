@@ -30,7 +30,7 @@ use Rattle.wasm_operator_validator_soundness.specs.runs.States.{Activation, Stat
 use Rattle.wasm_operator_validator_soundness.specs.runs.Names.{Places, accessed, argument_of}
 use Rattle.wasm_operator_validator_soundness.specs.runs.Machine.{operand_of, address, exchange, access, execute}
 use Rattle.wasm_operator_validator_soundness.specs.runs.Soundness.{IsValidProgram}
-use Rattle.wasm_operator_validator_store.specs.Stores.{MemoryInstance, Store, width, range, placed, nothing, bits_of, sized, failure, page_size, page_of, most_pages, bytes_held, pages_held, grown, with_bytes, memory_address, memory_at, memory_in, data_in, with_memory, without_data}
+use Rattle.wasm_operator_validator_store.specs.Stores.{MemoryInstance, Store, width, range, placed, nothing, bits_of, sized, failure, page_size, page_of, most_grown, bytes_held, pages_held, grown, with_bytes, memory_address, memory_at, memory_in, data_in, with_memory, without_data}
 use Rattle.wasm_operator_validator_store.specs.Atomics.{is_misaligned, AtomicAccess, number_given, atomic_access}
 use Rattle.wasm_operator_validator_store.specs.Memories.{number_of, bytes_of, past, Access, reads, writes, Reach, memory_access, simd_access, stored_size, numbers_from, elements_from}
 use Rattle.wasm_operator_validator_store.specs.ValidStores.{Each, IsByte, Knows, MemoryFits, StoreFits, Evolves}
@@ -171,18 +171,18 @@ more_pages n k d = omega arith
 pub grown_fits : (o : Option MemoryInstance) (k : ℕ) (bs : List ℕ) → ((m : MemoryInstance) → o ≡ Some m → MemoryFits m) → grown o k ≡ Some bs
     → (length (bytes_held o) ≤ length bs) × ((m : MemoryInstance) → o ≡ Some m → MemoryFits (with_bytes bs m))
 grown_fits None k bs h e = absurd (none_some bs e)
-grown_fits (Some m) k bs h e = at (nat_lt (most_pages m.type) (pages_held (Some m) + k)) refl e
+grown_fits (Some m) k bs h e = at (nat_lt (most_grown m.type) (pages_held (Some m) + k)) refl e
   where
     sizes : length (m.bytes ++ replicate (k * page_of m.type) 0) ≡ length m.bytes + k * page_of m.type
     sizes = omega (arith, length-append m.bytes (replicate (k * page_of m.type) 0), length-replicate {A = ℕ} (k * page_of m.type) 0)
 
-    fits_so : nat_lt (most_pages m.type) (pages_held (Some m) + k) ≡ false → MemoryFits (with_bytes (m.bytes ++ replicate (k * page_of m.type) 0) m)
+    fits_so : nat_lt (most_grown m.type) (pages_held (Some m) + k) ≡ false → MemoryFits (with_bytes (m.bytes ++ replicate (k * page_of m.type) 0) m)
     fits_so c =
         let f = h m refl in
         let pages : pages_held (Some m) ≡ f.0 = ap (λ l. l / page_of m.type) f.1 ∙ whole_pages m.type.page_size_log2 f.0 in
-        (f.0 + k, sizes ∙ ap (λ l. l + k * page_of m.type) f.1 ∙ more_pages f.0 k (page_of m.type), omega (arith, ltb-false (most_pages m.type) (pages_held (Some m) + k) c, pages))
+        (f.0 + k, sizes ∙ ap (λ l. l + k * page_of m.type) f.1 ∙ more_pages f.0 k (page_of m.type), omega (arith, ltb-false (most_grown m.type) (pages_held (Some m) + k) c, pages))
 
-    at : (b : Bool) → nat_lt (most_pages m.type) (pages_held (Some m) + k) ≡ b → (if b then None else Some (m.bytes ++ replicate (k * page_of m.type) 0)) ≡ Some bs
+    at : (b : Bool) → nat_lt (most_grown m.type) (pages_held (Some m) + k) ≡ b → (if b then None else Some (m.bytes ++ replicate (k * page_of m.type) 0)) ≡ Some bs
         → (length m.bytes ≤ length bs) × ((q : MemoryInstance) → Some m ≡ Some q → MemoryFits (with_bytes bs q))
     at true c d = absurd (none_some bs d)
     at false c d =

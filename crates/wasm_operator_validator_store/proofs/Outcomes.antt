@@ -1,17 +1,21 @@
 -- The worked outcomes over a store.
-use Rattle.std.proofs.Common.{◌≡◌, ℕ, ◌^◌, IsTrue, nat_lt, List, [], ◌∷◌, get_or, subst, refl, sym, ap, inl, inr, true≢false}
-use Rattle.wasm_types.specs.trees.Types.{i31, struct}
+use mathlib.Core.Logic.{⊎_elim}
+use Rattle.std.proofs.Common.{◌≡◌, ℕ, ◌^◌, IsTrue, nat_lt, List, [], ◌∷◌, get_or, subst, refl, sym, ap, inl, inr, true≢false, arith}
+use Rattle.wasm_types.specs.trees.Types.{Number, i32, i64, i31, struct}
 use Rattle.wasm_types.specs.trees.Trees.{opened}
 use Rattle.wasm_types.specs.trees.AbstractOrder.{AbstractBelow, same}
 use Rattle.wasm_types.specs.trees.ValidGroup.{types_from}
 use Rattle.wasm_operator_validator_store.specs.Stores.{Store, nothing, bits_of, IsWithin, segment_in}
-use Rattle.wasm_operator_validator_soundness.specs.runs.Values.{Value}
+use Rattle.wasm_operator_validator_soundness.specs.runs.Values.{Value, number_value}
 use Rattle.wasm_operator_validator_store.specs.worked.Program.{num}
 use Rattle.wasm_operator_validator_store.proofs.Premises.{triple_unfit}
 use Rattle.wasm_operator_validator_store.specs.worked.Outcomes.{ChoicesWorked, ConstantsWorked, ElementsWorked, FieldsWorked, ReferencesWorked, TestsWorked, ClausesWorked, TablesWorked, OpenWorked, TrapsWorked, OutcomesWorked}
 
 no_struct : AbstractBelow i31 struct → ⊥
 no_struct l = elim l [ ]
+
+unlike : (t : Number) (n m : ℕ) → number_value t n ∷ [] ≡ number_value t m ∷ [] → (n ≡ m → ⊥) → ⊥
+unlike t n m e f = f (ap (λ vs. bits_of (get_or vs 0 nothing)) e)
 
 choices_worked : ChoicesWorked
 unfolding opened types_from
@@ -149,7 +153,7 @@ tables_worked = record {
   set_past_the_end = (_, _, _, (refl, refl), (refl, (refl, refl)), refl);
   size = (_, _, _, (_, _, (refl, refl, refl), refl, (refl, refl)), (refl, refl), refl);
   wide_size = (_, _, _, (_, _, (refl, refl, refl), refl, (refl, refl)), (refl, refl), refl);
-  wide_grown = (_, _, _, (_, _, inl (refl, refl, refl), refl, (_, _, (refl, refl), refl, (_, _, (refl, refl, refl), refl, (refl, refl)))), (refl, refl), refl);
+  wide_grown = (_, _, _, (_, _, inl (refl, (refl, refl, refl)), refl, (_, _, (refl, refl), refl, (_, _, (refl, refl, refl), refl, (refl, refl)))), (refl, refl), refl);
   wide_not_grown = (_, _, _, (_, _, inr (refl, refl, refl), refl, (refl, refl)), (refl, refl), refl);
   filled_past_the_end = (_, _, _, (refl, refl), (refl, (refl, refl)), refl);
   initialised_past_the_segment = (_, _, _, (refl, refl), (refl, (refl, refl)), refl);
@@ -161,8 +165,12 @@ tables_worked = record {
   copied_from_the_other = (_, _, _, (_, _, (refl, refl, refl), refl, (_, _, (refl, refl, refl), refl, (_, _, (refl, (refl, refl, refl)), refl, (refl, refl)))), (refl, refl), refl);
   other_dropped = (_, _, _, (_, _, (refl, refl, refl), refl, (_, _, (refl, refl, refl), refl, (_, _, (refl, refl, refl), refl, (_, _, (refl, (refl, refl, refl)), refl, (refl, refl))))), (refl, refl), refl);
   second_dropped = (_, _, _, (_, _, (refl, refl, refl), refl, (refl, refl)), (refl, (refl, refl)), refl);
-  grown_by_two = (_, _, _, (_, _, inl (refl, refl, refl), refl, (_, _, (refl, refl), refl, (_, _, (refl, refl, refl), refl, (refl, refl)))), (refl, refl), refl);
-  grown_with_it = (_, _, _, (_, _, inl (refl, refl, refl), refl, (_, _, (refl, refl), refl, (_, _, (refl, refl, refl), refl, (_, _, (refl, (refl, refl, refl)), refl, (refl, refl))))), (refl, refl), refl);
+  grown_by_two = (_, _, _, (_, _, inl (refl, (refl, refl, refl)), refl, (_, _, (refl, refl), refl, (_, _, (refl, refl, refl), refl, (refl, refl)))), (refl, refl), refl);
+  grown_with_it = (_, _, _, (_, _, inl (refl, (refl, refl, refl)), refl, (_, _, (refl, refl), refl, (_, _, (refl, refl, refl), refl, (_, _, (refl, (refl, refl, refl)), refl, (refl, refl))))), (refl, refl), refl);
+  grown_so_far = (_, _, _, (_, _, inl (refl, (refl, refl, refl)), refl, (refl, refl)), (refl, refl), refl);
+  no_further = λ u g. ⊎_elim (λ c. true≢false (sym c.0)) (λ c. unlike i32 2 0xffff_ffff c.0 (omega arith)) g;
+  wide_grown_so_far = (_, _, _, (_, _, inl (refl, (refl, refl, refl)), refl, (refl, refl)), (refl, refl), refl);
+  wide_no_further = λ u g. ⊎_elim (λ c. true≢false (sym c.0)) (λ c. unlike i64 3 0xffff_ffff_ffff_ffff c.0 (omega arith)) g;
   immutable = λ n. true≢false (sym n.0);
   declared = λ u e. ap (λ (s : Store). segment_in s 0) (sym e);
 }
@@ -227,6 +235,10 @@ traps_worked = record {
   host_call = refl;
   own_reference = refl;
   null_reference = refl;
+  null_exact = refl;
+  null_tail_exact = refl;
+  function_inexact = refl;
+  throw_exact = refl;
   null_thrown = refl;
   exception_thrown = refl;
   in_the_table = refl;

@@ -401,7 +401,7 @@ module _ (p : Program) (valid : IsValidProgram p) (results : List ValueType) (ac
   bulk_given (bulk.TableSize y) more next =
       calm (op.Bulk (bulk.TableSize y)) more refl (giving (sized (is_wide (slice_get p.«module».tables y)) (length (table_in s y)) ∷ [])) s refl (refl, refl, refl)
   bulk_given (bulk.TableGrow y) more next =
-      calm (op.Bulk (bulk.TableGrow y)) more refl (giving (sized (is_wide (slice_get p.«module».tables y)) (length (table_in s y)) ∷ [])) (with_table s y (table_in s y ++ replicate (index 0) (top 1))) refl (inl (refl, refl, refl))
+      calm (op.Bulk (bulk.TableGrow y)) more refl (giving (failure (is_wide (slice_get p.«module».tables y)) ∷ [])) s refl (inr (refl, refl, refl))
   bulk_given (bulk.TableFill y) more next = may (op.Bulk (bulk.TableFill y)) more refl
       (or_trapped p x s (placed (table_in s y) (index 2) (replicate (index 0) (top 1))) _ (λ ws e. (still, with_table s y ws, (refl, refl, refl))))
   bulk_given (bulk.TableInit i y) more next = may (op.Bulk (bulk.TableInit i y)) more refl

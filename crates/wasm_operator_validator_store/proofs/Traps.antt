@@ -595,7 +595,7 @@ module _ (p : Program) (act : Activation) (acts : List Activation) (s : Store) (
     bulk_ends_here (bulk.TableGet n) e c h = let w = or_there {A = Value} (slice_get (table_in s n) (bits_of (get_or act.innermost.values 0 nothing))) _ c h in table_ends w.1.1 more n (λ t. address t.table64 ∷ []) (λ t. t.element ∷ [])
     bulk_ends_here (bulk.TableSet n) e c h = let w = or_there {A = List Value} (placed (table_in s n) (bits_of (get_or act.innermost.values 1 nothing)) (take 1 act.innermost.values)) _ c h in table_ends w.1.1 more n (λ t. address t.table64 ∷ t.element ∷ []) (λ t. [])
     bulk_ends_here (bulk.TableFill n) e c h = let w = or_there {A = List Value} (placed (table_in s n) (bits_of (get_or act.innermost.values 2 nothing)) (replicate (bits_of (get_or act.innermost.values 0 nothing)) (get_or act.innermost.values 1 nothing))) _ c h in table_ends w.1.1 more n (λ t. address t.table64 ∷ t.element ∷ address t.table64 ∷ []) (λ t. [])
-    bulk_ends_here (bulk.TableGrow n) e c h = operate_ends p a act acts (⊎_elim (λ g. g.1) (λ g. g.1) h) (op.Bulk (bulk.TableGrow n)) more refl
+    bulk_ends_here (bulk.TableGrow n) e c h = operate_ends p a act acts (⊎_elim (λ g. g.1.1) (λ g. g.1) h) (op.Bulk (bulk.TableGrow n)) more refl
     bulk_ends_here (bulk.RefNull q) e c h = determined_ends (op.Bulk (bulk.RefNull q)) more refl refl h
     bulk_ends_here bulk.RefIsNull e c h = determined_ends (op.Bulk bulk.RefIsNull) more refl refl h
     bulk_ends_here (bulk.RefFunc n) e c h = determined_ends (op.Bulk (bulk.RefFunc n)) more refl refl h

@@ -30,7 +30,7 @@ use Rattle.wasm_operator_validator_rules.specs.Operands.{ValueType}
 use Rattle.wasm_operator_validator_soundness.specs.runs.Values.{Body, Program, Value, number_value, ref_null, ref_function, ref_object, ref_i31, ref_host, ref_extern, ref_exn, default_of}
 use Rattle.wasm_operator_validator_soundness.specs.runs.States.{Exception, Activation, State, Answer}
 use Rattle.wasm_operator_validator_soundness.specs.runs.Machine.{body_of, named, caught_at, fields_in, operands_of}
-use Rattle.wasm_operator_validator_store.specs.Stores.{GlobalInstance, TableInstance, ObjectInstance, ExceptionInstance, Store, width, IsWithin, integer_bits, extended, unpacked, truth, sized, failure, bits_of, nothing, or_nothing, defaults, field_at, range, placed, value_held, elements_held, with_value, with_elements, global_address, table_address, global_in, table_in, segment_in, with_global, with_table, without_segment, with_object, with_fields, with_exception, with_extern, MemoryInstance, bytes_held, pages_held, page_of, most_pages, grown, with_bytes, memory_address, memory_at, memory_in, data_in, with_memory, without_data}
+use Rattle.wasm_operator_validator_store.specs.Stores.{GlobalInstance, TableInstance, ObjectInstance, ExceptionInstance, Store, width, IsWithin, integer_bits, extended, unpacked, truth, sized, failure, bits_of, nothing, or_nothing, defaults, field_at, range, placed, value_held, elements_held, with_value, with_elements, global_address, table_address, global_in, table_in, segment_in, with_global, with_table, without_segment, with_object, with_fields, with_exception, with_extern, MemoryInstance, bytes_held, pages_held, page_of, most_grown, grown, with_bytes, memory_address, memory_at, memory_in, data_in, with_memory, without_data}
 use Rattle.wasm_operator_validator_store.specs.ValidStores.{Each, InWidth, StoreInWidth, HasLocal, HasActivation, HasState, IsByte}
 use Rattle.wasm_operator_validator_store.specs.Giving.{is_wide, Either, Stays, Traps, Gives, Tells, Outside, OrTraps, There, OfObject, Makes, ThrowsAgain, Begins, Calls, CallsIndirect, ThrowsReference, Reads, WritesTo, Writes, MakesNamed, Unboxes, ConvertsToAny, ConvertsToExtern, GivesControl, GivesParametric, GivesException, GivesMemory, GivesBulk, GivesGc, GivesConstant, GivesOperator, GivesBlock, GivesCode, is_wide_memory, is_shared_memory, shared, Writing, Sized, size_of, GrowsTo, atomic_address, Replaces, Exchanges, Aligned, ByOthers, GivesAtomic, OfData, Accesses, Reaches, OrOutside, Calculates}
 use Rattle.wasm_operator_validator_store.specs.Memories.{number_of, bytes_of, signed_as, widened, widened_lanes, repeated, or_empty, with_lane, Access, reads, writes, Reach, memory_access, simd_access, stored_size, numbers_from, elements_from}
@@ -256,7 +256,7 @@ bytes_within (Some m) h = h m refl
 
 grown_bytes : (o : Option MemoryInstance) (k : ℕ) (bs : List ℕ) → Each IsByte (bytes_held o) → grown o k ≡ Some bs → Each IsByte bs
 grown_bytes None k bs b e = absurd (none_some bs e)
-grown_bytes (Some m) k bs b e = at (nat_lt (most_pages m.type) (pages_held (Some m) + k)) e
+grown_bytes (Some m) k bs b e = at (nat_lt (most_grown m.type) (pages_held (Some m) + k)) e
   where
     at : (t : Bool) → (if t then None else Some (m.bytes ++ replicate (k * page_of m.type) 0)) ≡ Some bs → Each IsByte bs
     at true d = absurd (none_some bs d)
@@ -614,7 +614,7 @@ module _ (p : Program) (act : Activation) (acts : List Activation) (s : Store) (
   bulk_kept (bulk.TableSet n) g = filled n _ (take 1 vs) [] (tops_within 1) tt g
   bulk_kept (bulk.TableSize n) g = gives_kept _ s (size_kept n) w g
   bulk_kept (bulk.TableGrow n) g = ⊎_elim
-      (λ c. gives_kept _ (with_table s n (table_in s n ++ replicate (bits_of (get_or vs 0 nothing)) (get_or vs 1 nothing))) (size_kept n) (table_set n _ (each_append InWidth (table_in s n) _ (table_within n) (each_replicate InWidth (bits_of (get_or vs 0 nothing)) (get_or vs 1 nothing) (top_within 1)))) c)
+      (λ c. gives_kept _ (with_table s n (table_in s n ++ replicate (bits_of (get_or vs 0 nothing)) (get_or vs 1 nothing))) (size_kept n) (table_set n _ (each_append InWidth (table_in s n) _ (table_within n) (each_replicate InWidth (bits_of (get_or vs 0 nothing)) (get_or vs 1 nothing) (top_within 1)))) c.1)
       (λ c. gives_kept _ s (failure_within (is_wide (slice_get p.«module».tables n)), tt) w c) g
   bulk_kept (bulk.TableFill n) g = filled n _ (replicate (bits_of (get_or vs 0 nothing)) (get_or vs 1 nothing)) [] (each_replicate InWidth (bits_of (get_or vs 0 nothing)) (get_or vs 1 nothing) (top_within 1)) tt g
   bulk_kept (bulk.TableInit e n) g = or_traps {A = List Value} (range (segment_in s e) (bits_of (get_or vs 1 nothing)) (bits_of (get_or vs 0 nothing))) _ (λ us d.

@@ -1,6 +1,6 @@
 -- Memories, as a compiler may rely on them (WebAssembly 3.0, execution, memory instructions): which steps trap exactly, and that what is read is
 -- what was written last.
-use Rattle.std.specs.Prelude.{◌≡◌, ◌≤◌, ◌<◌, ◌+◌, ◌*◌, ◌%◌, ◌^◌, ℕ, Bool, true, false, not, ◌&&◌, IsTrue, List, [], ◌∷◌, length, Option, Some, None, is_some, slice_get}
+use Rattle.std.specs.Prelude.{◌≡◌, ◌≤◌, ◌<◌, ◌+◌, ◌*◌, ◌%◌, ◌^◌, ℕ, Bool, true, false, not, ◌&&◌, IsTrue, List, [], ◌∷◌, length, Option, Some, None, is_some, slice_get, get_or}
 use Rattle.wasm_operators_enums.specs.declared.memory.MemoryOperator.{MemoryOperator}
 use Rattle.wasm_operators_enums.specs.declared.bulk.BulkOperator.{BulkOperator}
 use Rattle.wasm_operators_enums.specs.declared.bulk.BulkOperator.TheVariants as bulk
@@ -9,13 +9,13 @@ use Rattle.wasm_operators_enums.specs.declared.control.ControlOperator.TheVarian
 use Rattle.wasm_operators_enums.specs.declared.gc.GcOperator.{GcOperator}
 use Rattle.wasm_operators_enums.specs.declared.gc.GcOperator.TheVariants as gc
 use Rattle.wasm_operators_enums.specs.Op as op
-use Rattle.wasm_operators_enums.specs.Op.{Op}
+use Rattle.wasm_operators_enums.specs.Op.{Op, ExceptionTree}
 use Rattle.wasm_operators_encoding.specs.expressions.Code.{Code, plain}
 use Rattle.wasm_operator_validator_rules.specs.Operands.{ValueType}
-use Rattle.wasm_operator_validator_soundness.specs.runs.Values.{Program}
+use Rattle.wasm_operator_validator_soundness.specs.runs.Values.{Program, Value, is_null}
 use Rattle.wasm_operator_validator_soundness.specs.runs.States.{State, Answer, trapped}
 use Rattle.wasm_operator_validator_soundness.specs.runs.Soundness.{step, IsValidProgram}
-use Rattle.wasm_operator_validator_store.specs.Stores.{MemoryInstance, Store, range, placed, memory_at, memory_in, with_memory, memory_address}
+use Rattle.wasm_operator_validator_store.specs.Stores.{MemoryInstance, Store, nothing, range, placed, memory_at, memory_in, with_memory, memory_address}
 use Rattle.wasm_operator_validator_store.specs.Memories.{number_of, bytes_of, past, memory_access, simd_access}
 use Rattle.wasm_operator_validator_store.specs.Integers.{integer_operation}
 use Rattle.wasm_operator_validator_store.specs.ValidStores.{Each, IsByte}
@@ -25,7 +25,7 @@ use Rattle.wasm_operator_validator_store.specs.Determined.{is_unshared, reach_is
 use Rattle.wasm_operator_validator_store.specs.Traps.{step_traps}
 
 -- ---- which operators: those that reach into memories that no other thread uses, atomic ones too, single elements and ranges of tables and
--- objects, what finds null, and operators on integers
+-- objects, what finds null, and operators on integers. Of `memory.discard` it is open.
 
 abbrev pub bulk_is_exact : Program → BulkOperator → Bool
 bulk_is_exact p (bulk.MemoryInit d x) = is_unshared p x
@@ -58,28 +58,36 @@ gc_is_exact (gc.ArrayInitElem x e) = true
 gc_is_exact (gc.ArrayInitData x d) = true
 gc_is_exact o = false
 
-abbrev pub control_is_exact : ControlOperator → Bool
-control_is_exact control.Unreachable = true
-control_is_exact control.RefAsNonNull = true
-control_is_exact o = false
+-- with this on top: a call by a null reference, while a function of the host may trap or not
+abbrev pub control_is_exact : Value → ControlOperator → Bool
+control_is_exact v control.Unreachable = true
+control_is_exact v control.RefAsNonNull = true
+control_is_exact v (control.CallRef x) = is_null v
+control_is_exact v (control.ReturnCallRef x) = is_null v
+control_is_exact v o = false
 
-abbrev pub is_exact : Program → Op → Bool
-is_exact p (op.Memory o) = reach_is_determined p (memory_access o)
-is_exact p (op.Simd o) = reach_is_determined p (simd_access o)
-is_exact p (op.Atomic o) = atomic_is_determined p o
-is_exact p (op.Bulk o) = bulk_is_exact p o
-is_exact p (op.Gc o) = gc_is_exact o
-is_exact p (op.Control o) = control_is_exact o
-is_exact p (op.Numeric o) = is_some (integer_operation o)
-is_exact p o = false
+abbrev pub exception_is_exact : ExceptionTree → Bool
+exception_is_exact op.ThrowRef = true
+exception_is_exact o = false
 
-abbrev pub code_is_exact : Program → Code → Bool
-code_is_exact p (plain o more) = is_exact p o
-code_is_exact p c = false
+abbrev pub is_exact : Program → Value → Op → Bool
+is_exact p v (op.Memory o) = reach_is_determined p (memory_access o)
+is_exact p v (op.Simd o) = reach_is_determined p (simd_access o)
+is_exact p v (op.Atomic o) = atomic_is_determined p o
+is_exact p v (op.Bulk o) = bulk_is_exact p o
+is_exact p v (op.Gc o) = gc_is_exact o
+is_exact p v (op.Control o) = control_is_exact v o
+is_exact p v (op.Exception o) = exception_is_exact o
+is_exact p v (op.Numeric o) = is_some (integer_operation o)
+is_exact p v o = false
+
+abbrev pub code_is_exact : Program → Value → Code → Bool
+code_is_exact p v (plain o more) = is_exact p v o
+code_is_exact p v c = false
 
 abbrev pub step_is_exact : Program → State → Bool
 step_is_exact p [] = false
-step_is_exact p (act ∷ acts) = code_is_exact p act.innermost.code
+step_is_exact p (act ∷ acts) = code_is_exact p (get_or act.innermost.values 0 nothing) act.innermost.code
 
 -- Such a step traps if `step_traps` says so; that no other does is `OnlyTheseTrap`. So an access traps exactly if the address, the offset and
 -- the width, added as numbers, are past the size, and an atomic one also if the address and the offset are no multiple of the width.

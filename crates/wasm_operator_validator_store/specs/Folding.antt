@@ -1,6 +1,6 @@
 -- Operators on integers, as a compiler may compute them (WebAssembly 3.0, execution, numeric instructions): each gives the value of its
 -- function, so of constants too, and traps exactly if there is none.
-use Rattle.std.specs.Prelude.{◌≡◌, ◌⊎◌, ◌↔◌, ℕ, ℤ, pos, suc, ◌-◌, ◌<◌, ◌^◌, List, [], ◌∷◌, length, drop, get_or, Option, Some, None}
+use Rattle.std.specs.Prelude.{◌≡◌, ◌⊎◌, ◌↔◌, ℕ, ℤ, suc, ◌-◌, ◌<◌, ◌^◌, List, [], ◌∷◌, length, drop, get_or, Option, Some, None}
 use Rattle.wasm_types.specs.trees.Types.{Number, i32, i64}
 use Rattle.wasm_operators_enums.specs.declared.constant.ConstOperator.TheVariants as const
 use Rattle.wasm_operators_enums.specs.declared.numeric.NumericOperator.{NumericOperator}
@@ -11,7 +11,7 @@ use Rattle.wasm_operator_validator_soundness.specs.runs.Values.{Program, Value, 
 use Rattle.wasm_operator_validator_soundness.specs.runs.States.{Activation, State, Answer, Outcome, next, trapped}
 use Rattle.wasm_operator_validator_soundness.specs.runs.Soundness.{step}
 use Rattle.wasm_operator_validator_store.specs.Stores.{Store, width, nothing, bits_of, integer_bits}
-use Rattle.wasm_operator_validator_store.specs.Integers.{idiv_u, idiv_s, irem_u, irem_s, Operation, integer_operation}
+use Rattle.wasm_operator_validator_store.specs.Integers.{signed, idiv_u, idiv_s, irem_u, irem_s, Operation, integer_operation}
 use Rattle.wasm_operator_validator_store.specs.Giving.{GivesStep}
 use Rattle.wasm_operator_validator_store.specs.Soundness.{StoreRuns}
 
@@ -56,14 +56,16 @@ module _ (p : Program) (act : Activation) (acts : List Activation) (s : Store) (
   abbrev pub starts : Code → State
   starts c = standing_at act act.innermost.values c ∷ acts
 
-  -- Constants and the operator above them come to what one constant comes to; or, if the function has no value, the operator traps.
+  -- Constants and the operator above them come to what any one constant with the bits of the value comes to, and there is such a constant;
+  -- or, if the function has no value, the operator traps.
   pub record FoldsTo (x y : ℤ) (b : ℕ) : Type 0 where
     pub computed : (answers : List Answer) (u : Store) (z : State)
         → StoreRuns p s (starts (constants r.takes x y (plain (op.Numeric o) more))) answers u z
         → length answers ≡ suc (length r.takes) → (next z ≡ comes_to act.innermost.values (Some b)) × (u ≡ s)
-    pub folded : (answers : List Answer) (u : Store) (z : State)
-        → StoreRuns p s (starts (plain (constant r.gives (pos b)) more)) answers u z
+    pub folded : (c : ℤ) (answers : List Answer) (u : Store) (z : State) → integer_bits (width r.gives) c ≡ b
+        → StoreRuns p s (starts (plain (constant r.gives c) more)) answers u z
         → length answers ≡ 1 → (next z ≡ comes_to act.innermost.values (Some b)) × (u ≡ s)
+    pub there : integer_bits (width r.gives) (signed (width r.gives) b) ≡ b
 
   abbrev pub Falls : ℤ → ℤ → Type 0
   Falls x y = (answers : List Answer) (u w : Store) (z : State) (a : Answer)

@@ -1,7 +1,7 @@
 -- What a store gives to the operator that is next, and what it is afterwards (WebAssembly 3.0, execution, instructions). A run's step takes
 -- an answer; without a store that is any answer of the right types, and here it is what the standard says. What the standard computes from
 -- floats and vectors, what other threads write, and what is left to a host comes from outside as before. Operands are counted from the top.
-use Rattle.std.specs.Prelude.{◌≡◌, ◌⊎◌, ◌↔◌, ℕ, ◌+◌, ◌*◌, ◌%◌, ◌^◌, Bool, true, false, IsTrue, List, [], ◌∷◌, ◌++◌, length, reverse, take, drop, replicate, get_or, Option, Some, None, slice_get, if◌then◌else◌}
+use Rattle.std.specs.Prelude.{◌≡◌, ◌⊎◌, ◌↔◌, ℕ, ◌+◌, ◌*◌, ◌%◌, ◌^◌, Bool, true, false, IsTrue, List, [], ◌∷◌, ◌++◌, length, reverse, take, drop, replicate, get_or, Option, Some, None, slice_get, nat_le, if◌then◌else◌}
 use Rattle.wasm_types.specs.trees.Types.{i32, i64, f32, f64, ref, concrete, FieldOf}
 use Rattle.wasm_types.specs.trees.Trees.{TypeTree}
 use Rattle.wasm_types.specs.trees.Below.{expanded}
@@ -30,7 +30,7 @@ use Rattle.wasm_operator_validator_soundness.specs.runs.States.{Activation, Stat
 use Rattle.wasm_operator_validator_soundness.specs.runs.Machine.{meant_heap, function_type_in, fields_in, operand_of, body_of, named, caught_at}
 use Rattle.wasm_operator_validator_soundness.specs.runs.Soundness.{step}
 use Rattle.wasm_operator_validator_soundness.specs.runs.Progress.{next_can_trap}
-use Rattle.wasm_operator_validator_store.specs.Stores.{ObjectInstance, ExceptionInstance, Store, range, placed, nothing, IsWithin, bits_of, is_true, truth, integer_bits, extended, unpacked, sized, failure, same, defaults, field_at, pages_held, grown, global_in, table_in, memory_at, memory_in, segment_in, data_in, with_global, with_table, with_memory, without_data, without_segment, with_object, with_fields, with_exception, with_extern}
+use Rattle.wasm_operator_validator_store.specs.Stores.{ObjectInstance, ExceptionInstance, Store, range, placed, nothing, IsWithin, bits_of, is_true, truth, integer_bits, extended, unpacked, sized, failure, same, defaults, field_at, most_counted, pages_held, grown, global_in, table_in, memory_at, memory_in, segment_in, data_in, with_global, with_table, with_memory, without_data, without_segment, with_object, with_fields, with_exception, with_extern}
 use Rattle.wasm_operator_validator_store.specs.Memories.{number_of, bytes_of, past, Access, reads, writes, Reach, memory_access, simd_access, stored_size, elements_from}
 use Rattle.wasm_operator_validator_store.specs.Atomics.{is_misaligned, AtomicAccess, number_given, notification, atomic_access}
 use Rattle.wasm_operator_validator_store.specs.Integers.{Operation, integer_operation}
@@ -269,8 +269,9 @@ module _ (p : Program) (s : State) (before : Store) (a : Answer) (after : Store)
     GivesBulk (bulk.TableSet x) = OrTraps (placed (table_in before x) (index 1) (tops 1))
         (λ vs. Gives [] (with_table before x vs))
     GivesBulk (bulk.TableSize x) = Gives (sized (wide x) (length (table_in before x)) ∷ []) before
-    GivesBulk (bulk.TableGrow x) = Gives (sized (wide x) (length (table_in before x)) ∷ [])
-        (with_table before x (table_in before x ++ replicate (index 0) (top 1)))
+    GivesBulk (bulk.TableGrow x) = (IsTrue (nat_le (length (table_in before x) + index 0) (most_counted (wide x)))
+        × Gives (sized (wide x) (length (table_in before x)) ∷ [])
+        (with_table before x (table_in before x ++ replicate (index 0) (top 1))))
         ⊎ Gives (failure (wide x) ∷ []) before
     GivesBulk (bulk.TableFill x) = OrTraps (placed (table_in before x) (index 2) (replicate (index 0) (top 1)))
         (λ vs. Gives [] (with_table before x vs))

@@ -165,6 +165,15 @@ addressed_pages false page = 2 ^ 32 / page
 abbrev pub most_pages : MemoryType → ℕ
 most_pages t = at_most t.maximum (addressed_pages t.memory64 (page_of t))
 
+-- How many elements a table may grow to, and how many pages a memory: so many that their count is a number of 64 bits or of 32.
+abbrev pub most_counted : Bool → ℕ
+most_counted true = 2 ^ 64 - 1
+most_counted false = 2 ^ 32 - 1
+
+-- the most pages that a memory grows to
+abbrev pub most_grown : MemoryType → ℕ
+most_grown t = min (most_pages t) (most_counted t.memory64)
+
 -- ---- references
 
 -- whether two references are one (execution, reference instructions, `ref.eq`)
@@ -212,7 +221,7 @@ pages_held (Some m) = length m.bytes / page_of m.type
 -- what it holds with so many pages more, which hold zeros, if it may have as many (execution, modules, growing memories)
 abbrev pub grown : Option MemoryInstance → ℕ → Option (List ℕ)
 grown None n = None
-grown (Some m) n = if nat_lt (most_pages m.type) (pages_held (Some m) + n) then None
+grown (Some m) n = if nat_lt (most_grown m.type) (pages_held (Some m) + n) then None
     else Some (m.bytes ++ replicate (n * page_of m.type) 0)
 
 abbrev pub with_value : Value → GlobalInstance → GlobalInstance

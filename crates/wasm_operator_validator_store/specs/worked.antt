@@ -6,3 +6,4 @@ pub mod Linked
 pub mod Memories
 pub mod Atomics
 pub mod Integers
+pub mod Tables

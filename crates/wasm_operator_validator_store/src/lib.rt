@@ -23,6 +23,7 @@ ghost use Rattle.wasm_operator_validator_store.specs.worked.Linked.{LinkedStoreW
 ghost use Rattle.wasm_operator_validator_store.specs.worked.Memories.{MemoriesWorked};
 ghost use Rattle.wasm_operator_validator_store.specs.worked.Outcomes.{OutcomesWorked};
 ghost use Rattle.wasm_operator_validator_store.specs.worked.Rows.{RowsWorked};
+ghost use Rattle.wasm_operator_validator_store.specs.worked.Tables.{OperatorTablesWorked};
 
 /// What a store gives at a step is an answer of the machine that has no store. The step has what it needs, and all fits again.
 pub fn store_steps_are_sound()
@@ -50,13 +51,16 @@ pub fn store_runs_are_determined()
     ensures { StoreRunsAreDetermined }
 {}
 
-/// A step traps only where its operator may, over what is there: not at a null that is none, nor within bounds.
+/// A step traps only if its operator may, over what is there: not for null if there is none, nor within bounds. These may whatever is there:
+/// `call_indirect`, a cast to a type without null, `memory.discard`, a wait, a notification at a shared memory, a conversion of floats to
+/// integers, and a call of the host. Of calls and casts `tests_are_exact` tells more.
 pub fn only_these_trap()
     ensures { OnlyTheseTrap }
 {}
 
-/// A step that reaches into a memory, a table, a segment or an object traps exactly if it ends past the end, or finds null. In a memory the
-/// address, the offset and the width are added as numbers. An atomic access traps also if the address is no multiple of the width.
+/// A step that reaches into a memory that no other thread uses, a table, a segment or an object traps exactly if it ends past the end, or
+/// finds null; so does a call by a null reference. In a memory the address, the offset and the width are added as numbers. An atomic access
+/// traps also if the address is no multiple of the width. Of `memory.discard` it is open.
 pub fn traps_are_exact()
     ensures { TrapsExactly }
 {}
@@ -72,7 +76,7 @@ pub fn integers_are_computed()
     ensures { IntegersAreComputed }
 {}
 
-/// So constants and the operator above them come to what one constant comes to: a compiler may fold them.
+/// So constants and the operator above them come to what any constant with the bits of the value comes to: a compiler may fold them.
 pub fn constants_fold()
     ensures { ConstantsFold }
 {}
@@ -87,7 +91,8 @@ pub fn final_types_are_last()
     ensures { FinalTypesAreLast }
 {}
 
-/// What is read from a memory is what was written last, and each other byte is as it was.
+/// In a list of bytes what is read is what was written last, and each other byte is as it was. Bytes that a store gets for a memory are those
+/// of this memory, and each memory at another address is as it was.
 pub fn memories_are_kept()
     ensures bytes { BytesAreKept }
     ensures memories { MemoriesAreKept }
@@ -98,7 +103,8 @@ pub fn store_runs_are_pinned()
     ensures { StoreRunsArePinned }
 {}
 
-/// Each number stays within the bits of its type, in a state and in a store.
+/// Each number stays within the bits of its type, in a state and in a store, as long as the length of each array and table, and of each memory
+/// in pages, is a number that an operator can give.
 pub fn widths_are_kept()
     ensures { WidthsAreKept }
 {}
@@ -146,6 +152,11 @@ pub fn atomics_are_worked()
 /// Functions of integers, and steps of their operators.
 pub fn integers_are_worked()
     ensures { IntegersWorked }
+{}
+
+/// Each operator on integers and each access by its name: the types, the bytes that are reached, and what is made of a few numbers.
+pub fn operator_tables_are_worked()
+    ensures { OperatorTablesWorked }
 {}
 
 /// A store that the host gives to a program which imports one global and one table twice: it fits, the program's first store fits, and

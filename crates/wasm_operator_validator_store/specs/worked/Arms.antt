@@ -1,5 +1,5 @@
 -- Worked steps over a store, one for each way in which an operator goes on: what branches and what does not, what traps and what passes.
-use Rattle.std.specs.Prelude.{ℕ, pos, negsuc, true, false, List, [], ◌∷◌, Some}
+use Rattle.std.specs.Prelude.{◌≡◌, ℕ, pos, negsuc, true, false, List, [], ◌∷◌, Some}
 use Rattle.wasm_types.specs.trees.Types.{any, func, extern, abstract, number, ref, i32}
 use Rattle.wasm_types.specs.values.Reference.{Reference}
 use Rattle.wasm_types.specs.values.declared.heap.AbstractHeapType.TheVariants as heap
@@ -11,12 +11,14 @@ use Rattle.wasm_operators_enums.specs.declared.memory.MemoryOperator.TheVariants
 use Rattle.wasm_operators_enums.specs.Op as op
 use Rattle.wasm_operators_encoding.specs.expressions.Code.{Code, close, plain, nested, turn}
 use Rattle.wasm_operator_validator_rules.specs.Operands.{ValueType}
-use Rattle.wasm_operator_validator_soundness.specs.runs.Values.{ref_null, ref_i31}
-use Rattle.wasm_operator_validator_soundness.specs.runs.States.{Answer, returned, trapped, thrown}
-use Rattle.wasm_operator_validator_soundness.specs.runs.worked.Runs.{silent, deciding, throw, tried, end, takes_i32}
-use Rattle.wasm_operator_validator_store.specs.Stores.{nothing}
-use Rattle.wasm_operator_validator_store.specs.worked.Program.{num, first_pair, some_cells, some_octets, scalar, own, giving, making, trapping, finding, throwing, in_place, LeadsFrom, Leads, returns, gc_then, bulk_then, control_then, memory_then, const_then, drop_then, unreachable}
+use Rattle.wasm_operator_validator_soundness.specs.runs.Values.{Value, ref_null, ref_i31}
+use Rattle.wasm_operator_validator_soundness.specs.runs.States.{Answer, State, returned, trapped, thrown}
+use Rattle.wasm_operator_validator_soundness.specs.runs.worked.Runs.{silent, deciding, standing, throw, tried, end, takes_i32}
+use Rattle.wasm_operator_validator_store.specs.Stores.{Store, nothing, memory_in}
+use Rattle.wasm_operator_validator_store.specs.Giving.{GivesStep}
+use Rattle.wasm_operator_validator_store.specs.worked.Program.{num, first_pair, some_cells, some_octets, scalar, own, giving, making, trapping, finding, throwing, program, store, numbers, in_place, LeadsFrom, Leads, returns, gc_then, bulk_then, control_then, memory_then, const_then, drop_then, unreachable}
 use Rattle.wasm_operator_validator_store.specs.worked.Rows.{handled}
+use Rattle.wasm_operator_validator_store.specs.worked.Memories.{at}
 
 -- ---- types of casts
 
@@ -55,6 +57,10 @@ first_number = const_then (pos 0) (gc_then (gc.ArrayGet 4) (gc_then gc.I31GetU e
 abbrev pub delegating : ℕ → Code
 delegating n = nested tried (nested tried (const_then (pos 6) (plain throw (close (op.Exception (op.Delegate n)))))
     (turn (op.Exception (op.Catch 0)) end)) end
+
+-- bytes of the first memory are discarded, so many as is on top, from the address below it on
+abbrev pub discarding : List Value → State
+discarding vs = standing numbers vs (bulk_then (bulk.MemoryDiscard 0) end)
 
 -- a host throws an exception of the first tag, with the number 6
 abbrev pub host_throws : ℕ → ℕ → Answer
@@ -162,8 +168,15 @@ pub record AccessesWorked : Type 0 where
       (returns 8)
   pub memory_copied : Leads (bulk_then (bulk.MemoryCopy 0 0) end) (num 1 ∷ num 0 ∷ num 2 ∷ num 3 ∷ []) (silent ∷ [])
       silent (returns 3)
-  pub memory_discarded : Leads (bulk_then (bulk.MemoryDiscard 0) end) (num 0 ∷ num 0 ∷ num 3 ∷ []) (silent ∷ []) silent
+  -- two bytes from the second on become zeros; past the end there is a trap alone
+  pub memory_discarded : Leads (bulk_then (bulk.MemoryDiscard 0) (memory_then (memory.I32Load (at 0 0)) end))
+      (num 2 ∷ num 1 ∷ num 0 ∷ []) (silent ∷ giving (num 4261412865 ∷ []) ∷ []) silent (returns 4261412865)
+  pub no_other_bytes : (u : Store) → GivesStep program (discarding (num 2 ∷ num 1 ∷ [])) store silent u
+      → memory_in u 0 ≡ 1 ∷ 0 ∷ 0 ∷ 254 ∷ 5 ∷ 6 ∷ 7 ∷ 128 ∷ []
+  pub discarded_last : Leads (bulk_then (bulk.MemoryDiscard 0) end) (num 2 ∷ num 6 ∷ num 3 ∷ []) (silent ∷ []) silent
       (returns 3)
+  pub discarded_past : (a : Answer) (u : Store) → GivesStep program (discarding (num 2 ∷ num 7 ∷ [])) store a u
+      → a.traps ≡ true
 
 pub record ArmsWorked : Type 0 where
   pub branches : BranchesWorked

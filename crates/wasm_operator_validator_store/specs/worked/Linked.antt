@@ -1,9 +1,10 @@
 -- A worked program that imports one global, one table and one memory twice, and the store that the host gives it. What the premises of the
 -- laws ask holds of both, so the laws are not about nothing. What is written by one index is read by the other, a function of the host is
--- called through a table and returns or traps, and the program's own global, table, memory, tag and segments are at new addresses.
+-- called through a table and returns or traps, and the program's own globals, table, memory, tag and segments are at new addresses.
 use Rattle.std.specs.Prelude.{◌≡◌, ◌+◌, ◌^◌, ℕ, ℤ, pos, true, false, List, [], ◌∷◌, Some, None}
 use Rattle.wasm_types.specs.trees.Types.{func, ref, abstract}
 use Rattle.wasm_types.specs.externs.declared.memory.MemoryType.{MemoryType}
+use Rattle.wasm_operators_enums.specs.declared.bulk.BulkOperator.TheVariants as bulk
 use Rattle.wasm_operators_enums.specs.declared.constant.ConstOperator.TheVariants as const
 use Rattle.wasm_operators_enums.specs.declared.control.ControlOperator.TheVariants as control
 use Rattle.wasm_operators_enums.specs.declared.memory.MemoryOperator.TheVariants as memory
@@ -17,12 +18,12 @@ use Rattle.wasm_operator_validator_soundness.specs.runs.Soundness.{step, IsValid
 use Rattle.wasm_operator_validator_soundness.specs.runs.worked.Caught.{gives_number, own, end}
 use Rattle.wasm_operator_validator_soundness.specs.runs.worked.Older.{gives_type, tag_type}
 use Rattle.wasm_operator_validator_soundness.specs.runs.worked.Runs.{silent}
-use Rattle.wasm_operator_validator_store.specs.Stores.{TableInstance, Store, integer_bits, memory_in}
+use Rattle.wasm_operator_validator_store.specs.Stores.{TableInstance, Store, integer_bits, global_in, table_in, memory_in}
 use Rattle.wasm_operator_validator_store.specs.ValidStores.{Knows, HasState, StoreFits}
 use Rattle.wasm_operator_validator_store.specs.Giving.{GivesStep}
 use Rattle.wasm_operator_validator_store.specs.Soundness.{StoreRuns, IsSoundOver}
 use Rattle.wasm_operator_validator_store.specs.Instantiation.{function_item, kept, written, Initials, AreInitials, imports_of, IsFirstStore}
-use Rattle.wasm_operator_validator_store.specs.worked.Program.{num, numbers, counter, callees, small_memory, small_bytes, memory_of, holds, giving, returns}
+use Rattle.wasm_operator_validator_store.specs.worked.Program.{num, numbers, counter, constant, callees, small_memory, small_bytes, memory_of, holds, giving, returns}
 
 -- ---- what the host gives: a number, a table of a function of its own and a null, and a memory of eight bytes
 
@@ -61,6 +62,16 @@ bits = 2 ^ 3 + 2 ^ 13 + 2 ^ 17 + 2 ^ 19 + 2 ^ 22 + 2 ^ 25
 abbrev pub one : Op
 one = op.Const (const.I32Const (pos 1))
 
+-- the global before, and a function of the program's own
+abbrev pub earlier : Op
+earlier = op.Memory (memory.GlobalGet 2)
+
+abbrev pub filler : Op
+filler = op.Bulk (bulk.RefFunc 2)
+
+abbrev pub second_own : Value
+second_own = ref_function (Some 2) gives_type
+
 -- with a constant of this number
 module _ (x : ℤ) where
   abbrev pub five : Op
@@ -84,18 +95,19 @@ module _ (x : ℤ) where
       functions = gives_type ∷ gives_type ∷ gives_type ∷ [];
       tables = callees ∷ callees ∷ callees ∷ [];
       memories = small_memory ∷ small_memory ∷ own_memory ∷ [];
-      globals = counter ∷ counter ∷ counter ∷ [];
+      globals = counter ∷ counter ∷ constant ∷ counter ∷ [];
       tags = tag_type ∷ tag_type ∷ [];
       elements = ref true (abstract false func) ∷ [];
       data_count = None;
-      referenced = [];
+      referenced = 2 ∷ [];
       exact_functions = [];
     };
     functions = record { type = gives_type; body = None } ∷ record { type = gives_type; body = Some writing }
         ∷ record { type = gives_type; body = Some calling } ∷ [];
   }
 
-  -- Its own global is that number. Its own table has two nulls, over the second of which the segment writes a function. One data segment is
+  -- Its first own global is that number, and the second one reads the first. Its own table has a function twice, by a constant, over the
+  -- second of which the segment writes another. One data segment is
   -- written over two bytes of the imported memory, by its second index, and one is kept.
   abbrev pub initials : Initials
   initials = record {
@@ -103,8 +115,8 @@ module _ (x : ℤ) where
     imported_tables = 2;
     imported_memories = 2;
     imported_tags = 1;
-    globals = plain five end ∷ [];
-    tables = record { size = 2; constant = None } ∷ [];
+    globals = plain five end ∷ plain earlier end ∷ [];
+    tables = record { size = 2; constant = Some (plain filler end) } ∷ [];
     segments = record { items = function_item 1 ∷ []; first_use = written 2 (plain one end) } ∷ [];
     data_segments = record { bytes = 9 ∷ 10 ∷ []; first_use = written 1 (plain one end) }
         ∷ record { bytes = 11 ∷ []; first_use = kept } ∷ [];
@@ -112,8 +124,8 @@ module _ (x : ℤ) where
 
   abbrev pub first : Store
   first = record {
-    globals = holds counter (num 0) ∷ holds counter five_bits ∷ [];
-    tables = callable ∷ record { type = callees; elements = ref_null false func ∷ ref_function (Some 1) gives_type ∷ [] } ∷ [];
+    globals = holds counter (num 0) ∷ holds constant five_bits ∷ holds counter five_bits ∷ [];
+    tables = callable ∷ record { type = callees; elements = second_own ∷ ref_function (Some 1) gives_type ∷ [] } ∷ [];
     memories = memory_of small_memory written_bytes ∷ memory_of own_memory (0 ∷ 0 ∷ []) ∷ [];
     segments = [] ∷ [];
     data_segments = [] ∷ (11 ∷ []) ∷ [];
@@ -121,7 +133,7 @@ module _ (x : ℤ) where
     exceptions = [];
     tags = tag_type ∷ tag_type ∷ [];
     externs = [];
-    addresses = record { globals = 0 ∷ 0 ∷ 1 ∷ []; tables = 0 ∷ 0 ∷ 1 ∷ []; memories = 0 ∷ 0 ∷ 1 ∷ []; tags = 0 ∷ 1 ∷ [] };
+    addresses = record { globals = 0 ∷ 0 ∷ 1 ∷ 2 ∷ []; tables = 0 ∷ 0 ∷ 1 ∷ []; memories = 0 ∷ 0 ∷ 1 ∷ []; tags = 0 ∷ 1 ∷ [] };
   }
 
   abbrev pub started : Body → State
@@ -146,6 +158,8 @@ module _ (x : ℤ) where
     pub first_store : IsFirstStore linked initials given first
     pub fits : StoreFits linked first
     pub bytes : memory_in first 0 ≡ written_bytes
+    pub own_global : global_in first 3 ≡ five_bits
+    pub own_table : table_in first 2 ≡ second_own ∷ ref_function (Some 1) gives_type ∷ []
     pub own_bytes : memory_in first 2 ≡ 0 ∷ 0 ∷ []
     pub writing_from : IsStarted linked (started writing) numbers
     pub calling_from : IsStarted linked (started calling) numbers

@@ -1,5 +1,5 @@
 -- Worked steps over a store: what is read from memories and data segments, what is written, and what is past their ends.
-use Rattle.std.specs.Prelude.{◌≡◌, ℕ, pos, true, false, [], ◌∷◌, Some, None}
+use Rattle.std.specs.Prelude.{◌≡◌, ℕ, pos, true, false, [], ◌∷◌, Some, None, is_some}
 use Rattle.wasm_types.specs.trees.Types.{number, i64, f32, f64, v128}
 use Rattle.wasm_operators_immediates.specs.declared.memory.MemArg.{MemArg}
 use Rattle.wasm_operators_immediates.specs.declared.memory.MemArgTarget.TheVariants as target
@@ -12,7 +12,7 @@ use Rattle.wasm_operators_encoding.specs.expressions.Code.{plain}
 use Rattle.wasm_operator_validator_soundness.specs.runs.Values.{number_value}
 use Rattle.wasm_operator_validator_soundness.specs.runs.States.{returned, trapped}
 use Rattle.wasm_operator_validator_soundness.specs.runs.worked.Runs.{silent, standing, end}
-use Rattle.wasm_operator_validator_store.specs.Stores.{Store, page_of, most_pages, pages_held, grown}
+use Rattle.wasm_operator_validator_store.specs.Stores.{Store, page_of, most_pages, most_grown, pages_held, grown}
 use Rattle.wasm_operator_validator_store.specs.Giving.{GivesStep}
 use Rattle.wasm_operator_validator_store.specs.Determined.{step_is_determined}
 use Rattle.wasm_operator_validator_store.specs.Traps.{step_traps}
@@ -136,6 +136,10 @@ pub record SharedWorked : Type 0 where
   pub too_many_pages : grown (Some (memory_of (record small_memory { page_size_log2 = Some 1 }) (1 ∷ 2 ∷ []))) 10 ≡ None
   pub most : most_pages (record empty_memory { maximum = None }) ≡ 65536
   pub most_bytes : most_pages (record empty_memory { maximum = None; page_size_log2 = Some 0 }) ≡ 0x1_0000_0000
+  pub most_told : most_grown (record empty_memory { maximum = None; page_size_log2 = Some 0 }) ≡ 0xffff_ffff
+  pub most_told_pages : most_grown (record empty_memory { maximum = None }) ≡ 65536
+  pub grown_so_far : is_some (grown (Some (memory_of (record small_memory { maximum = None }) small_bytes)) 0xffff_fff7) ≡ true
+  pub no_further : grown (Some (memory_of (record small_memory { maximum = None }) small_bytes)) 0xffff_fff8 ≡ None
   pub most_wide : most_pages (record empty_memory { maximum = None; memory64 = true; page_size_log2 = Some 0 }) ≡ 0xffff_ffff_ffff_ffff
   pub not_this : (u : Store) → GivesStep program (standing numbers (num 2 ∷ []) (memory_then (memory.I32Load8S (at 0 0)) end)) store (giving (num 253 ∷ [])) u → ⊥
   pub not_grown_past : (u : Store) → GivesStep program (standing numbers (num 3 ∷ []) (memory_then (memory.MemoryGrow 0) end)) store (giving (num 8 ∷ [])) u → ⊥

@@ -26,6 +26,7 @@ use Rattle.wasm_operator_validator_store.specs.Stores.{Store, nothing, segment_i
 use Rattle.wasm_operator_validator_store.specs.Giving.{GivesStep}
 use Rattle.wasm_operator_validator_store.specs.Determined.{step_is_determined}
 use Rattle.wasm_operator_validator_store.specs.Traps.{step_traps}
+use Rattle.wasm_operator_validator_store.specs.Exact.{step_is_exact}
 use Rattle.wasm_operator_validator_store.specs.Instantiation.{dropped, IsUsed}
 use Rattle.wasm_operator_validator_store.specs.worked.Program.{num, first_pair, some_cells, some_octets, scalar, own, giving, making, trapping, throwing, program, store, numbers, in_place, LeadsFrom, Leads, returns, gc_then, bulk_then, control_then, memory_then, const_then, drop_then, unreachable}
 use Rattle.wasm_operator_validator_store.specs.worked.Arms.{any_reference, scalars, scalars_alone, references}
@@ -320,6 +321,15 @@ pub record TablesWorked : Type 0 where
   pub grown_with_it : Leads (bulk_then (bulk.TableGrow 0) (drop_then (bulk_then (bulk.TableGet 0) (bulk_then
       bulk.RefIsNull end)))) (num 1 ∷ own ∷ num 2 ∷ []) (giving (num 2 ∷ []) ∷ silent ∷ giving (own ∷ []) ∷ making 0 ∷
       []) silent (returns 0)
+  -- as far as its size is a number of 32 bits, or of 64
+  pub grown_so_far : Leads (bulk_then (bulk.TableGrow 0) end) (num 0xffff_fffd ∷ own ∷ []) (giving (num 2 ∷ []) ∷ [])
+      silent (returns 2)
+  pub no_further : (u : Store) → GivesStep program (standing numbers (num 0xffff_fffe ∷ own ∷ []) (bulk_then
+      (bulk.TableGrow 0) end)) store (giving (num 2 ∷ [])) u → ⊥
+  pub wide_grown_so_far : LeadsFrom (in_place (number i64 ∷ []) (number_value i64 0xffff_ffff_ffff_fffc ∷ own ∷ [])
+      (bulk_then (bulk.TableGrow 1) end)) (giving (number_value i64 3 ∷ []) ∷ []) silent (returned (number_value i64 3 ∷ []))
+  pub wide_no_further : (u : Store) → GivesStep program (in_place (number i64 ∷ []) (number_value i64
+      0xffff_ffff_ffff_fffd ∷ own ∷ []) (bulk_then (bulk.TableGrow 1) end)) store (giving (number_value i64 3 ∷ [])) u → ⊥
   pub immutable : (step program (standing numbers (num 1 ∷ []) (memory_then (memory.GlobalSet 1) end)) silent).needs → ⊥
   pub declared : (u : Store) → IsUsed program 0 dropped store u → segment_in u 0 ≡ []
 
@@ -400,6 +410,14 @@ pub record TrapsWorked : Type 0 where
       false
   pub null_reference : step_traps program (standing numbers (nothing ∷ []) (control_then (control.CallRef 0) end)) store
       ≡ true
+  -- null does trap; a function of the host may
+  pub null_exact : step_is_exact program (standing numbers (nothing ∷ []) (control_then (control.CallRef 0) end)) ≡ true
+  pub null_tail_exact : step_is_exact program (standing numbers (nothing ∷ []) (control_then (control.ReturnCallRef 0)
+      end)) ≡ true
+  pub function_inexact : step_is_exact program (standing numbers (own ∷ []) (control_then (control.CallRef 0) end)) ≡
+      false
+  pub throw_exact : step_is_exact program (standing numbers (ref_null false exn ∷ []) (plain (op.Exception op.ThrowRef)
+      end)) ≡ true
   pub null_thrown : step_traps program (standing numbers (ref_null false exn ∷ []) (plain (op.Exception op.ThrowRef)
       end)) store ≡ true
   pub exception_thrown : step_traps program (standing numbers (ref_exn 0 takes_i32 ∷ []) (plain (op.Exception
