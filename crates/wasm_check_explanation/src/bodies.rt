@@ -382,11 +382,18 @@ pub(crate) fn find_overfull(judged: Judged<'_>) -> Result<Option<u64>, AllocErro
     requires within { IsWithinCeilings judged.limits }
 {
     let mut validator = new_validator(judged);
+    overfull_by(judged, &mut validator)
+}
+
+/// The same, by a validator that was told of nothing yet. (It is lent, since the prover goes over all that it owns at each way out.)
+fn overfull_by(judged: Judged<'_>, validator: &mut Validator) -> Result<Option<u64>, AllocError>
+    requires within { IsWithinCeilings judged.limits }
+{
     for payload in payloads(judged) {
         let Ok(payload) = payload else {
             return Ok(None);
         };
-        if let Some(start) = take_overfull(judged, &mut validator, payload)? {
+        if let Some(start) = take_overfull(judged, validator, payload)? {
             return Ok(Some(start));
         }
     }
@@ -400,11 +407,23 @@ pub(crate) fn find_in_body(judged: Judged<'_>, offset: u64) -> Result<Option<Kno
     ensures { IfOk result (λ r. IfSome r (λ k. BeginsBy offset k.inside.operator)) }
 {
     let mut validator = new_validator(judged);
+    body_by(judged, &mut validator, offset)
+}
+
+/// The same, by a validator that was told of nothing yet.
+fn body_by(
+    judged: Judged<'_>,
+    validator: &mut Validator,
+    offset: u64,
+) -> Result<Option<KnownBody>, AllocError>
+    requires within { IsWithinCeilings judged.limits }
+    ensures { IfOk result (λ r. IfSome r (λ k. BeginsBy offset k.inside.operator)) }
+{
     for payload in payloads(judged) {
         let Ok(payload) = payload else {
             return Ok(None);
         };
-        if let Some(known) = take_payload(judged, &mut validator, payload, offset)? {
+        if let Some(known) = take_payload(judged, validator, payload, offset)? {
             return Ok(Some(known));
         }
     }
