@@ -133,17 +133,20 @@ impl ModuleInPieces {
             → TellsModule z id self.most got result }
         ensures stays { IfSome self.refused (λ e. result ≡ Err e) }
     {
-        let ModuleInPieces {
-            mut judging,
-            pending,
-            most: _,
-            came: _,
-            refused,
-            alloc: _,
-        } = self;
-        match refused {
+        let mut module = self;
+        module.verdict()
+    }
+
+    /// The verdict, if no bytes follow those that came.
+    fn verdict(&mut self) -> Result<Types, PieceError>
+        requires { IsUnderWay self.old }
+        ensures told { (z : Settings) (id : ValidatorId) (got : List ℕ) → Came z id got self.old → length got < 2 ^ 64
+            → TellsModule z id self.old.most got result }
+        ensures stays { IfSome self.old.refused (λ e. result ≡ Err e) }
+    {
+        match self.refused.take() {
             Some(error) => Err(error),
-            None => match conclude(&mut judging, pending.bytes.as_slice()) {
+            None => match conclude(&mut self.judging, self.pending.bytes.as_slice()) {
                 Ok(types) => Ok(types),
                 Err(error) => Err(PieceError::Refused(error)),
             },
