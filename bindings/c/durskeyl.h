@@ -8,12 +8,15 @@
  * and its memory answer; docs/SOUNDNESS.md says which checks a compiler may leave out. durskeyl_is_valid answers 1 only if durskeyl_validate may answer DURSKEYL_VALID by the settings by default,
  * and else 0. durskeyl_imports and durskeyl_exports, of bytes that durskeyl_validate accepted by whatever settings: how
  * many there are, and in each row the names, the kind and the index that the module has, in its order; of any other bytes, that the names of
- * all rows that were written lie in the bytes, unless the answer is DURSKEYL_NO_MODULE. Of a module whose pieces are handed over:
+ * all rows that were written lie in the bytes, unless the answer is DURSKEYL_NO_MODULE. durskeyl_start, of such bytes: the start
+ * function that the module has. durskeyl_validate_types answers what durskeyl_validate is proved to answer, and keeps types of a module that it
+ * accepted, and of no other; of these durskeyl_entities, durskeyl_type_ids, durskeyl_types and durskeyl_type_values tell how many rows there are and
+ * each number of a row, and write no other row. Of a module whose pieces are handed over:
  * durskeyl_take answers DURSKEYL_VALID only if each whole item that came was judged and none is refused; a kind that is a
  * verdict only if no module that begins with these bytes is valid; DURSKEYL_TOO_LONG only if a section or body of them, without the contents of
  * a custom section, has more bytes than the cap, or there are 2^64 of them; and a refusal of bytes stays. durskeyl_end answers of all pieces that were taken what durskeyl_validate
  * is proved to answer of whole bytes, or DURSKEYL_TOO_LONG, as durskeyl_take does. Between calls no more bytes are held than the cap says. All
- * calls end on all bytes, read only what they are given, and write only the fault, the rows or the handle. Except for the four calls on a handle
+ * calls end on all bytes, read only what they are given, and write only the fault, the rows or the handle. Except for the calls on a handle
  * no call depends on an earlier one, keeps anything, or leaves anything to free.
  * NOT PROVED: which of several faults is told, its kind, offset, text and limit; time, memory and stack; that the system refused, if the answer is
  *   DURSKEYL_OUT_OF_MEMORY; this header; the calls on words, and those that give text; the kit's functions of memory; the C library. The file PROVED, which is installed beside LICENSE, says whether the archive was built by the
@@ -24,8 +27,8 @@
  *     read during the whole call (a length above PTRDIFF_MAX is refused, and nothing is read). Nobody writes them meanwhile: no other thread,
  *     and no process, so no file mapped as shared.
  *   - the fault overlaps neither the bytes nor the settings. rows are so many, apart from the bytes, and aligned; null only with capacity 0.
- *   - a durskeyl_pieces is all 0 before the first call that takes it, is written by these calls alone, and is not copied: of two copies one
- *     call leaves the other with memory that is gone. It overlaps nothing that a call takes besides. One thread at a time uses it; each call may
+ *   - a durskeyl_pieces or a durskeyl_module is all 0 before the first call that takes it, is written by these calls alone, and is not copied:
+ *     of two copies one call leaves the other with memory that is gone. It overlaps nothing that a call takes besides. One thread at a time uses it; each call may
  *     come from another thread, if that one sees what the one before has written, as after a lock or a join.
  *   - malloc, realloc and free belong together and align to 16; there are 128 KiB of stack, for the library and what the C library
  *     takes of it in these three; no call comes from a signal handler, nor after fork in the child of a process with threads, before exec.
@@ -214,6 +217,102 @@ typedef struct {
     uint32_t later;               /* kept for later: 0 */
 } durskeyl_export;
 
+/* The types of a module that was accepted: what the library keeps of it, between durskeyl_validate_types and durskeyl_release. It holds no byte of
+ * the module. */
+typedef struct {
+    void *inside;                 /* the library's */
+    uint64_t known;               /* 1 if types are kept, else 0 */
+} durskeyl_module;
+
+/* A handle with no types, as each handle is at first: durskeyl_module module = DURSKEYL_NO_TYPES; */
+#define DURSKEYL_NO_TYPES {0, 0}
+
+/* No type, in the place of an id: each id is smaller. */
+#define DURSKEYL_NO_TYPE UINT32_MAX
+
+/* What the type of a value is, or what a field stores. */
+enum durskeyl_value_kind {
+    DURSKEYL_I32 = 0,
+    DURSKEYL_I64 = 1,
+    DURSKEYL_F32 = 2,
+    DURSKEYL_F64 = 3,
+    DURSKEYL_V128 = 4,
+    DURSKEYL_REFERENCE = 5,
+    DURSKEYL_I8 = 6,              /* of a field alone */
+    DURSKEYL_I16 = 7              /* of a field alone */
+};
+
+/* What a reference refers to. */
+enum durskeyl_heap {
+    DURSKEYL_HEAP_FUNC = 0,
+    DURSKEYL_HEAP_EXTERN = 1,
+    DURSKEYL_HEAP_ANY = 2,
+    DURSKEYL_HEAP_NONE = 3,
+    DURSKEYL_HEAP_NOEXTERN = 4,
+    DURSKEYL_HEAP_NOFUNC = 5,
+    DURSKEYL_HEAP_EQ = 6,
+    DURSKEYL_HEAP_STRUCT = 7,
+    DURSKEYL_HEAP_ARRAY = 8,
+    DURSKEYL_HEAP_I31 = 9,
+    DURSKEYL_HEAP_EXN = 10,
+    DURSKEYL_HEAP_NOEXN = 11,
+    DURSKEYL_HEAP_CONT = 12,
+    DURSKEYL_HEAP_NOCONT = 13,
+    DURSKEYL_HEAP_DEFINED = 14    /* the type of the id */
+};
+
+/* What holds of a type, as bits of flags. A bit that is not named here is 0 today; do not rest on that. */
+enum durskeyl_flag {
+    DURSKEYL_MUTABLE = 1,         /* a global or a field may be written */
+    DURSKEYL_NULLABLE = 2,        /* a reference may be null */
+    DURSKEYL_SHARED = 4,          /* between threads */
+    DURSKEYL_EXACT = 8,           /* of exactly that type, and of none below it */
+    DURSKEYL_BITS_64 = 16,        /* a table or a memory has addresses of 64 bits */
+    DURSKEYL_HAS_MAXIMUM = 32,    /* a table or a memory has one */
+    DURSKEYL_HAS_PAGE_SIZE = 64,  /* the size of a memory's page is written in the module */
+    DURSKEYL_FINAL = 128          /* a type has none below it */
+};
+
+/* The type of a value, or of what a field stores. */
+typedef struct {
+    uint32_t kind;                /* an enum durskeyl_value_kind */
+    uint32_t flags;               /* of a reference NULLABLE, SHARED, EXACT; of a field MUTABLE too */
+    uint32_t heap;                /* of a reference an enum durskeyl_heap, else 0 */
+    uint32_t id;                  /* if heap is DURSKEYL_HEAP_DEFINED the type's id, else DURSKEYL_NO_TYPE */
+} durskeyl_value;
+
+/* The type of a function, table, memory, global or tag. */
+typedef struct {
+    uint32_t kind;                /* an enum durskeyl_external */
+    uint32_t flags;               /* EXACT, MUTABLE, SHARED, BITS_64, HAS_MAXIMUM, HAS_PAGE_SIZE */
+    uint32_t id;                  /* of a function or a tag that of its type, else DURSKEYL_NO_TYPE */
+    uint32_t page_size_log2;      /* of a memory: 16 if none is written; else 0 */
+    durskeyl_value value;         /* of a table what its elements are; of a global what it holds */
+    uint64_t minimum;             /* of a table in elements, of a memory in pages */
+    uint64_t maximum;             /* if it has one, else 0 */
+} durskeyl_entity;
+
+enum durskeyl_type_kind {
+    DURSKEYL_TYPE_FUNCTION = 0,
+    DURSKEYL_TYPE_STRUCT = 1,
+    DURSKEYL_TYPE_ARRAY = 2,
+    DURSKEYL_TYPE_CONTINUATION = 3
+};
+
+/* A defined type. */
+typedef struct {
+    uint32_t kind;                /* an enum durskeyl_type_kind */
+    uint32_t flags;               /* FINAL, SHARED */
+    uint32_t supertype;           /* the id of the one that it declares, or DURSKEYL_NO_TYPE */
+    uint32_t group_first;         /* the id of the first type of its recursion group, whose ids follow one another */
+    uint32_t group_count;         /* how many types the group has */
+    uint32_t values;              /* how many durskeyl_type_values has: parameters and results, fields, 1 of an array, 0 of a continuation */
+    uint32_t params;              /* how many of these are parameters */
+    uint32_t function;            /* of a continuation the id of its function type, else DURSKEYL_NO_TYPE */
+    uint32_t descriptor;          /* the id of the type that describes it, or DURSKEYL_NO_TYPE */
+    uint32_t describes;           /* the id of the type that it describes, or DURSKEYL_NO_TYPE */
+} durskeyl_type;
+
 /* Never the answer of durskeyl_imports or durskeyl_exports for a module that was accepted. The rows may hold anything then. */
 #define DURSKEYL_NO_MODULE UINT64_MAX
 
@@ -265,6 +364,34 @@ void durskeyl_drop(durskeyl_pieces *pieces);
  * capacity. With capacity 0 it only counts. Of other bytes the answer and the rows mean nothing. */
 uint64_t durskeyl_imports(const uint8_t *bytes, size_t length, durskeyl_import *rows, size_t capacity);
 uint64_t durskeyl_exports(const uint8_t *bytes, size_t length, durskeyl_export *rows, size_t capacity);
+
+/* The types of a module. durskeyl_validate_types answers what durskeyl_validate does, with the same fault, and keeps the types of a module that is
+ * accepted in the handle; if the answer is another than DURSKEYL_VALID the handle has none. What it had before is given back in any case. Its
+ * caller gives it back by durskeyl_release, which does nothing with a handle that has none. */
+uint32_t durskeyl_validate_types(const durskeyl_settings *settings, const uint8_t *bytes, size_t length, durskeyl_module *module,
+                                 durskeyl_fault *fault);
+void durskeyl_release(durskeyl_module *module);
+
+/* Each of these fills rows of the caller, from `first` on, as many as capacity, and answers how many there are in all; DURSKEYL_NO_MODULE if the
+ * handle has no types, or there is no such kind or id. Rows past the last are left as they are. With capacity 0 it only counts. */
+
+/* The functions, tables, memories, globals or tags (kind is an enum durskeyl_external), the imported ones first: the index of a durskeyl_import or
+ * a durskeyl_export among those of its kind is the index here. */
+uint64_t durskeyl_entities(durskeyl_module *module, uint32_t kind, uint32_t first, durskeyl_entity *rows, size_t capacity);
+
+/* The ids of the module's types, by their indices. Two types with one id are the same. Two with different ids differ, if the features have
+ * DURSKEYL_FUNCTION_REFERENCES, DURSKEYL_GC, DURSKEYL_STACK_SWITCHING or DURSKEYL_CUSTOM_DESCRIPTORS; else each type has an id of its own. */
+uint64_t durskeyl_type_ids(durskeyl_module *module, uint32_t first, uint32_t *ids, size_t capacity);
+
+/* The types by their ids, which begin with 0. */
+uint64_t durskeyl_types(durskeyl_module *module, uint32_t first, durskeyl_type *rows, size_t capacity);
+
+/* What the type of an id is made of, from the first on: of a function its parameters and then its results, of a struct its fields, of an array
+ * its element. */
+uint64_t durskeyl_type_values(durskeyl_module *module, uint32_t id, durskeyl_value *rows, size_t capacity);
+
+/* Of bytes that were accepted: the index of the start function, or DURSKEYL_NO_MODULE if the module has none. */
+uint64_t durskeyl_start(const uint8_t *bytes, size_t length);
 
 /* Words. They are those of wasm-check, and `vectors` for DURSKEYL_VECTORS. Texts end in a 0; those that are answered stay. */
 

@@ -5,6 +5,7 @@ import (
 	"errors"
 	"fmt"
 	"io"
+	"reflect"
 	"runtime"
 	"strings"
 	"sync"
@@ -312,5 +313,44 @@ func TestBadSettingsAreNamed(t *testing.T) {
 				t.Errorf("%v in the place of %s", err, said)
 			}
 		}
+	}
+}
+
+// A struct and an array in one group, a function type twice, and one of nothing; an imported function, and one of its own, which starts; a table, a
+// memory, a tag and a global.
+const typed = "\x00asm\x01\x00\x00\x00\x01\x1f\x04\x4e\x02\x5f\x02\x78\x01\x63\x01\x00\x5e\x64\x00\x00" +
+	"\x60\x02\x7f\x64\x00\x01\x7c\x60\x02\x7f\x64\x00\x01\x7c\x60\x00\x00" +
+	"\x02\x07\x01\x01a\x01f\x00\x03\x03\x02\x01\x04\x04\x05\x01\x70\x01\x01\x02\x05\x03\x01\x00\x01" +
+	"\x0d\x03\x01\x00\x04\x06\x06\x01\x7e\x01\x42\x00\x0b\x08\x01\x01\x0a\x04\x01\x02\x00\x0b"
+
+func TestTypes(t *testing.T) {
+	types, err := ModuleTypes([]byte(typed))
+	if err != nil || types.Start != 1 || !reflect.DeepEqual(types.IDs, []uint32{0, 1, 2, 2, 3}) {
+		t.Fatal(types, err)
+	}
+	fields := []Value{{Kind: I8, ID: NoType, Mutable: true}, {Kind: Reference, Heap: Defined, ID: 1, Nullable: true}}
+	if it := types.Types[0]; it.Kind != StructType || !reflect.DeepEqual(it.Fields, fields) || it.GroupFirst != 0 || it.GroupCount != 2 {
+		t.Error(it)
+	}
+	params := []Value{{Kind: I32, ID: NoType}, {Kind: Reference, Heap: Defined, ID: 0}}
+	if it := types.Types[2]; !reflect.DeepEqual(it.Params, params) || len(it.Results) != 1 || it.Results[0].Kind != F64 || it.Supertype != NoType {
+		t.Error(it)
+	}
+	if types.Functions[0].ID != 2 || types.Functions[1].ID != 3 || types.Of(Tag, 0).ID != 3 {
+		t.Error(types.Functions, types.Tags)
+	}
+	if it := types.Tables[0]; it.Minimum != 1 || !it.HasMaximum || it.Maximum != 2 || it.Value.Heap != HeapFunc || !it.Value.Nullable {
+		t.Error(it)
+	}
+	if types.Memories[0].HasMaximum || !types.Globals[0].Mutable || types.Globals[0].Value.Kind != I64 {
+		t.Error(types.Memories, types.Globals)
+	}
+	none, err := ModuleTypes(header)
+	if err != nil || none.Start != -1 || len(none.Types) != 0 || none.IDs != nil {
+		t.Error(none, err)
+	}
+	_, told := ModuleTypes([]byte(typed[:60]))
+	if wanted := Validate([]byte(typed[:60])); told == nil || told.Error() != wanted.Error() {
+		t.Error(told, wanted)
 	}
 }

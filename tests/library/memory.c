@@ -1,4 +1,4 @@
-// Refuses each allocation of a validation in turn, of whole bytes and in pieces, and all that come after it, until one meets no refusal. The
+// Refuses each allocation of a validation in turn, of whole bytes, in pieces and with the types kept, and all that come after it, until one meets no refusal. The
 // answer is "out of memory", or that of a validation with ample memory, since a type's ancestors are looked for one by one if there is no
 // memory to keep them.
 // It is linked with the archive of proved code alone, whose three functions of memory are defined here. usage: memory FILE..
@@ -51,6 +51,16 @@ static uint32_t by_pieces(const durskeyl_settings *settings, const uint8_t *byte
     return kind;
 }
 
+// The verdict of a call that keeps the types, which are given back.
+static uint32_t with_types(const durskeyl_settings *settings, const uint8_t *bytes, size_t length, durskeyl_fault *fault) {
+    durskeyl_module module = DURSKEYL_NO_TYPES;
+    uint32_t kind = durskeyl_validate_types(settings, bytes, length, &module, fault);
+    if (module.known != (kind == DURSKEYL_VALID))
+        return DURSKEYL_FAILED;
+    durskeyl_release(&module);
+    return kind;
+}
+
 typedef uint32_t judge(const durskeyl_settings *settings, const uint8_t *bytes, size_t length, durskeyl_fault *fault);
 
 static long tried, without;
@@ -100,6 +110,7 @@ int main(int count, char **words) {
             return 1;
         }
         if (!refused_in_turn(words[i], durskeyl_validate, &settings, bytes, length, wanted)
+            || !refused_in_turn(words[i], with_types, &settings, bytes, length, wanted)
             || !refused_in_turn(words[i], by_pieces, &settings, bytes, length, in_pieces))
             return 1;
     }

@@ -5,6 +5,7 @@
     durskeyl.validate(data)                       # None, or raises InvalidModule with offset, kind and message
     durskeyl.is_valid(data)                       # True or False
     for it in durskeyl.imports(data): print(it.module, it.name)
+    types = durskeyl.types(data)                  # of its functions, tables, memories, globals and tags
     with durskeyl.Validator() as validator:       # a module that comes in pieces
         for piece in pieces: validator.feed(piece)
         validator.finish()                        # None, or raises InvalidModule
@@ -29,8 +30,9 @@ from typing import Any, NamedTuple, Optional, Union
 
 __version__ = "0.2.0"
 __all__ = [
-    "ENGINES", "Export", "External", "Features", "Import", "InvalidModule", "Kind", "LIMITS", "MOST_HELD", "TooLong", "Validator", "exports",
-    "imports", "is_proved", "is_valid", "named_features", "parse_features", "shown", "validate", "version", "version_text",
+    "ENGINES", "Entity", "Export", "External", "Features", "Import", "InvalidModule", "Kind", "LIMITS", "MOST_HELD", "TooLong", "Type", "Types",
+    "Validator", "ValueType", "exports", "imports", "is_proved", "is_valid", "named_features", "parse_features", "shown", "types", "validate", "version",
+    "version_text",
 ]
 #: how many bytes a Validator holds at most between two pieces, unless it is told otherwise: more than a function's body may have
 MOST_HELD = 16 << 20
@@ -179,6 +181,28 @@ class _Pieces(ctypes.Structure):
     _fields_ = [("inside", ctypes.c_void_p), ("begun", ctypes.c_uint64)]
 
 
+class _Module(ctypes.Structure):
+    _fields_ = [("inside", ctypes.c_void_p), ("known", ctypes.c_uint64)]
+
+
+class _ValueRow(ctypes.Structure):
+    _fields_ = [(name, ctypes.c_uint32) for name in ("kind", "flags", "heap", "id")]
+
+
+class _EntityRow(ctypes.Structure):
+    _fields_ = [
+        *((name, ctypes.c_uint32) for name in ("kind", "flags", "id", "page_size_log2")),
+        ("value", _ValueRow), ("minimum", ctypes.c_uint64), ("maximum", ctypes.c_uint64),
+    ]
+
+
+class _TypeRow(ctypes.Structure):
+    _fields_ = [
+        (name, ctypes.c_uint32)
+        for name in ("kind", "flags", "supertype", "group_first", "group_count", "values", "params", "function", "descriptor", "describes")
+    ]
+
+
 class _ImportRow(ctypes.Structure):
     _fields_ = [("module_offset", ctypes.c_uint64), ("name_offset", ctypes.c_uint64), ("module_length", ctypes.c_uint32), ("name_length", ctypes.c_uint32)]
     _fields_ += [("kind", ctypes.c_uint32), ("index", ctypes.c_uint32)]
@@ -204,7 +228,7 @@ def _open() -> ctypes.CDLL:
 
 def _load() -> ctypes.CDLL:
     library, number, count = _open(), ctypes.c_uint32, ctypes.c_size_t
-    settings, fault, pieces = ctypes.POINTER(_Settings), ctypes.POINTER(_Fault), ctypes.POINTER(_Pieces)
+    settings, fault, pieces, module = map(ctypes.POINTER, (_Settings, _Fault, _Pieces, _Module))
     library.durskeyl_version.argtypes, library.durskeyl_version.restype = [], number
     library.durskeyl_version_text.argtypes, library.durskeyl_version_text.restype = [], ctypes.c_char_p
     found = library.durskeyl_version()
@@ -224,6 +248,13 @@ def _load() -> ctypes.CDLL:
         "drop": ([pieces], None),
         "imports": ([ctypes.c_char_p, count, ctypes.POINTER(_ImportRow), count], ctypes.c_uint64),
         "exports": ([ctypes.c_char_p, count, ctypes.POINTER(_ExportRow), count], ctypes.c_uint64),
+        "validate_types": ([settings, ctypes.c_char_p, count, module, fault], number),
+        "release": ([module], None),
+        "entities": ([module, number, number, ctypes.POINTER(_EntityRow), count], ctypes.c_uint64),
+        "type_ids": ([module, number, ctypes.POINTER(number), count], ctypes.c_uint64),
+        "types": ([module, number, ctypes.POINTER(_TypeRow), count], ctypes.c_uint64),
+        "type_values": ([module, number, ctypes.POINTER(_ValueRow), count], ctypes.c_uint64),
+        "start": ([ctypes.c_char_p, count], ctypes.c_uint64),
     }
     for name, (words, answer) in calls.items():
         call = getattr(library, f"durskeyl_{name}")
@@ -507,3 +538,121 @@ def exports(data: Buffer, *, features: Chosen = None, limits: Optional[Mapping[s
     validate(data, features=features, limits=limits)
     rows = _rows(_library.durskeyl_exports, _ExportRow, data)
     return [Export(_name(data, it.name_offset, it.name_length), External(it.kind), it.index) for it in rows]
+
+
+_VALUES = ["i32", "i64", "f32", "f64", "v128", "ref", "i8", "i16"]
+_HEAPS = "func extern any none noextern nofunc eq struct array i31 exn noexn cont nocont".split()
+_MUTABLE, _NULLABLE, _SHARED, _EXACT, _BITS_64, _HAS_MAXIMUM, _HAS_PAGE_SIZE, _FINAL = (1 << it for it in range(8))
+_NO_TYPE = 2**32 - 1
+
+
+class ValueType(NamedTuple):
+    """The type of a value, or of what a field stores: a number or a vector by its name, or "ref" with what it refers to, a name or an id."""
+
+    kind: str
+    heap: Union[str, int, None] = None
+    nullable: bool = False
+    shared: bool = False
+    exact: bool = False
+    mutable: bool = False
+
+
+class Type(NamedTuple):
+    """A defined type: kind is "func", "struct", "array" or "cont". supertype, function, descriptor and describes are ids; group has those of its
+    recursion group. Equal ids are equal types, and equal types have equal ids if the features have function references or garbage collection."""
+
+    kind: str
+    params: tuple[ValueType, ...]
+    results: tuple[ValueType, ...]
+    fields: tuple[ValueType, ...]
+    final: bool
+    shared: bool
+    supertype: Optional[int]
+    group: range
+    function: Optional[int]
+    descriptor: Optional[int]
+    describes: Optional[int]
+
+
+class Entity(NamedTuple):
+    """The type of a function or a tag, by the id of its type; of a table or a memory with its limits; of a global."""
+
+    kind: External
+    id: Optional[int]
+    value: Optional[ValueType]
+    minimum: int
+    maximum: Optional[int]
+    mutable: bool
+    shared: bool
+    exact: bool
+    is_64: bool
+    page_size_log2: Optional[int]
+
+
+class Types(NamedTuple):
+    """The types of an accepted module: those that differ by their ids, the ids of the module's own by their indices, and what it has of each kind, imports
+    first. start is the index of the start function."""
+
+    types: list[Type]
+    ids: list[int]
+    functions: list[Entity]
+    tables: list[Entity]
+    memories: list[Entity]
+    globals: list[Entity]
+    tags: list[Entity]
+    start: Optional[int]
+
+    def of(self, it: Union[Import, Export]) -> Entity:
+        """The type of an import or an export."""
+        return [self.functions, self.tables, self.memories, self.globals, self.tags][it.kind][it.index]
+
+
+def _value(row: _ValueRow) -> ValueType:
+    heap = None if row.kind != 5 else _HEAPS[row.heap] if row.heap < len(_HEAPS) else row.id
+    bits = row.flags
+    return ValueType(_VALUES[row.kind], heap, bool(bits & _NULLABLE), bool(bits & _SHARED), bool(bits & _EXACT), bool(bits & _MUTABLE))
+
+
+def _told_rows(row: Any, call: Any, *words: Any) -> Any:
+    """All rows of a call, which answers how many there are."""
+    found = (row * call(*words, None, 0))()
+    call(*words, found, len(found))
+    return found
+
+
+def _some(id: int) -> Optional[int]:
+    return None if id == _NO_TYPE else id
+
+
+def _type(module: _Module, id: int, row: _TypeRow) -> Type:
+    values = tuple(map(_value, _told_rows(_ValueRow, _library.durskeyl_type_values, module, id)))
+    kind = ["func", "struct", "array", "cont"][row.kind]
+    params, results, fields = (values[: row.params], values[row.params :], ()) if kind == "func" else ((), (), values)
+    group = range(row.group_first, row.group_first + row.group_count)
+    ids = map(_some, (row.function, row.descriptor, row.describes))
+    return Type(kind, params, results, fields, bool(row.flags & _FINAL), bool(row.flags & _SHARED), _some(row.supertype), group, *ids)
+
+
+def _entity(row: _EntityRow) -> Entity:
+    bits, has_value = row.flags, row.kind in (External.TABLE, External.GLOBAL)
+    return Entity(
+        External(row.kind), _some(row.id), _value(row.value) if has_value else None, row.minimum, row.maximum if bits & _HAS_MAXIMUM else None,
+        bool(bits & _MUTABLE), bool(bits & _SHARED), bool(bits & _EXACT), bool(bits & _BITS_64), row.page_size_log2 if bits & _HAS_PAGE_SIZE else None,
+    )
+
+
+def types(data: Buffer, *, features: Chosen = None, limits: Optional[Mapping[str, int]] = None) -> Types:
+    """The types of a module. It is validated first, and raises what validate() does."""
+    data, settings, module, fault = _bytes(data), _settings(features, limits), _Module(), _Fault()
+    try:
+        refusal = _answer(_library.durskeyl_validate_types(settings, data, len(data), module, fault), fault, settings)
+        if refusal is not None:
+            raise refusal
+        found = [_type(module, id, row) for id, row in enumerate(_told_rows(_TypeRow, _library.durskeyl_types, module, 0))]
+        ids = list(_told_rows(ctypes.c_uint32, _library.durskeyl_type_ids, module, 0))
+        spaces = [[_entity(it) for it in _told_rows(_EntityRow, _library.durskeyl_entities, module, kind, 0)] for kind in External]
+    finally:
+        _library.durskeyl_release(module)
+    start = _library.durskeyl_start(data, len(data))
+    functions, tables, memories, globals_, tags = spaces
+    return Types(found, ids, functions, tables, memories, globals_, tags, None if start == _NO_MODULE else start)

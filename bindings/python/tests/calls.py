@@ -12,6 +12,12 @@ from durskeyl import Export, External, Features, Import, InvalidModule, Kind
 HEADER = b"\0asm\1\0\0\0"
 # Two functions from "a" and a memory between them; an export of each name's length from 0 to 2.
 MODULE = HEADER + b"\1\4\1\x60\0\0" + b"\2\x14\3\1a\1f\0\0\1a\1m\2\0\0\1a\1g\0\0" + b"\7\x0d\3\0\0\1\1x\0\0\2yz\2\0"
+# A struct and an array in one group, a function type twice, and one of nothing; an imported function, and one of its own, which starts; a table, a
+# memory, a tag and a global.
+TYPED = (
+    HEADER + b"\1\x1f\4\x4e\2\x5f\2\x78\1\x63\1\0\x5e\x64\0\0\x60\2\x7f\x64\0\1\x7c\x60\2\x7f\x64\0\1\x7c\x60\0\0"
+    + b"\2\7\1\1a\1f\0\3\3\2\1\4\4\5\1\x70\1\1\2\5\3\1\0\1\x0d\3\1\0\4\6\6\1\x7e\1\x42\0\x0b\x08\1\1\x0a\4\1\2\0\x0b"
+)
 MEMORIES = HEADER + b"\5\5\2\0\0\0\0"
 
 
@@ -59,6 +65,31 @@ class Calls(unittest.TestCase):
         self.assertEqual(durskeyl.exports(MODULE)[2], Export("yz", External.MEMORY, 0))
         with self.assertRaises(InvalidModule):
             durskeyl.imports(MODULE[:-1])
+
+    def test_types_of_a_module(self):
+        types, value = durskeyl.types(TYPED), durskeyl.ValueType
+        self.assertEqual((types.ids, types.start), ([0, 1, 2, 2, 3], 1))
+        self.assertEqual([it.kind for it in types.types], ["struct", "array", "func", "func"])
+        self.assertEqual([list(it.group) for it in types.types], [[0, 1], [0, 1], [2], [3]])
+        self.assertEqual(types.types[0].fields, (value("i8", mutable=True), value("ref", 1, nullable=True)))
+        self.assertEqual(types.types[1].fields, (value("ref", 0),))
+        self.assertEqual((types.types[2].params, types.types[2].results), ((value("i32"), value("ref", 0)), (value("f64"),)))
+        self.assertTrue(types.types[2].final and types.types[2].supertype is None)
+        self.assertEqual([it.id for it in types.functions + types.tags], [2, 3, 3])
+        table, memory = types.tables[0], types.memories[0]
+        self.assertEqual((table.value, table.minimum, table.maximum), (value("ref", "func", nullable=True), 1, 2))
+        self.assertEqual((memory.minimum, memory.maximum, memory.page_size_log2), (1, None, None))
+        self.assertEqual((types.globals[0].value, types.globals[0].mutable), (value("i64"), True))
+        self.assertEqual(types.of(durskeyl.imports(TYPED)[0]), types.functions[0])
+        self.assertEqual(durskeyl.types(HEADER), durskeyl.Types([], [], [], [], [], [], [], None))
+        for data in TYPED[:60], TYPED[:-1] + b"\0":
+            with self.assertRaises(InvalidModule) as told:
+                durskeyl.types(data)
+            with self.assertRaises(InvalidModule) as wanted:
+                durskeyl.validate(data)
+            self.assertEqual(str(told.exception), str(wanted.exception))
+        with self.assertRaises(ValueError):
+            durskeyl.types(TYPED, features=1 << 40)
 
     def test_settings(self):
         self.assertTrue(durskeyl.is_valid(with_locals(10), limits={"locals": 10}))

@@ -21,11 +21,16 @@ mod module;
 mod parts;
 mod settings;
 pub mod sys;
+mod types;
 mod validator;
 
 pub use error::{BinaryReaderError, Error, ErrorKind, Result, Shown};
 pub use module::{Export, Exports, External, Import, Imports, Module};
 pub use settings::{Features, Limit, Settings, UnknownWord, WasmFeatures};
+pub use types::{
+    AbstractHeapType, ArrayType, CompositeInnerType, CompositeType, ContType, CoreTypeId, EntityType, FieldType, FuncType, GlobalType, HeapType,
+    MemoryType, RefType, StorageType, StructType, SubType, TableType, Types, ValType,
+};
 pub use validator::{MOST_HELD, Validator};
 
 /// The module that these bytes are, if they are a valid one by the settings by default.

@@ -81,6 +81,12 @@ impl<'a> Module<'a> {
         self.bytes
     }
 
+    /// The index of its start function, if it has one.
+    pub fn start(&self) -> Option<u32> {
+        // SAFETY: a slice has the length that it says, and is lent for the call.
+        u32::try_from(unsafe { sys::durskeyl_start(self.bytes.as_ptr(), self.bytes.len()) }).ok()
+    }
+
     /// What it imports, in its order.
     pub fn imports(&self) -> Imports<'a> {
         Imports { bytes: self.bytes, rows: rows(sys::durskeyl_imports, self.bytes).into_iter() }

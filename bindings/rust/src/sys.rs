@@ -62,6 +62,70 @@ pub struct ExportRow {
     pub later: u32,
 }
 
+/// `durskeyl_module`.
+#[repr(C)]
+#[derive(Debug)]
+pub struct Module {
+    pub inside: *mut c_void,
+    pub known: u64,
+}
+
+impl Module {
+    pub(crate) fn none() -> Module {
+        Module { inside: std::ptr::null_mut(), known: 0 }
+    }
+}
+
+/// No type, in the place of an id.
+pub const NO_TYPE: u32 = u32::MAX;
+pub const MUTABLE: u32 = 1;
+pub const NULLABLE: u32 = 2;
+pub const SHARED: u32 = 4;
+pub const EXACT: u32 = 8;
+pub const BITS_64: u32 = 16;
+pub const HAS_MAXIMUM: u32 = 32;
+pub const HAS_PAGE_SIZE: u32 = 64;
+pub const FINAL: u32 = 128;
+
+/// `durskeyl_value`.
+#[repr(C)]
+#[derive(Clone, Copy, Debug, Default)]
+pub struct ValueRow {
+    pub kind: u32,
+    pub flags: u32,
+    pub heap: u32,
+    pub id: u32,
+}
+
+/// `durskeyl_entity`.
+#[repr(C)]
+#[derive(Clone, Copy, Debug, Default)]
+pub struct EntityRow {
+    pub kind: u32,
+    pub flags: u32,
+    pub id: u32,
+    pub page_size_log2: u32,
+    pub value: ValueRow,
+    pub minimum: u64,
+    pub maximum: u64,
+}
+
+/// `durskeyl_type`.
+#[repr(C)]
+#[derive(Clone, Copy, Debug, Default)]
+pub struct TypeRow {
+    pub kind: u32,
+    pub flags: u32,
+    pub supertype: u32,
+    pub group_first: u32,
+    pub group_count: u32,
+    pub values: u32,
+    pub params: u32,
+    pub function: u32,
+    pub descriptor: u32,
+    pub describes: u32,
+}
+
 unsafe extern "C" {
     pub safe fn durskeyl_version() -> u32;
     pub safe fn durskeyl_version_text() -> *const c_char;
@@ -84,4 +148,17 @@ unsafe extern "C" {
     pub fn durskeyl_is_valid(bytes: *const u8, length: usize) -> u32;
     pub fn durskeyl_imports(bytes: *const u8, length: usize, rows: *mut ImportRow, capacity: usize) -> u64;
     pub fn durskeyl_exports(bytes: *const u8, length: usize, rows: *mut ExportRow, capacity: usize) -> u64;
+    pub fn durskeyl_validate_types(
+        settings: *const Settings,
+        bytes: *const u8,
+        length: usize,
+        module: *mut Module,
+        fault: *mut Fault,
+    ) -> u32;
+    pub fn durskeyl_release(module: *mut Module);
+    pub fn durskeyl_entities(module: *mut Module, kind: u32, first: u32, rows: *mut EntityRow, capacity: usize) -> u64;
+    pub fn durskeyl_type_ids(module: *mut Module, first: u32, ids: *mut u32, capacity: usize) -> u64;
+    pub fn durskeyl_types(module: *mut Module, first: u32, rows: *mut TypeRow, capacity: usize) -> u64;
+    pub fn durskeyl_type_values(module: *mut Module, id: u32, rows: *mut ValueRow, capacity: usize) -> u64;
+    pub fn durskeyl_start(bytes: *const u8, length: usize) -> u64;
 }

@@ -1,6 +1,9 @@
 //! What the calls answer, over small modules.
 
-use durskeyl::{Error, ErrorKind, Export, External, Features, Import, Limit, Settings, Shown, Validator, WasmFeatures, is_valid, validate};
+use durskeyl::{
+    AbstractHeapType, CompositeInnerType, EntityType, Error, ErrorKind, Export, External, Features, HeapType, Import, Limit, Settings, Shown,
+    StorageType, ValType, Validator, WasmFeatures, is_valid, validate,
+};
 use std::io::{self, Write};
 use std::thread;
 
@@ -15,6 +18,13 @@ const MODULE: &[u8] = b"\0asm\x01\0\0\0\x01\x04\x01\x60\0\0\
 fn with_locals(count: u8) -> Vec<u8> {
     [HEADER, &[1, 4, 1, 0x60, 0, 0, 3, 2, 1, 0, 10, 6, 1, 4, 1, count, 0x7f, 0x0b]].concat()
 }
+
+// A struct and an array in one group, a function type twice, and one of nothing; an imported function, and one of its own, which starts; a table, a
+// memory, a tag and a global.
+const TYPED: &[u8] = b"\0asm\x01\0\0\0\x01\x1f\x04\x4e\x02\x5f\x02\x78\x01\x63\x01\0\x5e\x64\0\0\
+    \x60\x02\x7f\x64\0\x01\x7c\x60\x02\x7f\x64\0\x01\x7c\x60\0\0\
+    \x02\x07\x01\x01a\x01f\0\x03\x03\x02\x01\x04\x04\x05\x01\x70\x01\x01\x02\x05\x03\x01\0\x01\
+    \x0d\x03\x01\0\x04\x06\x06\x01\x7e\x01\x42\0\x0b\x08\x01\x01\x0a\x04\x01\x02\0\x0b";
 
 // Two memories.
 const MEMORIES: &[u8] = b"\0asm\x01\0\0\0\x05\x05\x02\0\0\0\0";
@@ -41,6 +51,34 @@ fn question_mark() {
     }
     assert_eq!(count(MODULE).unwrap(), 3);
     assert!(count(b"").unwrap_err().downcast_ref::<Error>().is_some());
+}
+
+#[test]
+fn types() {
+    let (module, types) = Settings::new().types(TYPED).unwrap();
+    assert_eq!(module.start(), Some(1));
+    let ids: Vec<_> = (0..types.core_type_count_in_module()).map(|it| types.core_type_at_in_module(it)).collect();
+    assert_eq!(ids.iter().map(|it| it.index()).collect::<Vec<_>>(), [0, 1, 2, 2, 3]);
+    assert_eq!(types.type_count(), 4);
+    assert!(types.rec_group_elements(ids[1]).eq(ids[..2].iter().copied()) && types.rec_group_elements(ids[2]).len() == 1);
+    let CompositeInnerType::Struct(fields) = &types[ids[0]].composite_type.inner else { panic!("a struct") };
+    assert!(fields.fields[0].mutable && fields.fields[0].element_type == StorageType::I8 && !fields.fields[1].mutable);
+    let StorageType::Val(ValType::Ref(array)) = fields.fields[1].element_type else { panic!("a reference") };
+    assert!(array.is_nullable() && array.heap_type() == HeapType::Concrete(ids[1]));
+    let function = types[types.core_function_at(0)].unwrap_func();
+    assert_eq!((function.params().len(), function.results()), (2, &[ValType::F64][..]));
+    assert!(types[ids[3]].is_final && types.supertype_of(ids[3]).is_none() && types.core_function_at(1) == ids[4]);
+    let table = types.table_at(0);
+    assert_eq!((table.initial, table.maximum, types.memory_at(0).maximum), (1, Some(2), None));
+    assert_eq!(table.element_type.heap_type(), HeapType::Abstract { shared: false, ty: AbstractHeapType::Func });
+    assert_eq!(types.global_at(0).content_type, ValType::I64);
+    assert_eq!(types.entity_at(External::Tag, 0), Some(EntityType::Tag(ids[4])));
+    assert_eq!((types.tag_at(0), types.entity_at(External::Tag, 1)), (ids[4], None));
+    assert_eq!((types.core_function_count(), types.table_count(), types.memory_count()), (2, 1, 1));
+    assert_eq!((types.global_count(), types.tag_count(), validate(HEADER).unwrap().start()), (1, 1, None));
+    // a refusal is that of `validate`
+    let (told, wanted) = (Settings::new().types(&TYPED[..60]).unwrap_err(), validate(&TYPED[..60]).unwrap_err());
+    assert_eq!((told.kind(), told.offset(), told.to_string()), (wanted.kind(), wanted.offset(), wanted.to_string()));
 }
 
 #[test]

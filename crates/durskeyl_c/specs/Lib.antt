@@ -4,3 +4,4 @@ pub mod Told
 pub mod Listed
 pub mod Handles
 pub mod Pieces
+pub mod Kept

@@ -1,5 +1,5 @@
 -- What the rows tell C of a module's imports and exports.
-use Rattle.std.specs.Prelude.{◌≡◌, ◌^◌, ◌-◌, ℕ, List, length}
+use Rattle.std.specs.Prelude.{◌≡◌, ◌^◌, ◌-◌, ℕ, List, length, Option, Some, None}
 use Rattle.wasm_types.specs.settings.Settings.{Settings}
 use Rattle.wasm_module_validator_import_export_places.specs.rules.Syntax.{ModuleTree}
 use Rattle.wasm_module_validator_import_export_places.specs.rules.Binary.{SpelledModule}
@@ -29,3 +29,12 @@ ImportsWithin count bytes rows = ¬ (count ≡ no_module) → First (ImportWithi
 -- the same of exports
 abbrev pub ExportsWithin : ℕ → List ℕ → List ExportRow → Type 0
 ExportsWithin count bytes rows = ¬ (count ≡ no_module) → First (ExportWithin bytes) count rows
+
+-- the number of a start function, or that of no module
+abbrev pub start_number : Option ℕ → ℕ
+start_number None = no_module
+start_number (Some index) = index
+
+-- the start function of the module that the bytes spell, by whatever settings
+abbrev pub TellsStartOf : ℕ → List ℕ → Type 0
+TellsStartOf answer bytes = (z : Settings) (m : ModuleTree) → SpelledModule z m bytes → answer ≡ start_number m.start

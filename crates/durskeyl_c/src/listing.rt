@@ -1,11 +1,11 @@
 //! What an accepted module imports and exports.
 
-ghost use Rattle.durskeyl_c.specs.Listed.{TellsImports, TellsExports, ImportsWithin, ExportsWithin};
+ghost use Rattle.durskeyl_c.specs.Listed.{TellsImports, TellsExports, ImportsWithin, ExportsWithin, TellsStartOf};
 
 use crate::validate::MOST_BYTES;
 use std::alloc::Global;
 use wasm_module_validator_import_export_places::{
-    ExportRow, ImportRow, list_exports, list_imports,
+    ExportRow, ImportRow, list_exports, list_imports, start_of,
 };
 
 /// The answer where bytes spell no module.
@@ -38,6 +38,21 @@ pub extern "C" fn durskeyl_exports(alloc: Global, bytes: &[u8], rows: &mut [Expo
     }
     match list_exports(alloc, bytes, rows) {
         Some(count) => count as u64,
+        None => NO_MODULE,
+    }
+}
+
+/// The index of the start function of the module that these bytes spell, or `NO_MODULE` if it has none. The bytes are those of a module that was
+/// accepted. Of others the answer means nothing.
+#[unsafe(no_mangle)]
+pub extern "C" fn durskeyl_start(bytes: &[u8]) -> u64
+    ensures { TellsStartOf result bytes.now }
+{
+    if bytes.len() > MOST_BYTES {
+        return NO_MODULE;
+    }
+    match start_of(bytes) {
+        Some(index) => index as u64,
         None => NO_MODULE,
     }
 }

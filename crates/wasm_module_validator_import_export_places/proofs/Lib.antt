@@ -1,3 +1,5 @@
 pub mod Standing
 pub mod Parting
 pub mod Reading
+-- The start function.
+pub mod Starting

@@ -1,6 +1,6 @@
 -- Which rows are written.
-use Rattle.std.specs.Prelude.{◌≡◌, ℕ, List, ◌++◌, drop, length, Option, IsSomeAnd}
-use Rattle.wasm_types.specs.decoding.Leb.{IsListed}
+use Rattle.std.specs.Prelude.{◌≡◌, ℕ, List, ◌++◌, drop, length, Option, Some, IsSomeAnd}
+use Rattle.wasm_types.specs.decoding.Leb.{IsListed, IsUnsigned}
 use Rattle.wasm_types.specs.settings.Settings.{Settings}
 use Rattle.wasm_sections_items.specs.imports.Spells.{ImportTree, ExportTree, SpelledImport, SpelledExport}
 use Rattle.wasm_module_validator_rules.specs.Syntax.{ModuleTree}
@@ -40,3 +40,11 @@ abbrev pub ListsFrom : {A R : Type 0} → (Settings → List A → List ℕ → 
 ListsFrom {A} {R} spelled writes text start count rows =
     (z : Settings) (xs : List A) (content rest : List ℕ) → spelled z xs content → drop start text ≡ content ++ rest
     → IsSomeAnd count (λ n. (n ≡ length xs) × writes text xs rows)
+
+-- where a number stands at an offset, it is this
+abbrev pub NumberAt : List ℕ → ℕ → Option ℕ → Type 0
+NumberAt text start number = (z : Settings) (n : ℕ) (content rest : List ℕ) → IsUnsigned 32 n content → drop start text ≡ content ++ rest → number ≡ Some n
+
+-- the start function of the module that the bytes spell, by whatever settings, if it has one
+abbrev pub TellsStart : List ℕ → Option ℕ → Type 0
+TellsStart text start = (z : Settings) (m : ModuleTree) → SpelledModule z m text → start ≡ m.start

@@ -11,7 +11,9 @@ mod imports;
 mod names;
 mod rows;
 mod sections;
+mod start;
 
 pub use exports::list_exports;
 pub use imports::list_imports;
 pub use rows::{ExportRow, ImportRow};
+pub use start::start_of;
