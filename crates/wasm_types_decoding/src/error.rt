@@ -107,7 +107,8 @@ impl Error {
         }
     }
 
-    /// The same error again.
+    /// An error of the same kind at the same offset. Its message is the same too, but leaves out the name of an export that
+    /// comes twice if memory for that name is refused.
     pub fn again(&self) -> Error
         ensures kind { result.kind ≡ self.now.kind }
         ensures offset { result.offset ≡ self.now.offset }

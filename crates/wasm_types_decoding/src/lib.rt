@@ -11,7 +11,8 @@
 //! one for unsigned numbers of any width and one for signed ones (`long_..`).
 //!
 //! An [`Error`] has a kind (one of five, [`ErrorKind`]), the offset in the input at which something is wrong, and a
-//! message for people. Making one takes no memory: the message has a fixed room, and a longer text is cut.
+//! message for people. It keeps what the message is made of, and the message is written out only if it is asked for, into
+//! a fixed room; a longer text is cut. One such part takes memory: the name of an export that comes twice.
 //! `specs/ErrorText.antt` defines what an error tells, and `specs/Denials.antt` what a refusal denies: nothing if memory
 //! ran out, and otherwise the fact that was asked for.
 #![tactic(auto)]
