@@ -276,7 +276,7 @@ enum durskeyl_flag {
 /* The type of a value, or of what a field stores. */
 typedef struct {
     uint32_t kind;                /* an enum durskeyl_value_kind */
-    uint32_t flags;               /* of a reference NULLABLE, SHARED, EXACT; of a field MUTABLE too */
+    uint32_t flags;               /* of a reference NULLABLE, EXACT, and SHARED if heap names no id; of a field MUTABLE too */
     uint32_t heap;                /* of a reference an enum durskeyl_heap, else 0 */
     uint32_t id;                  /* if heap is DURSKEYL_HEAP_DEFINED the type's id, else DURSKEYL_NO_TYPE */
 } durskeyl_value;

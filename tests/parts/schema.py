@@ -1,4 +1,4 @@
-"""Each line that is written with --json is one of docs/lines.schema.json, and each member and word of the schema is written by some line."""
+"""Each line that is written with --json is one of docs/lines.schema.json, and each member and word of the schema is in some line, except those of NOT_MET."""
 import json
 import re
 import subprocess
@@ -16,23 +16,25 @@ class Schema:
         self.whole, self.met = json.loads(text), set()
 
     def fits(self, value, rule, name=""):
+        """Whether a value is one of this rule, which is of a member or a definition of this name."""
         if "$ref" in rule:
             at = rule["$ref"].rsplit("/", 1)[1]
             return self.fits(value, self.whole["$defs"][at], at)
         if "oneOf" in rule:
             return sum(self.fits(value, it, name) for it in rule["oneOf"]) == 1
-        if "const" in rule and value is not rule["const"] or "enum" in rule and value not in rule["enum"]:
-            return False
-        kinds = rule.get("type", [])
-        if kinds and not any(type(value) is TYPES[it] for it in ([kinds] if isinstance(kinds, str) else kinds)):
-            return False
-        if "pattern" in rule and not re.search(rule["pattern"], value) or value is not False and "minimum" in rule and value < rule["minimum"]:
-            return False
-        if not all(self.fits(it, rule["items"]) for it in value if "items" in rule) if isinstance(value, list) else False:
-            return False
+        if "const" in rule:
+            return value is rule["const"]
         if "enum" in rule:
             self.met.add((name, value))
-        return not isinstance(value, dict) or self.fits_members(value, rule, name)
+            return value in rule["enum"]
+        kinds = rule["type"] if isinstance(rule["type"], list) else [rule["type"]]
+        if not any(type(value) is TYPES[it] for it in kinds):
+            return False
+        if isinstance(value, list):
+            return all(self.fits(it, rule["items"]) for it in value)
+        if isinstance(value, dict):
+            return self.fits_members(value, rule, name)
+        return value is None or bool(re.search(rule.get("pattern", ""), str(value))) and ("minimum" not in rule or value >= rule["minimum"])
 
     def fits_members(self, value, rule, name):
         known = rule["properties"]
