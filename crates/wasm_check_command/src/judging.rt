@@ -28,7 +28,7 @@ use wasm_types::{Error, ErrorKind, Limits, WasmFeatures};
 /// The most bytes that an input may have.
 pub const MAX_BYTES: usize = 0x4000_0000;
 
-/// How many bytes a read asks for; and how many the first read of an input that is read whole.
+/// How many bytes a read asks for; and how many while fewer came of an input that is read whole.
 pub(crate) const CHUNK: usize = 0x1_0000;
 
 const FIRST_CHUNK: usize = 0x1000;
@@ -279,10 +279,14 @@ pub(crate) fn read_behind<R: Read>(
     ensures most { ReadsWithin (prepend_known buffer.old.items (R.remaining reader.old)) (R.remaining reader.new) }
 {
     let mut chunk = Vec::new(*buffer.allocator());
-    for turn in 0..=MAX_BYTES {
+    for _turn in 0..=MAX_BYTES {
         let left = MAX_BYTES - buffer.len();
-        // Most files are small, and each byte of a chunk is written first.
-        let size = if turn == 0 { FIRST_CHUNK } else { CHUNK };
+        // Most files are small, and each byte of a chunk is written first: the chunk is long once as much came as the first one holds.
+        let size = if left > MAX_BYTES - FIRST_CHUNK {
+            FIRST_CHUNK
+        } else {
+            CHUNK
+        };
         let count = match read_over(index, reader, size, left + 1, &mut chunk) {
             Ok(count) => count,
             Err(failure) => return Err(failure),

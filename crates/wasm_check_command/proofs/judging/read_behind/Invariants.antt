@@ -7,5 +7,5 @@ abbrev pub invariant-loop-turn : goal.invariant-loop-turn
 invariant-loop-turn g l = record {
   gave : Consumes (prepend_known l.initial.buffer.items (g.R.Read.remaining l.initial.reader)) (g.R.Read.remaining l.reader) l.buffer.items;
   within : length l.buffer.items ≤ 2 ^ 30;
-  turns : l.turn ≤ length l.buffer.items;
+  turns : l._turn ≤ length l.buffer.items;
 }
